@@ -10,14 +10,14 @@ import (
 	"testing"
 	"time"
 
-	tb "ledger.example/tbclient"
+	tb "telovamish.org/tbclient"
 )
 
 // shared is a ledger with two accounts, and a client of it.
 func shared(t testing.TB, options ...tb.ClientOption) (*ledger, *tb.Client) {
 	t.Helper()
-	it := newLedger(t, t.TempDir())
-	client, err := tb.NewClient(tb.ToUint128(0), []string{it.path}, options...)
+	server := newLedger(t, t.TempDir())
+	client, err := tb.NewClient(tb.ToUint128(0), []string{server.path}, options...)
 	if err != nil {
 		t.Fatal(err)
 	}
@@ -29,7 +29,7 @@ func shared(t testing.TB, options ...tb.ClientOption) (*ledger, *tb.Client) {
 	if err != nil || results.Err() != nil {
 		t.Fatal(err, results)
 	}
-	return it, client
+	return server, client
 }
 
 // total is what was credited to account 2.
@@ -43,19 +43,19 @@ func total(t testing.TB, client *tb.Client) tb.Uint128 {
 }
 
 // items is how many records the last request of the ledger has, and how many requests came.
-func items(it *ledger) (requests, records int) {
-	count, frame := it.came()
+func items(l *ledger) (requests, records int) {
+	count, frame := l.came()
 	return count, len(frame[48:]) / 128
 }
 
 func TestCallsThatWaitGoOutAsOneRequest(t *testing.T) {
-	it, client := shared(t)
-	before, _ := it.came()
+	server, client := shared(t)
+	before, _ := server.came()
 	again := sale(1)
 	if _, err := client.CreateTransfers(background, []tb.Transfer{again}); err != nil {
 		t.Fatal(err)
 	}
-	release := it.holds(130)
+	release := server.holds(130)
 	var all sync.WaitGroup
 	call := func(transfers ...tb.Transfer) {
 		all.Add(1)
@@ -76,14 +76,14 @@ func TestCallsThatWaitGoOutAsOneRequest(t *testing.T) {
 		}()
 	}
 	call(sale(1))
-	waitUntil(t, func() bool { count, _ := it.came(); return count == before+2 })
+	waitUntil(t, func() bool { count, _ := server.came(); return count == before+2 })
 	for at := 0; at < 20; at++ {
 		call(sale(1), again)
 	}
 	time.Sleep(50 * time.Millisecond)
 	release()
 	all.Wait()
-	requests, records := items(it)
+	requests, records := items(server)
 	if requests != before+3 || records != 40 {
 		t.Fatal(requests-before, records)
 	}
@@ -93,7 +93,7 @@ func TestCallsThatWaitGoOutAsOneRequest(t *testing.T) {
 }
 
 func TestOneThatLeavesStopsNoOther(t *testing.T) {
-	it, client := shared(t)
+	server, client := shared(t)
 	const callers, calls = 24, 100
 	var all sync.WaitGroup
 	for caller := 0; caller < callers; caller++ {
@@ -116,7 +116,7 @@ func TestOneThatLeavesStopsNoOther(t *testing.T) {
 		}
 		cancel()
 		if number%5 == 0 {
-			it.loses(1)
+			server.loses(1)
 		}
 	}
 	all.Wait()
@@ -126,15 +126,15 @@ func TestOneThatLeavesStopsNoOther(t *testing.T) {
 }
 
 func TestOneThatLeavesBeforeItIsSentIsNotExecuted(t *testing.T) {
-	it, client := shared(t)
-	release := it.holds(130)
-	before, _ := it.came()
+	server, client := shared(t)
+	release := server.holds(130)
+	before, _ := server.came()
 	done := make(chan error, 2)
 	go func() {
 		_, err := client.CreateTransfers(background, []tb.Transfer{sale(1)})
 		done <- err
 	}()
-	waitUntil(t, func() bool { count, _ := it.came(); return count == before+1 })
+	waitUntil(t, func() bool { count, _ := server.came(); return count == before+1 })
 	ctx, cancel := context.WithCancel(background)
 	go func() {
 		_, err := client.CreateTransfers(ctx, []tb.Transfer{sale(10)})
@@ -155,10 +155,10 @@ func TestOneThatLeavesBeforeItIsSentIsNotExecuted(t *testing.T) {
 }
 
 func TestEvictedWhileInDoubt(t *testing.T) {
-	it, client := shared(t)
-	it.loses(1)
-	release := it.holds(130)
-	before, _ := it.came()
+	server, client := shared(t)
+	server.loses(1)
+	release := server.holds(130)
+	before, _ := server.came()
 	done := make(chan tb.TransferResults, 1)
 	go func() {
 		results, err := client.CreateTransfers(background, []tb.Transfer{sale(5)})
@@ -167,8 +167,8 @@ func TestEvictedWhileInDoubt(t *testing.T) {
 		}
 		done <- results
 	}()
-	waitUntil(t, func() bool { count, _ := it.came(); return count == before+1 })
-	it.evict()
+	waitUntil(t, func() bool { count, _ := server.came(); return count == before+1 })
+	server.evict()
 	release()
 	if results := <-done; len(results) != 1 || results[0].Result != tb.TransferExists {
 		t.Fatal(results)
@@ -176,7 +176,7 @@ func TestEvictedWhileInDoubt(t *testing.T) {
 	if sum := total(t, client); sum != tb.ToUint128(5) {
 		t.Fatal(sum)
 	}
-	if _, frame := it.came(); binary.LittleEndian.Uint32(frame[24:]) != 2 {
+	if _, frame := server.came(); binary.LittleEndian.Uint32(frame[24:]) != 2 {
 		t.Fatal("the new session does not count from 1")
 	}
 }
@@ -207,15 +207,15 @@ func TestAServerThatIsNotThereForAWhile(t *testing.T) {
 }
 
 func TestTheEndOfAClient(t *testing.T) {
-	it, client := shared(t)
-	release := it.holds(130)
-	before, _ := it.came()
+	server, client := shared(t)
+	release := server.holds(130)
+	before, _ := server.came()
 	sent, waiting := make(chan error, 1), make(chan error, 1)
 	go func() {
 		_, err := client.CreateTransfers(background, []tb.Transfer{sale(1)})
 		sent <- err
 	}()
-	waitUntil(t, func() bool { count, _ := it.came(); return count == before+1 })
+	waitUntil(t, func() bool { count, _ := server.came(); return count == before+1 })
 	go func() {
 		_, err := client.CreateTransfers(background, []tb.Transfer{sale(1)})
 		waiting <- err
@@ -287,8 +287,8 @@ func TestOptionsOfAClient(t *testing.T) {
 	if _, err := none.LookupAccounts(background, nil); !errors.Is(err, tb.ErrInvalid) {
 		t.Error(err)
 	}
-	it, client := shared(t, tb.WithClientRange(7))
-	if _, frame := it.came(); binary.LittleEndian.Uint64(frame[8:]) != 7 {
+	server, client := shared(t, tb.WithClientRange(7))
+	if _, frame := server.came(); binary.LittleEndian.Uint64(frame[8:]) != 7 {
 		t.Errorf("%x", frame[:16])
 	}
 	many := make([]tb.Account, tb.ItemsMax+1)
@@ -298,8 +298,8 @@ func TestOptionsOfAClient(t *testing.T) {
 }
 
 func TestSessionsAtOnce(t *testing.T) {
-	it, client := shared(t, tb.WithSessions(4))
-	release := it.holds(130)
+	server, client := shared(t, tb.WithSessions(4))
+	release := server.holds(130)
 	var all sync.WaitGroup
 	for at := 0; at < 4; at++ {
 		all.Add(1)
@@ -311,7 +311,7 @@ func TestSessionsAtOnce(t *testing.T) {
 		}()
 		time.Sleep(10 * time.Millisecond)
 	}
-	waitUntil(t, func() bool { it.mu.Lock(); defer it.mu.Unlock(); return len(it.sessions) == 4 })
+	waitUntil(t, func() bool { server.mu.Lock(); defer server.mu.Unlock(); return len(server.sessions) == 4 })
 	release()
 	all.Wait()
 	if sum := total(t, client); sum != tb.ToUint128(4) {

@@ -12,9 +12,9 @@ type kind struct {
 	wider error
 }
 
-func (it *kind) Error() string { return it.text }
+func (k *kind) Error() string { return k.text }
 
-func (it *kind) Unwrap() error { return it.wider }
+func (k *kind) Unwrap() error { return k.wider }
 
 // The kinds of errors, for errors.Is.
 var (
@@ -59,9 +59,9 @@ type InvalidError struct {
 	Problem string
 }
 
-func (it *InvalidError) Error() string { return it.Field + " " + it.Problem }
+func (i *InvalidError) Error() string { return i.Field + " " + i.Problem }
 
-func (it *InvalidError) Unwrap() error { return ErrInvalid }
+func (i *InvalidError) Unwrap() error { return ErrInvalid }
 
 func invalid(field, format string, values ...any) error {
 	return &InvalidError{Field: field, Problem: fmt.Sprintf(format, values...)}
@@ -74,12 +74,12 @@ type LostError struct {
 	Err  error  // what went wrong
 }
 
-func (it *LostError) Error() string { return fmt.Sprintf("%v: %v", it.Unwrap(), it.Err) }
+func (l *LostError) Error() string { return fmt.Sprintf("%v: %v", l.Unwrap(), l.Err) }
 
 // Unwrap is the kind. The cause is no part of the chain: one that says that nothing was sent is of
 // the last sending alone.
-func (it *LostError) Unwrap() error {
-	if toldLater[it.Told] {
+func (l *LostError) Unwrap() error {
+	if toldLater[l.Told] {
 		return ErrBusy
 	}
 	return ErrReplyLost
@@ -94,12 +94,12 @@ type RefusedError struct {
 	Number  uint32
 }
 
-func (it *RefusedError) Error() string {
-	return fmt.Sprintf("request %d of session %d is refused: %v", it.Number, it.Session, it.Status)
+func (r *RefusedError) Error() string {
+	return fmt.Sprintf("request %d of session %d is refused: %v", r.Number, r.Session, r.Status)
 }
 
-func (it *RefusedError) Unwrap() error {
-	if isEviction(it.Status) {
+func (r *RefusedError) Unwrap() error {
+	if isEviction(r.Status) {
 		return ErrEvicted
 	}
 	return ErrRefused
@@ -118,18 +118,18 @@ type CancelledError struct {
 	Cause error // of a [Client]: why no reply came so far, or nil
 }
 
-func (it *CancelledError) Error() string {
-	if it.Cause != nil {
-		return fmt.Sprintf("%v: %v, after %v", ErrCancelled, it.Err, it.Cause)
+func (c *CancelledError) Error() string {
+	if c.Cause != nil {
+		return fmt.Sprintf("%v: %v, after %v", ErrCancelled, c.Err, c.Cause)
 	}
-	return fmt.Sprintf("%v: %v", ErrCancelled, it.Err)
+	return fmt.Sprintf("%v: %v", ErrCancelled, c.Err)
 }
 
-func (it *CancelledError) Unwrap() error { return it.Err }
+func (c *CancelledError) Unwrap() error { return c.Err }
 
 // Is reports whether the error is of a kind.
-func (it *CancelledError) Is(target error) bool {
-	return target == ErrCancelled || target == ErrNotSent && !it.Sent
+func (c *CancelledError) Is(target error) bool {
+	return target == ErrCancelled || target == ErrNotSent && !c.Sent
 }
 
 // connectError is an ErrCannotConnect.
@@ -138,9 +138,9 @@ type connectError struct {
 	isFinal bool // one side does not trust the other, at each address
 }
 
-func (it *connectError) Error() string { return fmt.Sprintf("%v: %v", ErrCannotConnect, it.cause) }
+func (c *connectError) Error() string { return fmt.Sprintf("%v: %v", ErrCannotConnect, c.cause) }
 
-func (it *connectError) Unwrap() error { return ErrCannotConnect }
+func (c *connectError) Unwrap() error { return ErrCannotConnect }
 
 // FailedEvent is an event of a batch that was not accepted.
 type FailedEvent struct {
@@ -156,11 +156,11 @@ type EventsFailedError struct {
 
 const eventsShown = 10
 
-func (it *EventsFailedError) Error() string {
+func (e *EventsFailedError) Error() string {
 	var shown []string
-	for place, event := range it.Events {
+	for place, event := range e.Events {
 		if place == eventsShown {
-			shown = append(shown, fmt.Sprintf("and %d more", len(it.Events)-place))
+			shown = append(shown, fmt.Sprintf("and %d more", len(e.Events)-place))
 			break
 		}
 		shown = append(shown, fmt.Sprintf("event %d: %v", event.Index, event.Result))
@@ -168,7 +168,7 @@ func (it *EventsFailedError) Error() string {
 	return strings.Join(shown, ", ")
 }
 
-func (it *EventsFailedError) Unwrap() error { return ErrEventsFailed }
+func (e *EventsFailedError) Unwrap() error { return ErrEventsFailed }
 
 // badReply is an ErrBadReply with these words.
 func badReply(format string, values ...any) error {

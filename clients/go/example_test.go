@@ -13,17 +13,17 @@ import (
 	"path/filepath"
 	"time"
 
-	tb "ledger.example/tbclient"
+	tb "telovamish.org/tbclient"
 )
 
 // exampleLedger is a server at a Unix socket in a new folder.
-func exampleLedger() (socket *tb.Socket, it *ledger, folder string) {
+func exampleLedger() (socket *tb.Socket, server *ledger, folder string) {
 	folder, err := os.MkdirTemp("", "tbclient")
 	check(err)
-	it = beginLedger(filepath.Join(folder, "ledger.sock"))
-	socket, err = tb.NewSocket([]tb.Address{tb.Unix(it.path)})
+	server = beginLedger(filepath.Join(folder, "ledger.sock"))
+	socket, err = tb.NewSocket([]tb.Address{tb.Unix(server.path)})
 	check(err)
-	return socket, it, folder
+	return socket, server, folder
 }
 
 func check(err error) {

@@ -9,7 +9,7 @@ import (
 	"syscall"
 	"testing"
 
-	tb "ledger.example/tbclient"
+	tb "telovamish.org/tbclient"
 )
 
 func TestSaveRefusals(t *testing.T) {

@@ -23,15 +23,15 @@ func TestRequestBytes(t *testing.T) {
 
 func TestFaultsOfRequests(t *testing.T) {
 	for fault, edit := range map[string]func([]byte) []byte{
-		"Short":            func(it []byte) []byte { return it[:47] },
-		"ClientZero":       func(it []byte) []byte { it[0], it[28] = 0, 133; return it },
-		"UnknownOperation": func(it []byte) []byte { it[28], it[29] = 133, 1; return it },
-		"Reserved":         func(it []byte) []byte { it[47], it[24] = 1, 0; return it },
-		"RegisterNumbers":  func(it []byte) []byte { it[28] = 2; return it },
-		"RequestZero":      func(it []byte) []byte { it[24], it[32] = 0, 15; return it },
-		"BadLength":        func(it []byte) []byte { it[32], it[34] = 15, 255; return it },
-		"TooMany":          func(it []byte) []byte { it[32], it[33], it[34] = 0xf0, 0xff, 1; return it }, // 8191 ids
-		"its header says":  func(it []byte) []byte { return it[:63] },
+		"Short":            func(frame []byte) []byte { return frame[:47] },
+		"ClientZero":       func(frame []byte) []byte { frame[0], frame[28] = 0, 133; return frame },
+		"UnknownOperation": func(frame []byte) []byte { frame[28], frame[29] = 133, 1; return frame },
+		"Reserved":         func(frame []byte) []byte { frame[47], frame[24] = 1, 0; return frame },
+		"RegisterNumbers":  func(frame []byte) []byte { frame[28] = 2; return frame },
+		"RequestZero":      func(frame []byte) []byte { frame[24], frame[32] = 0, 15; return frame },
+		"BadLength":        func(frame []byte) []byte { frame[32], frame[34] = 15, 255; return frame },
+		"TooMany":          func(frame []byte) []byte { frame[32], frame[33], frame[34] = 0xf0, 0xff, 1; return frame }, // 8191 ids
+		"its header says":  func(frame []byte) []byte { return frame[:63] },
 	} {
 		_, err := decodeRequestHeader(edit(append([]byte(nil), asked...)))
 		if !errors.Is(err, ErrInvalid) || !strings.Contains(err.Error(), fault) {
@@ -41,9 +41,9 @@ func TestFaultsOfRequests(t *testing.T) {
 }
 
 func FuzzReply(f *testing.F) {
-	found := append([]byte(nil), asked[:HeaderSize]...)
+	found := append([]byte(nil), asked[:headerSize]...)
 	found[32], found[36] = 128, 9
-	record := make([]byte, RecordSize)
+	record := make([]byte, recordSize)
 	record[0] = 5
 	f.Add(append(found, record...))
 	f.Add(found)
@@ -53,7 +53,7 @@ func FuzzReply(f *testing.F) {
 		switch {
 		case err != nil && !errors.Is(err, ErrBadReply):
 			t.Fatal(err)
-		case err == nil && header.status == StatusReply && len(answer.Accounts)*RecordSize != len(reply)-HeaderSize:
+		case err == nil && header.status == StatusReply && len(answer.Accounts)*recordSize != len(reply)-headerSize:
 			t.Fatalf("%d accounts of %d bytes", len(answer.Accounts), len(reply))
 		}
 	})
@@ -62,11 +62,11 @@ func FuzzReply(f *testing.F) {
 func FuzzRequest(f *testing.F) {
 	f.Add(asked)
 	f.Fuzz(func(t *testing.T, frame []byte) {
-		it, err := decodeRequest(frame)
+		found, err := decodeRequest(frame)
 		if err != nil {
 			return
 		}
-		again, err := encodeRequest(it.Client, it.Session, it.Number, it.Request)
+		again, err := encodeRequest(found.Client, found.Session, found.Number, found.Request)
 		if err != nil || !bytes.Equal(again, frame) {
 			t.Fatalf("%x comes back as %x, %v", frame, again, err)
 		}

@@ -1,3 +1,3 @@
-module ledger.example/tbclient
+module telovamish.org/tbclient
 
 go 1.19

@@ -42,19 +42,19 @@ const (
 
 // Next is a new id, above all earlier ones of this maker. A later millisecond draws random bits; any
 // other time adds 1 to the last id. Next panics where no random bytes can be read.
-func (it *IDs) Next() Uint128 {
-	it.mu.Lock()
-	defer it.mu.Unlock()
-	now := it.now().UnixMilli()
-	if now <= int64(it.last.Hi>>highBits) {
-		it.last, _ = it.last.Add(ToUint128(1))
-		return it.last
+func (i *IDs) Next() Uint128 {
+	i.mu.Lock()
+	defer i.mu.Unlock()
+	now := i.now().UnixMilli()
+	if now <= int64(i.last.Hi>>highBits) {
+		i.last, _ = i.last.Add(ToUint128(1))
+		return i.last
 	}
 	var drawn [randomBits / 8]byte
-	if _, err := io.ReadFull(it.random, drawn[:]); err != nil {
+	if _, err := io.ReadFull(i.random, drawn[:]); err != nil {
 		panic("tbclient: no random bytes for an id: " + err.Error())
 	}
-	it.last.Lo = binary.LittleEndian.Uint64(drawn[:8])
-	it.last.Hi = uint64(now)<<highBits | uint64(binary.LittleEndian.Uint16(drawn[8:]))
-	return it.last
+	i.last.Lo = binary.LittleEndian.Uint64(drawn[:8])
+	i.last.Hi = uint64(now)<<highBits | uint64(binary.LittleEndian.Uint16(drawn[8:]))
+	return i.last
 }

@@ -9,7 +9,7 @@ import (
 	"testing/iotest"
 	"time"
 
-	tb "ledger.example/tbclient"
+	tb "telovamish.org/tbclient"
 )
 
 func TestIDsRiseWhereTheClockIsSetBack(t *testing.T) {

@@ -60,7 +60,7 @@ func takeResults[C Code](all *Results[C], first, end uint32) Results[C] {
 // takeFound takes the records of these ids. They come in the order of the ids.
 func takeFound[T any](all *[]T, ids []byte, id func(T) Uint128) []T {
 	own := []T{}
-	for ; len(ids) > 0; ids = ids[IDSize:] {
+	for ; len(ids) > 0; ids = ids[idSize:] {
 		if len(*all) > 0 && id((*all)[0]) == decodeUint128(ids) {
 			own = append(own, (*all)[0])
 			*all = (*all)[1:]
@@ -75,7 +75,7 @@ func isCreate(operation Operation) bool {
 
 // isLinked reports whether an event is linked with the next one.
 func isLinked(body []byte, event int) bool {
-	flags := binary.LittleEndian.Uint16(body[event*RecordSize+atTransferFlags:])
+	flags := binary.LittleEndian.Uint16(body[event*recordSize+atTransferFlags:])
 	return TransferFlags(flags)&TransferLinked != 0
 }
 
@@ -108,19 +108,19 @@ func (j joint) settled(answer Answer, find func(joint) (Answer, error)) (Answer,
 	return answer, err
 }
 
-func (it Account) id() Uint128  { return it.ID }
-func (it Transfer) id() Uint128 { return it.ID }
+func (a Account) id() Uint128  { return a.ID }
+func (t Transfer) id() Uint128 { return t.ID }
 
 // asAsked reports of an event whether it is among the records that were found.
 func asAsked[T any](body []byte, found []T, decode func([]byte) T, id func(T) Uint128, is func(asked, found T) bool) func(int) bool {
 	known := make(map[Uint128]T, len(found))
-	for _, it := range found {
-		known[id(it)] = it
+	for _, record := range found {
+		known[id(record)] = record
 	}
 	return func(event int) bool {
-		asked := decode(body[event*RecordSize:])
-		it, isThere := known[id(asked)]
-		return isThere && is(asked, it)
+		asked := decode(body[event*recordSize:])
+		k, isThere := known[id(asked)]
+		return isThere && is(asked, k)
 	}
 }
 
@@ -130,7 +130,7 @@ type chain struct{ first, end int }
 // chainsOf are the chains of two events or more.
 func chainsOf(body []byte) (chains []chain) {
 	first := 0
-	for event := 0; event < len(body)/RecordSize; event++ {
+	for event := 0; event < len(body)/recordSize; event++ {
 		if isLinked(body, event) {
 			continue
 		}
@@ -146,20 +146,20 @@ func chainsOf(body []byte) (chains []chain) {
 // their events.
 func doubtfulOf[C Code](body []byte, results Results[C], exists, failed C) (doubtful []chain, ids []byte) {
 	codes := make(map[int]C, len(results))
-	for _, it := range results {
-		codes[int(it.Index)] = it.Result
+	for _, row := range results {
+		codes[int(row.Index)] = row.Result
 	}
-	for _, it := range chainsOf(body) {
-		isDoubtful := codes[it.first] == exists
-		for event := it.first + 1; event < it.end; event++ {
+	for _, c := range chainsOf(body) {
+		isDoubtful := codes[c.first] == exists
+		for event := c.first + 1; event < c.end; event++ {
 			isDoubtful = isDoubtful && codes[event] == failed
 		}
 		if !isDoubtful {
 			continue
 		}
-		doubtful = append(doubtful, it)
-		for event := it.first; event < it.end; event++ {
-			ids = append(ids, body[event*RecordSize:event*RecordSize+IDSize]...)
+		doubtful = append(doubtful, c)
+		for event := c.first; event < c.end; event++ {
+			ids = append(ids, body[event*recordSize:event*recordSize+idSize]...)
 		}
 	}
 	return doubtful, ids
@@ -169,18 +169,18 @@ func doubtfulOf[C Code](body []byte, results Results[C], exists, failed C) (doub
 // for.
 func existing[C Code](results Results[C], doubtful []chain, exists C, isAsAsked func(event int) bool) Results[C] {
 	done := make(map[uint32]bool)
-	for _, it := range doubtful {
+	for _, c := range doubtful {
 		isDone := true
-		for event := it.first; event < it.end; event++ {
+		for event := c.first; event < c.end; event++ {
 			isDone = isDone && isAsAsked(event)
 		}
-		for event := it.first; event < it.end; event++ {
+		for event := c.first; event < c.end; event++ {
 			done[uint32(event)] = isDone
 		}
 	}
 	settled := append(Results[C](nil), results...)
-	for at, it := range settled {
-		if done[it.Index] {
+	for at, row := range settled {
+		if done[row.Index] {
 			settled[at].Result = exists
 		}
 	}

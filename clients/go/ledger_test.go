@@ -37,9 +37,9 @@ type seat struct {
 // newLedger serves at a Unix socket until the test ends.
 func newLedger(t testing.TB, folder string) *ledger {
 	t.Helper()
-	it := beginLedger(filepath.Join(folder, "ledger.sock"))
-	t.Cleanup(it.end)
-	return it
+	server := beginLedger(filepath.Join(folder, "ledger.sock"))
+	t.Cleanup(server.end)
+	return server
 }
 
 func beginLedger(path string) *ledger {
@@ -47,7 +47,7 @@ func beginLedger(path string) *ledger {
 	if err != nil {
 		panic(err)
 	}
-	it := &ledger{
+	l := &ledger{
 		path:      path,
 		sessions:  map[string]*seat{},
 		accounts:  map[string][]byte{},
@@ -60,53 +60,53 @@ func beginLedger(path string) *ledger {
 			if err != nil {
 				return
 			}
-			go it.serve(conn)
+			go l.serve(conn)
 		}
 	}()
-	return it
+	return l
 }
 
-func (it *ledger) end() { it.listener.Close() }
+func (l *ledger) end() { l.listener.Close() }
 
 // loses makes the ledger lose so many replies, after it executed their requests.
-func (it *ledger) loses(count int) {
-	it.mu.Lock()
-	defer it.mu.Unlock()
-	it.lose = count
+func (l *ledger) loses(count int) {
+	l.mu.Lock()
+	defer l.mu.Unlock()
+	l.lose = count
 }
 
 // holds makes the replies to an operation wait. What it returns lets them go.
-func (it *ledger) holds(operation byte) (release func()) {
-	it.mu.Lock()
-	defer it.mu.Unlock()
+func (l *ledger) holds(operation byte) (release func()) {
+	l.mu.Lock()
+	defer l.mu.Unlock()
 	hold := make(chan struct{})
-	it.hold, it.held = hold, operation
+	l.hold, l.held = hold, operation
 	return func() {
-		it.mu.Lock()
-		defer it.mu.Unlock()
-		it.hold = nil
+		l.mu.Lock()
+		defer l.mu.Unlock()
+		l.hold = nil
 		close(hold)
 	}
 }
 
 // evict ends all sessions.
-func (it *ledger) evict() {
-	it.mu.Lock()
-	defer it.mu.Unlock()
-	it.sessions = map[string]*seat{}
+func (l *ledger) evict() {
+	l.mu.Lock()
+	defer l.mu.Unlock()
+	l.sessions = map[string]*seat{}
 }
 
 // came is how many requests came, and the last of them.
-func (it *ledger) came() (int, []byte) {
-	it.mu.Lock()
-	defer it.mu.Unlock()
-	if len(it.frames) == 0 {
+func (l *ledger) came() (int, []byte) {
+	l.mu.Lock()
+	defer l.mu.Unlock()
+	if len(l.frames) == 0 {
 		return 0, nil
 	}
-	return len(it.frames), it.frames[len(it.frames)-1]
+	return len(l.frames), l.frames[len(l.frames)-1]
 }
 
-func (it *ledger) serve(conn net.Conn) {
+func (l *ledger) serve(conn net.Conn) {
 	defer conn.Close()
 	for {
 		frame := make([]byte, 48)
@@ -117,7 +117,7 @@ func (it *ledger) serve(conn net.Conn) {
 		if _, err := io.ReadFull(conn, body); err != nil {
 			return
 		}
-		reply, hold, isLost := it.reply(append(frame, body...))
+		reply, hold, isLost := l.reply(append(frame, body...))
 		if hold != nil {
 			<-hold
 		}
@@ -130,29 +130,29 @@ func (it *ledger) serve(conn net.Conn) {
 	}
 }
 
-func (it *ledger) reply(frame []byte) (reply []byte, hold chan struct{}, isLost bool) {
-	it.mu.Lock()
-	defer it.mu.Unlock()
-	it.frames = append(it.frames, frame)
-	if isLost = it.lose > 0; isLost {
-		it.lose--
+func (l *ledger) reply(frame []byte) (reply []byte, hold chan struct{}, isLost bool) {
+	l.mu.Lock()
+	defer l.mu.Unlock()
+	l.frames = append(l.frames, frame)
+	if isLost = l.lose > 0; isLost {
+		l.lose--
 	}
-	if frame[28] == it.held {
-		hold = it.hold
+	if frame[28] == l.held {
+		hold = l.hold
 	}
-	return it.answer(frame), hold, isLost
+	return l.answer(frame), hold, isLost
 }
 
 // answer executes a request, or repeats the reply to it, or refuses it.
-func (it *ledger) answer(frame []byte) []byte {
+func (l *ledger) answer(frame []byte) []byte {
 	client, operation := string(frame[:16]), frame[28]
 	session, number := binary.LittleEndian.Uint64(frame[16:]), binary.LittleEndian.Uint32(frame[24:])
-	own := it.sessions[client]
+	own := l.sessions[client]
 	switch {
 	case operation == 2 && own == nil:
-		it.commit++
-		own = &seat{session: it.commit}
-		it.sessions[client] = own
+		l.commit++
+		own = &seat{session: l.commit}
+		l.sessions[client] = own
 		session = own.session
 	case own == nil:
 		return framed(frame, session, 1, 0, nil) // NoSession
@@ -161,10 +161,10 @@ func (it *ledger) answer(frame []byte) []byte {
 	case session != own.session || number != own.number+1:
 		return framed(frame, session, 5, 0, nil) // Collision, in place of all others
 	default:
-		it.commit++
+		l.commit++
 	}
 	own.number, own.request = number, frame
-	own.reply = framed(frame, session, 0, it.commit, it.executed(operation, frame[48:]))
+	own.reply = framed(frame, session, 0, l.commit, l.executed(operation, frame[48:]))
 	return own.reply
 }
 
@@ -178,20 +178,20 @@ func framed(frame []byte, session uint64, status byte, commit uint64, body []byt
 	return append(reply, body...)
 }
 
-func (it *ledger) executed(operation byte, body []byte) (reply []byte) {
+func (l *ledger) executed(operation byte, body []byte) (reply []byte) {
 	for index := 0; len(body) > 0; index++ {
 		switch operation {
 		case 129:
-			reply = append(reply, it.create(it.accounts, index, body[:128], 21)...)
+			reply = append(reply, l.create(l.accounts, index, body[:128], 21)...)
 			body = body[128:]
 		case 130:
-			reply = append(reply, it.create(it.transfers, index, body[:128], 46)...)
+			reply = append(reply, l.create(l.transfers, index, body[:128], 46)...)
 			body = body[128:]
 		case 131:
-			reply = append(reply, it.accounts[string(body[:16])]...)
+			reply = append(reply, l.accounts[string(body[:16])]...)
 			body = body[16:]
 		case 132:
-			reply = append(reply, it.transfers[string(body[:16])]...)
+			reply = append(reply, l.transfers[string(body[:16])]...)
 			body = body[16:]
 		}
 	}
@@ -199,7 +199,7 @@ func (it *ledger) executed(operation byte, body []byte) (reply []byte) {
 }
 
 // create records a record, or says that it exists. A transfer moves its amount.
-func (it *ledger) create(records map[string][]byte, index int, record []byte, exists uint32) []byte {
+func (l *ledger) create(records map[string][]byte, index int, record []byte, exists uint32) []byte {
 	if _, isThere := records[string(record[:16])]; isThere {
 		var result [8]byte
 		binary.LittleEndian.PutUint32(result[:], uint32(index))
@@ -208,8 +208,8 @@ func (it *ledger) create(records map[string][]byte, index int, record []byte, ex
 	}
 	records[string(record[:16])] = append([]byte(nil), record...)
 	if exists == 46 {
-		addTo(it.accounts[string(record[16:32])][32:48], record[48:64])
-		addTo(it.accounts[string(record[32:48])][64:80], record[48:64])
+		addTo(l.accounts[string(record[16:32])][32:48], record[48:64])
+		addTo(l.accounts[string(record[32:48])][64:80], record[48:64])
 	}
 	return nil
 }

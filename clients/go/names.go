@@ -9,14 +9,13 @@ import (
 
 // Sizes and limits.
 const (
-	HeaderSize = 48                  // bytes of the header of a request or reply
-	RecordSize = 128                 // bytes of an account or a transfer
-	IDSize     = 16                  // bytes of an id
-	ResultSize = 8                   // bytes of the result of an event
-	ItemsMax   = 8190                // accounts, transfers or ids in a request
-	ClientsMax = 64                  // clients that can have a session at one time
-	NumberMax  = 4294967295          // the last number of a request in its session
-	TimeMax    = 9223372036854775807 // no entry has a later time, in nanoseconds
+	headerSize = 48         // bytes of the header of a request or reply
+	recordSize = 128        // bytes of an account or a transfer
+	idSize     = 16         // bytes of an id
+	resultSize = 8          // bytes of the result of an event
+	ItemsMax   = 8190       // accounts, transfers or ids in a request
+	ClientsMax = 64         // clients that can have a session at one time
+	numberMax  = 4294967295 // the last number of a request in its session
 )
 
 // Operation is what a request asks for.
@@ -40,16 +39,16 @@ var operationNames = map[Operation]string{
 }
 
 // String returns the name, or the number where it has none.
-func (it Operation) String() string {
-	if name, ok := operationNames[it]; ok {
+func (o Operation) String() string {
+	if name, ok := operationNames[o]; ok {
 		return name
 	}
-	return strconv.FormatUint(uint64(it), 10)
+	return strconv.FormatUint(uint64(o), 10)
 }
 
 // Known reports whether the number has a name.
-func (it Operation) Known() bool {
-	_, ok := operationNames[it]
+func (o Operation) Known() bool {
+	_, ok := operationNames[o]
 	return ok
 }
 
@@ -80,16 +79,16 @@ var statusNames = map[Status]string{
 }
 
 // String returns the name, or the number where it has none.
-func (it Status) String() string {
-	if name, ok := statusNames[it]; ok {
+func (s Status) String() string {
+	if name, ok := statusNames[s]; ok {
 		return name
 	}
-	return strconv.FormatUint(uint64(it), 10)
+	return strconv.FormatUint(uint64(s), 10)
 }
 
 // Known reports whether the number has a name.
-func (it Status) Known() bool {
-	_, ok := statusNames[it]
+func (s Status) Known() bool {
+	_, ok := statusNames[s]
 	return ok
 }
 
@@ -148,16 +147,16 @@ var createAccountResultNames = map[CreateAccountResult]string{
 }
 
 // String returns the name, or the number where it has none.
-func (it CreateAccountResult) String() string {
-	if name, ok := createAccountResultNames[it]; ok {
+func (c CreateAccountResult) String() string {
+	if name, ok := createAccountResultNames[c]; ok {
 		return name
 	}
-	return strconv.FormatUint(uint64(it), 10)
+	return strconv.FormatUint(uint64(c), 10)
 }
 
 // Known reports whether the number has a name.
-func (it CreateAccountResult) Known() bool {
-	_, ok := createAccountResultNames[it]
+func (c CreateAccountResult) Known() bool {
+	_, ok := createAccountResultNames[c]
 	return ok
 }
 
@@ -292,16 +291,16 @@ var createTransferResultNames = map[CreateTransferResult]string{
 }
 
 // String returns the name, or the number where it has none.
-func (it CreateTransferResult) String() string {
-	if name, ok := createTransferResultNames[it]; ok {
+func (c CreateTransferResult) String() string {
+	if name, ok := createTransferResultNames[c]; ok {
 		return name
 	}
-	return strconv.FormatUint(uint64(it), 10)
+	return strconv.FormatUint(uint64(c), 10)
 }
 
 // Known reports whether the number has a name.
-func (it CreateTransferResult) Known() bool {
-	_, ok := createTransferResultNames[it]
+func (c CreateTransferResult) Known() bool {
+	_, ok := createTransferResultNames[c]
 	return ok
 }
 
@@ -331,11 +330,11 @@ var accountFlagNames = []struct {
 }
 
 // String returns the names of the flags, joined by |; bits without a name are a number.
-func (it AccountFlags) String() string {
+func (f AccountFlags) String() string {
 	var names string
-	rest := it
+	rest := f
 	for _, row := range accountFlagNames {
-		if it&row.flag != 0 {
+		if f&row.flag != 0 {
 			names = joined(names, row.name)
 			rest &^= row.flag
 		}
@@ -385,11 +384,11 @@ var transferFlagNames = []struct {
 }
 
 // String returns the names of the flags, joined by |; bits without a name are a number.
-func (it TransferFlags) String() string {
+func (f TransferFlags) String() string {
 	var names string
-	rest := it
+	rest := f
 	for _, row := range transferFlagNames {
-		if it&row.flag != 0 {
+		if f&row.flag != 0 {
 			names = joined(names, row.name)
 			rest &^= row.flag
 		}
@@ -418,20 +417,20 @@ type Account struct {
 }
 
 // encode writes the record into its place in a body.
-func (it *Account) encode(data []byte) {
-	it.ID.encode(data[atAccountID:])
-	it.DebitsPending.encode(data[atAccountDebitsPending:])
-	it.DebitsPosted.encode(data[atAccountDebitsPosted:])
-	it.CreditsPending.encode(data[atAccountCreditsPending:])
-	it.CreditsPosted.encode(data[atAccountCreditsPosted:])
-	it.UserData128.encode(data[atAccountUserData128:])
-	binary.LittleEndian.PutUint64(data[atAccountUserData64:], it.UserData64)
-	binary.LittleEndian.PutUint32(data[atAccountUserData32:], it.UserData32)
-	binary.LittleEndian.PutUint32(data[atAccountReserved:], it.Reserved)
-	binary.LittleEndian.PutUint32(data[atAccountLedger:], it.Ledger)
-	binary.LittleEndian.PutUint16(data[atAccountCode:], it.Code)
-	binary.LittleEndian.PutUint16(data[atAccountFlags:], uint16(it.Flags))
-	binary.LittleEndian.PutUint64(data[atAccountTimestamp:], it.Timestamp)
+func (a *Account) encode(data []byte) {
+	a.ID.encode(data[atAccountID:])
+	a.DebitsPending.encode(data[atAccountDebitsPending:])
+	a.DebitsPosted.encode(data[atAccountDebitsPosted:])
+	a.CreditsPending.encode(data[atAccountCreditsPending:])
+	a.CreditsPosted.encode(data[atAccountCreditsPosted:])
+	a.UserData128.encode(data[atAccountUserData128:])
+	binary.LittleEndian.PutUint64(data[atAccountUserData64:], a.UserData64)
+	binary.LittleEndian.PutUint32(data[atAccountUserData32:], a.UserData32)
+	binary.LittleEndian.PutUint32(data[atAccountReserved:], a.Reserved)
+	binary.LittleEndian.PutUint32(data[atAccountLedger:], a.Ledger)
+	binary.LittleEndian.PutUint16(data[atAccountCode:], a.Code)
+	binary.LittleEndian.PutUint16(data[atAccountFlags:], uint16(a.Flags))
+	binary.LittleEndian.PutUint64(data[atAccountTimestamp:], a.Timestamp)
 }
 
 // decodeAccount reads the record at the front of a body.
@@ -471,20 +470,20 @@ type Transfer struct {
 }
 
 // encode writes the record into its place in a body.
-func (it *Transfer) encode(data []byte) {
-	it.ID.encode(data[atTransferID:])
-	it.DebitAccountID.encode(data[atTransferDebitAccountID:])
-	it.CreditAccountID.encode(data[atTransferCreditAccountID:])
-	it.Amount.encode(data[atTransferAmount:])
-	it.PendingID.encode(data[atTransferPendingID:])
-	it.UserData128.encode(data[atTransferUserData128:])
-	binary.LittleEndian.PutUint64(data[atTransferUserData64:], it.UserData64)
-	binary.LittleEndian.PutUint32(data[atTransferUserData32:], it.UserData32)
-	binary.LittleEndian.PutUint32(data[atTransferTimeout:], it.Timeout)
-	binary.LittleEndian.PutUint32(data[atTransferLedger:], it.Ledger)
-	binary.LittleEndian.PutUint16(data[atTransferCode:], it.Code)
-	binary.LittleEndian.PutUint16(data[atTransferFlags:], uint16(it.Flags))
-	binary.LittleEndian.PutUint64(data[atTransferTimestamp:], it.Timestamp)
+func (t *Transfer) encode(data []byte) {
+	t.ID.encode(data[atTransferID:])
+	t.DebitAccountID.encode(data[atTransferDebitAccountID:])
+	t.CreditAccountID.encode(data[atTransferCreditAccountID:])
+	t.Amount.encode(data[atTransferAmount:])
+	t.PendingID.encode(data[atTransferPendingID:])
+	t.UserData128.encode(data[atTransferUserData128:])
+	binary.LittleEndian.PutUint64(data[atTransferUserData64:], t.UserData64)
+	binary.LittleEndian.PutUint32(data[atTransferUserData32:], t.UserData32)
+	binary.LittleEndian.PutUint32(data[atTransferTimeout:], t.Timeout)
+	binary.LittleEndian.PutUint32(data[atTransferLedger:], t.Ledger)
+	binary.LittleEndian.PutUint16(data[atTransferCode:], t.Code)
+	binary.LittleEndian.PutUint16(data[atTransferFlags:], uint16(t.Flags))
+	binary.LittleEndian.PutUint64(data[atTransferTimestamp:], t.Timestamp)
 }
 
 // decodeTransfer reads the record at the front of a body.

@@ -5,11 +5,11 @@ import (
 	"strings"
 	"testing"
 
-	tb "ledger.example/tbclient"
+	tb "telovamish.org/tbclient"
 )
 
 func TestNames(t *testing.T) {
-	for shown, it := range map[string]interface {
+	for shown, value := range map[string]interface {
 		String() string
 		Known() bool
 	}{
@@ -19,23 +19,23 @@ func TestNames(t *testing.T) {
 		"id_already_failed": tb.TransferIDAlreadyFailed,
 		"reserved_field":    tb.AccountReservedField,
 	} {
-		if it.String() != shown || !it.Known() {
-			t.Errorf("%v, not %s", it, shown)
+		if value.String() != shown || !value.Known() {
+			t.Errorf("%v, not %s", value, shown)
 		}
 	}
-	if it := tb.CreateTransferResult(18); it.Known() || it.String() != "18" {
-		t.Errorf("18 is %v", it)
+	if code := tb.CreateTransferResult(18); code.Known() || code.String() != "18" {
+		t.Errorf("18 is %v", code)
 	}
-	if it := tb.TransferPending | 512; it.String() != "pending|512" {
-		t.Errorf("flags are %v", it)
+	if flags := tb.TransferPending | 512; flags.String() != "pending|512" {
+		t.Errorf("flags are %v", flags)
 	}
-	if it := tb.AccountFlags(0); it.String() != "0" {
-		t.Errorf("no flags are %v", it)
+	if flags := tb.AccountFlags(0); flags.String() != "0" {
+		t.Errorf("no flags are %v", flags)
 	}
 }
 
 func TestMostItems(t *testing.T) {
-	it, session := begun(t)
+	server, session := begun(t)
 	ids := make([]tb.Uint128, tb.ItemsMax+1)
 	for at := range ids {
 		ids[at] = tb.ToUint128(1)
@@ -44,7 +44,7 @@ func TestMostItems(t *testing.T) {
 	if _, err := session.LookupAccounts(background, ids); !errors.As(err, &fault) || fault.Field != "ids" {
 		t.Error(err)
 	}
-	if count, _ := it.came(); count != 2 { // a register and the accounts
+	if count, _ := server.came(); count != 2 { // a register and the accounts
 		t.Errorf("%d requests came", count)
 	}
 	found, err := session.LookupAccounts(background, ids[1:])

@@ -81,8 +81,8 @@ func (q *queue) leave(made *call, why error) (Answer, error) {
 	default:
 	}
 	made.isLeft = true
-	for at, it := range q.waiting {
-		if it == made {
+	for at, c := range q.waiting {
+		if c == made {
 			q.waiting = append(q.waiting[:at:at], q.waiting[at+1:]...)
 			break
 		}
@@ -92,19 +92,19 @@ func (q *queue) leave(made *call, why error) (Answer, error) {
 
 // trouble is why a worker has had no reply of late. The queue is locked.
 func (q *queue) trouble() error {
-	for _, it := range q.workers {
-		if it.trouble != nil {
-			return it.trouble
+	for _, w := range q.workers {
+		if w.trouble != nil {
+			return w.trouble
 		}
 	}
 	return nil
 }
 
 // note keeps why a worker has no reply, or nil.
-func (q *queue) note(it *worker, why error) {
+func (q *queue) note(w *worker, why error) {
 	q.mu.Lock()
 	defer q.mu.Unlock()
-	it.trouble = why
+	w.trouble = why
 }
 
 // wait waits until there is a call, and reports whether the client goes on.
@@ -150,9 +150,9 @@ func (q *queue) giveBack(batch []*call) {
 	q.mu.Lock()
 	defer q.mu.Unlock()
 	var kept []*call
-	for _, it := range batch {
-		if it.isSent = false; !it.isLeft {
-			kept = append(kept, it)
+	for _, c := range batch {
+		if c.isSent = false; !c.isLeft {
+			kept = append(kept, c)
 		}
 	}
 	q.waiting = append(kept, q.waiting...)
@@ -165,20 +165,20 @@ func (q *queue) giveBack(batch []*call) {
 func (q *queue) finish(batch []*call, answers []Answer, err error) {
 	q.mu.Lock()
 	defer q.mu.Unlock()
-	for at, it := range batch {
+	for at, c := range batch {
 		if err == nil {
-			it.answer = answers[at]
+			c.answer = answers[at]
 		}
-		it.err = err
-		close(it.done)
+		c.err = err
+		close(c.done)
 	}
 }
 
 // dropWaiting ends the calls of which nothing was sent. The queue is locked.
 func (q *queue) dropWaiting() {
-	for _, it := range q.waiting {
-		it.err = fmt.Errorf("%w: nothing of this call was sent", ErrClosed)
-		close(it.done)
+	for _, c := range q.waiting {
+		c.err = fmt.Errorf("%w: nothing of this call was sent", ErrClosed)
+		close(c.done)
 	}
 	q.waiting = nil
 }
@@ -194,8 +194,8 @@ func (q *queue) close() {
 	}
 	workers := q.workers
 	q.mu.Unlock()
-	for _, it := range workers {
-		it.socket.connectNoMore()
+	for _, w := range workers {
+		w.socket.connectNoMore()
 	}
 	q.running.Wait()
 }

@@ -8,7 +8,7 @@ import (
 	"testing"
 	"time"
 
-	tb "ledger.example/tbclient"
+	tb "telovamish.org/tbclient"
 )
 
 // TestProgramOfTheREADME builds the program as printed, kills it while its transfer has no reply, and
@@ -21,29 +21,29 @@ func TestProgramOfTheREADME(t *testing.T) {
 }
 
 func runKilled(t *testing.T, program string, meanwhile func(*ledger)) {
-	it := newLedger(t, t.TempDir())
-	folder := filepath.Dir(it.path)
-	release := it.holds(130) // the transfer is made, and its reply does not come
+	server := newLedger(t, t.TempDir())
+	folder := filepath.Dir(server.path)
+	release := server.holds(130) // the transfer is made, and its reply does not come
 	first := exec.Command(program)
 	first.Dir = folder
 	if err := first.Start(); err != nil {
 		t.Fatal(err)
 	}
-	waitUntil(t, func() bool { _, last := it.came(); return last != nil && last[28] == 130 })
+	waitUntil(t, func() bool { _, last := server.came(); return last != nil && last[28] == 130 })
 	if err := first.Process.Kill(); err != nil {
 		t.Fatal(err)
 	}
 	first.Wait()
 	release()
 	for _, wanted := range []string{"credited: 100\n", "credited: 105\n"} {
-		meanwhile(it)
+		meanwhile(server)
 		again := exec.Command(program)
 		again.Dir = folder
 		output, err := again.CombinedOutput()
 		if err != nil || string(output) != wanted {
 			t.Errorf("it prints %q, not %q, %v", output, wanted, err)
 		}
-		other, err := tb.Register(background, newSocket(t, it))
+		other, err := tb.Register(background, newSocket(t, server))
 		if err != nil {
 			t.Fatal(err)
 		}
@@ -51,8 +51,8 @@ func runKilled(t *testing.T, program string, meanwhile func(*ledger)) {
 			t.Fatal(err)
 		}
 	}
-	if len(it.transfers) != 3 {
-		t.Errorf("%d transfers were made", len(it.transfers)-2)
+	if len(server.transfers) != 3 {
+		t.Errorf("%d transfers were made", len(server.transfers)-2)
 	}
 }
 
@@ -85,8 +85,8 @@ func built(t *testing.T) string {
 		t.Fatal(err)
 	}
 	inside(t, folder, "go", "mod", "init", "sale")
-	inside(t, folder, "go", "mod", "edit", "-require", "ledger.example/tbclient@v0.0.0",
-		"-replace", "ledger.example/tbclient="+client)
+	inside(t, folder, "go", "mod", "edit", "-require", "telovamish.org/tbclient@v0.0.0",
+		"-replace", "telovamish.org/tbclient="+client)
 	inside(t, folder, "go", "vet", ".")
 	inside(t, folder, "gofmt", "-l", "-d", ".")
 	inside(t, folder, "go", "build", "-o", "sale", ".")

@@ -31,9 +31,9 @@ type TransferResults = Results[CreateTransferResult]
 // Except is the results without those of this code: after an eviction the same records are created
 // again, and AccountExists or TransferExists says that it was done before. Of a linked chain that
 // was done before one event has that code, and the others are linked_event_failed: those are left.
-func (it Results[C]) Except(code C) Results[C] {
+func (r Results[C]) Except(code C) Results[C] {
 	var rest Results[C]
-	for _, row := range it {
+	for _, row := range r {
 		if row.Result != code {
 			rest = append(rest, row)
 		}
@@ -42,12 +42,12 @@ func (it Results[C]) Except(code C) Results[C] {
 }
 
 // Err is an [EventsFailedError] where there are any results, and nil otherwise.
-func (it Results[C]) Err() error {
-	if len(it) == 0 {
+func (r Results[C]) Err() error {
+	if len(r) == 0 {
 		return nil
 	}
-	events := make([]FailedEvent, len(it))
-	for at, row := range it {
+	events := make([]FailedEvent, len(r))
+	for at, row := range r {
 		events[at] = FailedEvent{Index: row.Index, Result: row.Result}
 	}
 	return &EventsFailedError{Events: events}
@@ -64,11 +64,11 @@ type Answer struct {
 }
 
 // Err is an [EventsFailedError] where events were not accepted, and nil otherwise.
-func (it Answer) Err() error {
-	if err := it.AccountResults.Err(); err != nil {
+func (a Answer) Err() error {
+	if err := a.AccountResults.Err(); err != nil {
 		return err
 	}
-	return it.TransferResults.Err()
+	return a.TransferResults.Err()
 }
 
 // replyHeader has the numbers of a reply's frame.
@@ -85,10 +85,10 @@ type replyHeader struct {
 // decodeReplyHeader reads the header of a reply, before its body is there. What is none is an
 // ErrBadReply with the fault's name.
 func decodeReplyHeader(data []byte) (replyHeader, error) {
-	if len(data) < HeaderSize {
+	if len(data) < headerSize {
 		return replyHeader{}, badReply("%d bytes are no header (Short)", len(data))
 	}
-	it := replyHeader{
+	r := replyHeader{
 		client:    decodeUint128(data[atReplyHeaderClient:]),
 		session:   binary.LittleEndian.Uint64(data[atReplyHeaderSession:]),
 		number:    binary.LittleEndian.Uint32(data[atReplyHeaderRequest:]),
@@ -98,60 +98,60 @@ func decodeReplyHeader(data []byte) (replyHeader, error) {
 		commit:    binary.LittleEndian.Uint64(data[atReplyHeaderCommit:]),
 	}
 	zeros := isZero(data[atReplyHeaderStatus+1:atReplyHeaderLength]) &&
-		isZero(data[atReplyHeaderCommit+8:HeaderSize])
-	if fault := it.fault(zeros); fault != "" {
-		return it, badReply("what came is no frame of a reply (%s): %.24q", fault, data[:HeaderSize])
+		isZero(data[atReplyHeaderCommit+8:headerSize])
+	if fault := r.fault(zeros); fault != "" {
+		return r, badReply("what came is no frame of a reply (%s): %.24q", fault, data[:headerSize])
 	}
-	return it, nil
+	return r, nil
 }
 
 // fault is the name of the first fault of the header of a reply, or "".
-func (it replyHeader) fault(zeros bool) string {
-	isRegister, isRefusal := it.operation == OperationRegister, it.status != StatusReply
-	size := int64(replyItemSize[it.operation])
+func (r replyHeader) fault(zeros bool) string {
+	isRegister, isRefusal := r.operation == OperationRegister, r.status != StatusReply
+	size := int64(replyItemSize[r.operation])
 	switch {
-	case it.client.IsZero():
+	case r.client.IsZero():
 		return "ClientZero"
-	case !it.operation.Known():
+	case !r.operation.Known():
 		return "UnknownOperation"
-	case !zeros || !it.status.Known():
+	case !zeros || !r.status.Known():
 		return "Reserved"
-	case isRegister && (it.number != 0 || isRefusal && it.session != 0):
+	case isRegister && (r.number != 0 || isRefusal && r.session != 0):
 		return "RegisterNumbers"
-	case !isRegister && it.number == 0:
+	case !isRegister && r.number == 0:
 		return "RequestZero"
-	case !it.hasNumbers():
+	case !r.hasNumbers():
 		return "ReplyNumbers"
-	case (isRegister || isRefusal) && it.length != 0, !isRegister && it.length%size != 0:
+	case (isRegister || isRefusal) && r.length != 0, !isRegister && r.length%size != 0:
 		return "BadLength"
-	case !isRegister && it.length/size > ItemsMax:
+	case !isRegister && r.length/size > ItemsMax:
 		return "TooMany"
 	}
 	return ""
 }
 
 // hasNumbers reports whether session and commit are those that a reply of its status has.
-func (it replyHeader) hasNumbers() bool {
+func (r replyHeader) hasNumbers() bool {
 	switch {
-	case it.status != StatusReply:
-		return it.commit == 0
-	case it.operation == OperationRegister:
-		return it.session > 0 && it.session == it.commit
+	case r.status != StatusReply:
+		return r.commit == 0
+	case r.operation == OperationRegister:
+		return r.session > 0 && r.session == r.commit
 	}
-	return it.session > 0 && it.session < it.commit
+	return r.session > 0 && r.session < r.commit
 }
 
 // answers tests that the reply is one to this request.
-func (it replyHeader) answers(asked requestHeader) error {
+func (r replyHeader) answers(asked requestHeader) error {
 	session := asked.session
-	if asked.operation == OperationRegister && it.status == StatusReply {
-		session = it.session // a new one
+	if asked.operation == OperationRegister && r.status == StatusReply {
+		session = r.session // a new one
 	}
-	if it.client == asked.client && it.number == asked.number && it.operation == asked.operation && it.session == session {
+	if r.client == asked.client && r.number == asked.number && r.operation == asked.operation && r.session == session {
 		return nil
 	}
 	return badReply("a reply to request %d (%v) of session %d, of client %v, came for request %d (%v) of session %d",
-		it.number, it.operation, it.session, it.client, asked.number, asked.operation, asked.session)
+		r.number, r.operation, r.session, r.client, asked.number, asked.operation, asked.session)
 }
 
 // decodeReply reads the frame of a reply to the request of this frame: its header, and what it
@@ -161,8 +161,8 @@ func decodeReply(reply, frame []byte) (replyHeader, Answer, error) {
 	if err != nil {
 		return header, Answer{}, err
 	}
-	if header.length != int64(len(reply)-HeaderSize) {
-		return header, Answer{}, badReply("a body of %d bytes came, and its header says %d", len(reply)-HeaderSize, header.length)
+	if header.length != int64(len(reply)-headerSize) {
+		return header, Answer{}, badReply("a body of %d bytes came, and its header says %d", len(reply)-headerSize, header.length)
 	}
 	asked, err := decodeRequestHeader(frame)
 	if err != nil {
@@ -171,7 +171,7 @@ func decodeReply(reply, frame []byte) (replyHeader, Answer, error) {
 	if err := header.answers(asked); err != nil || header.status != StatusReply {
 		return header, Answer{}, err
 	}
-	answer, err := decodeAnswer(header, reply[HeaderSize:], frame[HeaderSize:])
+	answer, err := decodeAnswer(header, reply[headerSize:], frame[headerSize:])
 	return header, answer, err
 }
 
@@ -182,15 +182,15 @@ func decodeAnswer(header replyHeader, body, asked []byte) (Answer, error) {
 	case OperationRegister:
 		answer.Session = header.session
 	case OperationCreateAccounts:
-		answer.AccountResults, err = decodeResults[CreateAccountResult](body, len(asked)/RecordSize)
+		answer.AccountResults, err = decodeResults[CreateAccountResult](body, len(asked)/recordSize)
 	case OperationCreateTransfers:
-		answer.TransferResults, err = decodeResults[CreateTransferResult](body, len(asked)/RecordSize)
+		answer.TransferResults, err = decodeResults[CreateTransferResult](body, len(asked)/recordSize)
 	case OperationLookupAccounts:
-		answer.Accounts = decodeAll(body, RecordSize, decodeAccount)
-		err = testFound(answer.Accounts, asked, func(it Account) Uint128 { return it.ID })
+		answer.Accounts = decodeAll(body, recordSize, decodeAccount)
+		err = testFound(answer.Accounts, asked, func(a Account) Uint128 { return a.ID })
 	case OperationLookupTransfers:
-		answer.Transfers = decodeAll(body, RecordSize, decodeTransfer)
-		err = testFound(answer.Transfers, asked, func(it Transfer) Uint128 { return it.ID })
+		answer.Transfers = decodeAll(body, recordSize, decodeTransfer)
+		err = testFound(answer.Transfers, asked, func(t Transfer) Uint128 { return t.ID })
 	}
 	if err != nil {
 		return Answer{}, err
@@ -201,24 +201,24 @@ func decodeAnswer(header replyHeader, body, asked []byte) (Answer, error) {
 // decodeResults reads results. They are of events that failed, in the order of the events, by codes
 // that have a name.
 func decodeResults[C Code](body []byte, events int) (Results[C], error) {
-	results := decodeAll(body, ResultSize, func(data []byte) Result[C] {
+	results := decodeAll(body, resultSize, func(data []byte) Result[C] {
 		return Result[C]{
 			Index:  binary.LittleEndian.Uint32(data[atResultIndex:]),
 			Result: C(binary.LittleEndian.Uint32(data[atResultResult:])),
 		}
 	})
 	before := -1
-	for _, it := range results {
-		index := int(it.Index)
+	for _, row := range results {
+		index := int(row.Index)
 		switch {
 		case index >= events:
 			return nil, badReply("a result of event %d came for %d events", index, events)
 		case index <= before:
 			return nil, badReply("a result of event %d came behind that of event %d", index, before)
-		case it.Result == 0:
+		case row.Result == 0:
 			return nil, badReply("event %d came as ok among those that failed", index)
-		case !it.Result.Known():
-			return nil, badReply("no result of an event is %d", uint32(it.Result))
+		case !row.Result.Known():
+			return nil, badReply("no result of an event is %d", uint32(row.Result))
 		}
 		before = index
 	}
@@ -228,14 +228,14 @@ func decodeResults[C Code](body []byte, events int) (Results[C], error) {
 // testFound tests that records are those that were looked up, in the order of the ids.
 func testFound[T any](records []T, ids []byte, id func(T) Uint128) error {
 	at := 0
-	for _, it := range records {
-		for at < len(ids) && decodeUint128(ids[at:]) != id(it) {
-			at += IDSize
+	for _, record := range records {
+		for at < len(ids) && decodeUint128(ids[at:]) != id(record) {
+			at += idSize
 		}
 		if at == len(ids) {
-			return badReply("a record with id %v came, which was not looked up there", id(it))
+			return badReply("a record with id %v came, which was not looked up there", id(record))
 		}
-		at += IDSize
+		at += idSize
 	}
 	return nil
 }

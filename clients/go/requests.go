@@ -31,52 +31,52 @@ type LookupAccounts []Uint128
 type LookupTransfers []Uint128
 
 // Operation is OperationRegister.
-func (it Registration) Operation() Operation { return OperationRegister }
+func (r Registration) Operation() Operation { return OperationRegister }
 
 // Operation is OperationCreateAccounts.
-func (it CreateAccounts) Operation() Operation { return OperationCreateAccounts }
+func (c CreateAccounts) Operation() Operation { return OperationCreateAccounts }
 
 // Operation is OperationCreateTransfers.
-func (it CreateTransfers) Operation() Operation { return OperationCreateTransfers }
+func (c CreateTransfers) Operation() Operation { return OperationCreateTransfers }
 
 // Operation is OperationLookupAccounts.
-func (it LookupAccounts) Operation() Operation { return OperationLookupAccounts }
+func (l LookupAccounts) Operation() Operation { return OperationLookupAccounts }
 
 // Operation is OperationLookupTransfers.
-func (it LookupTransfers) Operation() Operation { return OperationLookupTransfers }
+func (l LookupTransfers) Operation() Operation { return OperationLookupTransfers }
 
-func (it Registration) count() int    { return 0 }
-func (it CreateAccounts) count() int  { return len(it) }
-func (it CreateTransfers) count() int { return len(it) }
-func (it LookupAccounts) count() int  { return len(it) }
-func (it LookupTransfers) count() int { return len(it) }
+func (r Registration) count() int    { return 0 }
+func (c CreateAccounts) count() int  { return len(c) }
+func (c CreateTransfers) count() int { return len(c) }
+func (l LookupAccounts) count() int  { return len(l) }
+func (l LookupTransfers) count() int { return len(l) }
 
-func (it Registration) named() string    { return "items" }
-func (it CreateAccounts) named() string  { return "accounts" }
-func (it CreateTransfers) named() string { return "transfers" }
-func (it LookupAccounts) named() string  { return "ids" }
-func (it LookupTransfers) named() string { return "ids" }
+func (r Registration) named() string    { return "items" }
+func (c CreateAccounts) named() string  { return "accounts" }
+func (c CreateTransfers) named() string { return "transfers" }
+func (l LookupAccounts) named() string  { return "ids" }
+func (l LookupTransfers) named() string { return "ids" }
 
-func (it Registration) encode([]byte) {}
+func (r Registration) encode([]byte) {}
 
-func (it CreateAccounts) encode(body []byte) {
-	for at := range it {
-		it[at].encode(body[at*RecordSize:])
+func (c CreateAccounts) encode(body []byte) {
+	for at := range c {
+		c[at].encode(body[at*recordSize:])
 	}
 }
 
-func (it CreateTransfers) encode(body []byte) {
-	for at := range it {
-		it[at].encode(body[at*RecordSize:])
+func (c CreateTransfers) encode(body []byte) {
+	for at := range c {
+		c[at].encode(body[at*recordSize:])
 	}
 }
 
-func (it LookupAccounts) encode(body []byte)  { encodeIDs(it, body) }
-func (it LookupTransfers) encode(body []byte) { encodeIDs(it, body) }
+func (l LookupAccounts) encode(body []byte)  { encodeIDs(l, body) }
+func (l LookupTransfers) encode(body []byte) { encodeIDs(l, body) }
 
 func encodeIDs(ids []Uint128, body []byte) {
 	for at, id := range ids {
-		id.encode(body[at*IDSize:])
+		id.encode(body[at*idSize:])
 	}
 }
 
@@ -96,13 +96,13 @@ func encodeRequest(client Uint128, session uint64, number uint32, request Reques
 	}
 	operation := request.Operation()
 	length := count * requestItemSize[operation]
-	frame := make([]byte, HeaderSize+length)
+	frame := make([]byte, headerSize+length)
 	client.encode(frame[atRequestHeaderClient:])
 	binary.LittleEndian.PutUint64(frame[atRequestHeaderSession:], session)
 	binary.LittleEndian.PutUint32(frame[atRequestHeaderRequest:], number)
 	frame[atRequestHeaderOperation] = byte(operation)
 	binary.LittleEndian.PutUint32(frame[atRequestHeaderLength:], uint32(length))
-	request.encode(frame[HeaderSize:])
+	request.encode(frame[headerSize:])
 	return frame, nil
 }
 
@@ -118,10 +118,10 @@ type requestHeader struct {
 // decodeRequestHeader reads the header of a whole frame. A frame at which a server would find a
 // fault is an InvalidError that names the fault.
 func decodeRequestHeader(frame []byte) (requestHeader, error) {
-	if len(frame) < HeaderSize {
+	if len(frame) < headerSize {
 		return requestHeader{}, invalid("frame", "has %d bytes, and no header (Short)", len(frame))
 	}
-	it := requestHeader{
+	r := requestHeader{
 		client:    decodeUint128(frame[atRequestHeaderClient:]),
 		session:   binary.LittleEndian.Uint64(frame[atRequestHeaderSession:]),
 		number:    binary.LittleEndian.Uint32(frame[atRequestHeaderRequest:]),
@@ -129,41 +129,41 @@ func decodeRequestHeader(frame []byte) (requestHeader, error) {
 		length:    int64(binary.LittleEndian.Uint32(frame[atRequestHeaderLength:])),
 	}
 	zeros := isZero(frame[atRequestHeaderOperation+1:atRequestHeaderLength]) &&
-		isZero(frame[atRequestHeaderLength+4:HeaderSize])
-	if fault := it.fault(zeros); fault != "" {
-		return it, invalid("frame", "is no request that a server takes (%s)", fault)
+		isZero(frame[atRequestHeaderLength+4:headerSize])
+	if fault := r.fault(zeros); fault != "" {
+		return r, invalid("frame", "is no request that a server takes (%s)", fault)
 	}
-	if it.length != int64(len(frame)-HeaderSize) {
-		return it, invalid("frame", "has a body of %d bytes, and its header says %d", len(frame)-HeaderSize, it.length)
+	if r.length != int64(len(frame)-headerSize) {
+		return r, invalid("frame", "has a body of %d bytes, and its header says %d", len(frame)-headerSize, r.length)
 	}
-	return it, nil
+	return r, nil
 }
 
 // fault is the name of the first fault of the header of a request, or "".
-func (it requestHeader) fault(zeros bool) string {
-	isRegister, size := it.operation == OperationRegister, int64(requestItemSize[it.operation])
+func (r requestHeader) fault(zeros bool) string {
+	isRegister, size := r.operation == OperationRegister, int64(requestItemSize[r.operation])
 	switch {
-	case it.client.IsZero():
+	case r.client.IsZero():
 		return "ClientZero"
-	case !it.operation.Known():
+	case !r.operation.Known():
 		return "UnknownOperation"
 	case !zeros:
 		return "Reserved"
-	case isRegister && (it.session != 0 || it.number != 0):
+	case isRegister && (r.session != 0 || r.number != 0):
 		return "RegisterNumbers"
-	case !isRegister && it.number == 0:
+	case !isRegister && r.number == 0:
 		return "RequestZero"
-	case isRegister && it.length != 0, !isRegister && it.length%size != 0:
+	case isRegister && r.length != 0, !isRegister && r.length%size != 0:
 		return "BadLength"
-	case !isRegister && it.length/size > ItemsMax:
+	case !isRegister && r.length/size > ItemsMax:
 		return "TooMany"
 	}
 	return ""
 }
 
 func isZero(data []byte) bool {
-	for _, it := range data {
-		if it != 0 {
+	for _, value := range data {
+		if value != 0 {
 			return false
 		}
 	}
@@ -177,16 +177,16 @@ func decodeRequest(frame []byte) (Asked, error) {
 		return Asked{}, err
 	}
 	asked := Asked{Client: header.client, Session: header.session, Number: header.number}
-	body := frame[HeaderSize:]
+	body := frame[headerSize:]
 	switch header.operation {
 	case OperationCreateAccounts:
-		asked.Request = CreateAccounts(decodeAll(body, RecordSize, decodeAccount))
+		asked.Request = CreateAccounts(decodeAll(body, recordSize, decodeAccount))
 	case OperationCreateTransfers:
-		asked.Request = CreateTransfers(decodeAll(body, RecordSize, decodeTransfer))
+		asked.Request = CreateTransfers(decodeAll(body, recordSize, decodeTransfer))
 	case OperationLookupAccounts:
-		asked.Request = LookupAccounts(decodeAll(body, IDSize, decodeUint128))
+		asked.Request = LookupAccounts(decodeAll(body, idSize, decodeUint128))
 	case OperationLookupTransfers:
-		asked.Request = LookupTransfers(decodeAll(body, IDSize, decodeUint128))
+		asked.Request = LookupTransfers(decodeAll(body, idSize, decodeUint128))
 	default:
 		asked.Request = Registration{}
 	}

@@ -29,15 +29,15 @@ var (
 )
 
 // MarshalJSON is one object in ASCII: three numbers, and the bytes in hex.
-func (it Saved) MarshalJSON() ([]byte, error) {
+func (s Saved) MarshalJSON() ([]byte, error) {
 	text := fmt.Sprintf(`{"client": %v, "session": %d, "number": %d, "pending": "%x"}`,
-		it.Client, it.Session, it.Number, it.Pending)
+		s.Client, s.Session, s.Number, s.Pending)
 	return []byte(text), nil
 }
 
 // UnmarshalJSON reads what MarshalJSON wrote. What is none is an [InvalidError] that names what is
 // wrong. It does not test that the bytes in doubt are a request of this session: [Resume] does.
-func (it *Saved) UnmarshalJSON(data []byte) error {
+func (s *Saved) UnmarshalJSON(data []byte) error {
 	if !json.Valid(data) {
 		return invalid("saved", "is no JSON")
 	}
@@ -61,7 +61,7 @@ func (it *Saved) UnmarshalJSON(data []byte) error {
 	if err != nil {
 		return err
 	}
-	*it = Saved{Client: client, Session: session.Lo, Number: uint32(number.Lo), Pending: pending}
+	*s = Saved{Client: client, Session: session.Lo, Number: uint32(number.Lo), Pending: pending}
 	return nil
 }
 
@@ -135,23 +135,23 @@ func bytesOf(fields map[string]json.RawMessage, name string) ([]byte, error) {
 }
 
 // test refuses what is no session of a client, and bytes in doubt that are not its next request.
-func (it Saved) test() error {
-	if it.Client.IsZero() {
+func (s Saved) test() error {
+	if s.Client.IsZero() {
 		return invalid("saved.client", "must not be 0")
 	}
-	if len(it.Pending) == 0 {
+	if len(s.Pending) == 0 {
 		return nil
 	}
-	asked, err := decodeRequestHeader(it.Pending)
+	asked, err := decodeRequestHeader(s.Pending)
 	if err != nil {
 		return invalid("saved.pending", "is no request: %v", err)
 	}
-	isRegister, number := asked.operation == OperationRegister, uint64(it.Number)
+	isRegister, number := asked.operation == OperationRegister, uint64(s.Number)
 	if !isRegister {
 		number++
 	}
-	if asked.client != it.Client || asked.session != it.Session || uint64(asked.number) != number ||
-		isRegister != (it.Session == 0) {
+	if asked.client != s.Client || asked.session != s.Session || uint64(asked.number) != number ||
+		isRegister != (s.Session == 0) {
 		return invalid("saved.pending", "is not the next request of this session")
 	}
 	return nil

@@ -9,11 +9,11 @@ import (
 	"testing"
 	"time"
 
-	tb "ledger.example/tbclient"
+	tb "telovamish.org/tbclient"
 )
 
 func TestSavedInJSON(t *testing.T) {
-	wide := tb.Saved{Client: tb.AmountMax, Session: 1<<64 - 1, Number: tb.NumberMax}
+	wide := tb.Saved{Client: tb.AmountMax, Session: 1<<64 - 1, Number: 1<<32 - 1}
 	for text, saved := range map[string]tb.Saved{
 		`{"client":7,"session":1,"number":0,"pending":"00ff"}`:                                    {Client: tb.ToUint128(7), Session: 1, Pending: []byte{0, 255}},
 		`{"client":` + most + `,"session":18446744073709551615,"number":4294967295,"pending":""}`: wide,

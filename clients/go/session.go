@@ -24,14 +24,14 @@ type SessionOption func(*Session) error
 // WithClient sets the client's id, which no other client has, and is not 0. Without it the client
 // has a new id. A session that is resumed or loaded has the id that was saved.
 func WithClient(id Uint128) SessionOption {
-	return func(it *Session) error {
+	return func(s *Session) error {
 		if id.IsZero() {
 			return invalid("client", "must not be 0")
 		}
-		if !it.client.IsZero() && it.client != id {
-			return invalid("client", "must be that of the saved session, %v", it.client)
+		if !s.client.IsZero() && s.client != id {
+			return invalid("client", "must be that of the saved session, %v", s.client)
 		}
-		it.client = id
+		s.client = id
 		return nil
 	}
 }
@@ -39,11 +39,11 @@ func WithClient(id Uint128) SessionOption {
 // WithAttempts sets how often a call sends its request, where no reply comes: DefaultAttempts where
 // it is not given.
 func WithAttempts(attempts int) SessionOption {
-	return func(it *Session) error {
+	return func(s *Session) error {
 		if attempts < 1 || attempts > attemptsMax {
 			return invalid("attempts", "must be 1 to 2^31 - 1, not %d", attempts)
 		}
-		it.attempts = attempts
+		s.attempts = attempts
 		return nil
 	}
 }
@@ -52,11 +52,11 @@ func WithAttempts(attempts int) SessionOption {
 // (Busy, NotYet). Each further pause of a call is twice as long, up to a second, or to this one where
 // that is longer. It is DefaultPause where it is not given, and 0 is no pause.
 func WithPause(pause time.Duration) SessionOption {
-	return func(it *Session) error {
+	return func(s *Session) error {
 		if pause < 0 {
 			return invalid("pause", "must be 0 at least, not %v", pause)
 		}
-		it.pause = pause
+		s.pause = pause
 		return nil
 	}
 }
@@ -83,23 +83,23 @@ type Session struct {
 // NewSession is a session that is not registered. It sends nothing: Prepare a [Registration], Save,
 // and Retry. [Register] does it in one call.
 func NewSession(transport Transport, options ...SessionOption) (*Session, error) {
-	it, err := newSession(transport, Saved{}, options)
-	if err == nil && it.client.IsZero() {
-		it.client = ID()
+	s, err := newSession(transport, Saved{}, options)
+	if err == nil && s.client.IsZero() {
+		s.client = ID()
 	}
-	return it, err
+	return s, err
 }
 
 // Register registers a client, and returns its new session.
 func Register(ctx context.Context, transport Transport, options ...SessionOption) (*Session, error) {
-	it, err := NewSession(transport, options...)
+	s, err := NewSession(transport, options...)
 	if err != nil {
 		return nil, err
 	}
-	if _, err := it.ask(ctx, Registration{}); err != nil {
+	if _, err := s.ask(ctx, Registration{}); err != nil {
 		return nil, err
 	}
-	return it, nil
+	return s, nil
 }
 
 // Resume is the session as it was when Saved was taken. Where a request was in doubt, Retry it first.
@@ -125,7 +125,7 @@ func newSession(transport Transport, saved Saved, options []SessionOption) (*Ses
 	if transport == nil {
 		return nil, invalid("transport", "must not be nil")
 	}
-	it := &Session{
+	s := &Session{
 		transport: transport,
 		client:    saved.Client,
 		attempts:  DefaultAttempts,
@@ -136,45 +136,45 @@ func newSession(transport Transport, saved Saved, options []SessionOption) (*Ses
 		pending:   append([]byte(nil), saved.Pending...), // nil where there are none
 	}
 	for _, option := range options {
-		if err := option(it); err != nil {
+		if err := option(s); err != nil {
 			return nil, err
 		}
 	}
-	return it, nil
+	return s, nil
 }
 
 // testMade refuses the zero value, whose calls would wait forever.
-func (it *Session) testMade() error {
-	if it.transport == nil {
+func (s *Session) testMade() error {
+	if s.transport == nil {
 		return invalid("session", "is none: NewSession, Register, Resume and Load make one")
 	}
 	return nil
 }
 
 // Client is the client's id.
-func (it *Session) Client() Uint128 { return it.client }
+func (s *Session) Client() Uint128 { return s.client }
 
 // Saved is what outlives the client. Keep it between Prepare and Retry, and again after Retry.
-func (it *Session) Saved() Saved {
-	it.mu.Lock()
-	defer it.mu.Unlock()
-	pending := append([]byte(nil), it.pending...)
-	return Saved{Client: it.client, Session: it.session, Number: it.number, Pending: pending}
+func (s *Session) Saved() Saved {
+	s.mu.Lock()
+	defer s.mu.Unlock()
+	pending := append([]byte(nil), s.pending...)
+	return Saved{Client: s.client, Session: s.session, Number: s.number, Pending: pending}
 }
 
 // Save keeps Saved in a file, whole: after a crash the file has it as it is now or as it was before.
 // Where Save fails the file is as it was before, or as it is now where only its folder could not be
 // synced.
-func (it *Session) Save(path string) error {
-	if err := it.testMade(); err != nil {
+func (s *Session) Save(path string) error {
+	if err := s.testMade(); err != nil {
 		return err
 	}
 	if err := testPath(path); err != nil {
 		return err
 	}
-	it.saving.Lock()
-	defer it.saving.Unlock()
-	data, err := it.Saved().MarshalJSON()
+	s.saving.Lock()
+	defer s.saving.Unlock()
+	data, err := s.Saved().MarshalJSON()
 	if err != nil {
 		return err
 	}
@@ -184,10 +184,10 @@ func (it *Session) Save(path string) error {
 // InDoubt is the request that has no reply yet, and whether there is one. It is kept over refusals,
 // since it may have been executed before: after an eviction create its records again, with the same
 // ids, in a new session.
-func (it *Session) InDoubt() (Asked, bool) {
-	it.mu.Lock()
-	pending := it.pending
-	it.mu.Unlock()
+func (s *Session) InDoubt() (Asked, bool) {
+	s.mu.Lock()
+	pending := s.pending
+	s.mu.Unlock()
 	if pending == nil {
 		return Asked{}, false
 	}
@@ -197,137 +197,137 @@ func (it *Session) InDoubt() (Asked, bool) {
 
 // CreateAccounts creates accounts, and returns those that were not created. It is Prepare and Retry
 // in one call: where the ids are kept nowhere else, use those and Save.
-func (it *Session) CreateAccounts(ctx context.Context, accounts []Account) (AccountResults, error) {
-	answer, err := it.ask(ctx, CreateAccounts(accounts))
+func (s *Session) CreateAccounts(ctx context.Context, accounts []Account) (AccountResults, error) {
+	answer, err := s.ask(ctx, CreateAccounts(accounts))
 	return answer.AccountResults, err
 }
 
 // CreateTransfers makes transfers, and returns those that were not made. It is Prepare and Retry in
 // one call: where the ids are kept nowhere else, use those and Save.
-func (it *Session) CreateTransfers(ctx context.Context, transfers []Transfer) (TransferResults, error) {
-	answer, err := it.ask(ctx, CreateTransfers(transfers))
+func (s *Session) CreateTransfers(ctx context.Context, transfers []Transfer) (TransferResults, error) {
+	answer, err := s.ask(ctx, CreateTransfers(transfers))
 	return answer.TransferResults, err
 }
 
 // LookupAccounts returns the accounts with these ids that exist, in the order of the ids. It takes a
 // number: where the session is kept in a file, use Prepare, Save, Retry and Save.
-func (it *Session) LookupAccounts(ctx context.Context, ids []Uint128) ([]Account, error) {
-	answer, err := it.ask(ctx, LookupAccounts(ids))
+func (s *Session) LookupAccounts(ctx context.Context, ids []Uint128) ([]Account, error) {
+	answer, err := s.ask(ctx, LookupAccounts(ids))
 	return answer.Accounts, err
 }
 
 // LookupTransfers returns the transfers with these ids that exist, in the order of the ids. It takes
 // a number: where the session is kept in a file, use Prepare, Save, Retry and Save.
-func (it *Session) LookupTransfers(ctx context.Context, ids []Uint128) ([]Transfer, error) {
-	answer, err := it.ask(ctx, LookupTransfers(ids))
+func (s *Session) LookupTransfers(ctx context.Context, ids []Uint128) ([]Transfer, error) {
+	answer, err := s.ask(ctx, LookupTransfers(ids))
 	return answer.Transfers, err
 }
 
 // ask prepares a request and sends it. Where nothing was sent it is as if it had not been called.
-func (it *Session) ask(ctx context.Context, request Request) (Answer, error) {
-	if err := it.begin(ctx); err != nil {
+func (s *Session) ask(ctx context.Context, request Request) (Answer, error) {
+	if err := s.begin(ctx); err != nil {
 		return Answer{}, err
 	}
-	defer it.end()
-	if err := it.Prepare(request); err != nil {
+	defer s.end()
+	if err := s.Prepare(request); err != nil {
 		return Answer{}, err
 	}
-	answer, err := it.send(ctx)
+	answer, err := s.send(ctx)
 	if err != nil && !mayBeSent(err) {
-		it.mu.Lock()
-		it.pending = nil
-		it.mu.Unlock()
+		s.mu.Lock()
+		s.pending = nil
+		s.mu.Unlock()
 	}
 	return answer, err
 }
 
 // begin waits until no other call sends.
-func (it *Session) begin(ctx context.Context) error {
-	if err := it.testMade(); err != nil {
+func (s *Session) begin(ctx context.Context) error {
+	if err := s.testMade(); err != nil {
 		return err
 	}
 	select {
-	case it.turn <- struct{}{}:
+	case s.turn <- struct{}{}:
 		return nil
 	case <-ctx.Done():
 		return &CancelledError{Err: ctx.Err()}
 	}
 }
 
-func (it *Session) end() { <-it.turn }
+func (s *Session) end() { <-s.turn }
 
 // Prepare makes the next request, which is in doubt from then on, and sends nothing: Save, then
 // Retry. Values that may not be there are an [InvalidError]; while another request is in doubt
 // it is an ErrInDoubt.
-func (it *Session) Prepare(request Request) error {
-	if err := it.testMade(); err != nil {
+func (s *Session) Prepare(request Request) error {
+	if err := s.testMade(); err != nil {
 		return err
 	}
 	if request == nil {
 		return invalid("operation", "must be that of a request, not nil")
 	}
-	it.mu.Lock()
-	defer it.mu.Unlock()
-	if it.pending != nil {
-		return it.doubt()
+	s.mu.Lock()
+	defer s.mu.Unlock()
+	if s.pending != nil {
+		return s.doubt()
 	}
-	number := it.number + 1
+	number := s.number + 1
 	switch isRegister := request.Operation() == OperationRegister; {
-	case isRegister && it.session != 0:
-		return invalid("session", "is %d: it is registered already", it.session)
+	case isRegister && s.session != 0:
+		return invalid("session", "is %d: it is registered already", s.session)
 	case isRegister:
 		number = 0
-	case it.session == 0:
+	case s.session == 0:
 		return invalid("session", "is 0: register first")
-	case it.number == NumberMax:
+	case s.number == numberMax:
 		return invalid("number", "is 2^32 - 1, the last one: register a new client")
 	}
-	frame, err := encodeRequest(it.client, it.session, number, request)
+	frame, err := encodeRequest(s.client, s.session, number, request)
 	if err != nil {
 		return err
 	}
-	it.pending, it.refusal = frame, StatusReply
+	s.pending, s.refusal = frame, StatusReply
 	return nil
 }
 
 // doubt is an ErrInDoubt that says what to do.
-func (it *Session) doubt() error {
+func (s *Session) doubt() error {
 	switch {
-	case it.refusal == StatusReply:
+	case s.refusal == StatusReply:
 		return fmt.Errorf("%w: Retry it", ErrInDoubt)
-	case isEviction(it.refusal):
-		return fmt.Errorf("%w, and the session has ended (%v): register a new client, and see InDoubt", ErrInDoubt, it.refusal)
+	case isEviction(s.refusal):
+		return fmt.Errorf("%w, and the session has ended (%v): register a new client, and see InDoubt", ErrInDoubt, s.refusal)
 	}
-	return fmt.Errorf("%w, and was refused (%v): see InDoubt", ErrInDoubt, it.refusal)
+	return fmt.Errorf("%w, and was refused (%v): see InDoubt", ErrInDoubt, s.refusal)
 }
 
 // Retry sends the request in doubt, the same bytes each time, until its reply is there, as often as
 // the session's attempts. It returns what the reply says. Whatever the error is, the request stays
 // in doubt; with nothing in doubt it is an ErrNothingInDoubt.
-func (it *Session) Retry(ctx context.Context) (Answer, error) {
-	if err := it.begin(ctx); err != nil {
+func (s *Session) Retry(ctx context.Context) (Answer, error) {
+	if err := s.begin(ctx); err != nil {
 		return Answer{}, err
 	}
-	defer it.end()
-	return it.send(ctx)
+	defer s.end()
+	return s.send(ctx)
 }
 
 // send sends the request in doubt, up to `attempts` times. The caller has the turn.
-func (it *Session) send(ctx context.Context) (Answer, error) {
-	it.mu.Lock()
-	frame := it.pending
-	it.mu.Unlock()
+func (s *Session) send(ctx context.Context) (Answer, error) {
+	s.mu.Lock()
+	frame := s.pending
+	s.mu.Unlock()
 	if frame == nil {
 		return Answer{}, ErrNothingInDoubt
 	}
 	var last error // what became of the sending before
-	pause := it.pause
+	pause := s.pause
 	for attempt := 1; ; attempt++ {
-		answer, err := it.exchange(ctx, frame)
+		answer, err := s.exchange(ctx, frame)
 		if err != nil && last != nil && !mayBeSent(err) {
 			return Answer{}, notAgain(last, err)
 		}
-		if err == nil || attempt == it.attempts || !isLost(err) && !isLater(err) {
+		if err == nil || attempt == s.attempts || !isLost(err) && !isLater(err) {
 			return answer, err
 		}
 		last = err
@@ -337,7 +337,7 @@ func (it *Session) send(ctx context.Context) (Answer, error) {
 		if !sleep(ctx, pause) {
 			return Answer{}, &CancelledError{Sent: true, Err: ctx.Err()}
 		}
-		pause = doubled(pause, longest(it.pause, pauseMax))
+		pause = doubled(pause, longest(s.pause, pauseMax))
 	}
 }
 
@@ -369,11 +369,11 @@ func notAgain(last, err error) error {
 }
 
 // exchange sends the frame once, and takes its reply.
-func (it *Session) exchange(ctx context.Context, frame []byte) (Answer, error) {
+func (s *Session) exchange(ctx context.Context, frame []byte) (Answer, error) {
 	if err := ctx.Err(); err != nil {
 		return Answer{}, &CancelledError{Err: err}
 	}
-	reply, err := it.transport.Exchange(ctx, frame)
+	reply, err := s.transport.Exchange(ctx, frame)
 	if err != nil {
 		return Answer{}, err
 	}
@@ -381,26 +381,26 @@ func (it *Session) exchange(ctx context.Context, frame []byte) (Answer, error) {
 	if err != nil {
 		return Answer{}, err
 	}
-	return it.take(header, answer)
+	return s.take(header, answer)
 }
 
 // take takes the reply to the request in doubt, which is in doubt no longer. A refusal leaves it in
 // doubt, since it may have been executed before.
-func (it *Session) take(header replyHeader, answer Answer) (Answer, error) {
-	it.mu.Lock()
-	defer it.mu.Unlock()
+func (s *Session) take(header replyHeader, answer Answer) (Answer, error) {
+	s.mu.Lock()
+	defer s.mu.Unlock()
 	if header.status != StatusReply {
-		it.refusal = header.status
+		s.refusal = header.status
 		return Answer{}, &RefusedError{Status: header.status, Session: header.session, Number: header.number}
 	}
-	it.session, it.number, it.pending = header.session, header.number, nil
+	s.session, s.number, s.pending = header.session, header.number, nil
 	return answer, nil
 }
 
 // Close closes the transport. A request in doubt stays so.
-func (it *Session) Close() error {
-	if it.transport == nil {
+func (s *Session) Close() error {
+	if s.transport == nil {
 		return nil
 	}
-	return it.transport.Close()
+	return s.transport.Close()
 }

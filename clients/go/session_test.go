@@ -15,14 +15,14 @@ import (
 	"testing"
 	"time"
 
-	tb "ledger.example/tbclient"
+	tb "telovamish.org/tbclient"
 )
 
 var background = context.Background()
 
-func newSocket(t testing.TB, it *ledger, options ...tb.SocketOption) *tb.Socket {
+func newSocket(t testing.TB, l *ledger, options ...tb.SocketOption) *tb.Socket {
 	t.Helper()
-	socket, err := tb.NewSocket([]tb.Address{tb.Unix(it.path)}, options...)
+	socket, err := tb.NewSocket([]tb.Address{tb.Unix(l.path)}, options...)
 	if err != nil {
 		t.Fatal(err)
 	}
@@ -33,8 +33,8 @@ func newSocket(t testing.TB, it *ledger, options ...tb.SocketOption) *tb.Socket 
 // begun is a ledger with two accounts, and a session.
 func begun(t testing.TB, options ...tb.SessionOption) (*ledger, *tb.Session) {
 	t.Helper()
-	it := newLedger(t, t.TempDir())
-	session, err := tb.Register(background, newSocket(t, it), options...)
+	server := newLedger(t, t.TempDir())
+	session, err := tb.Register(background, newSocket(t, server), options...)
 	if err != nil {
 		t.Fatal(err)
 	}
@@ -45,7 +45,7 @@ func begun(t testing.TB, options ...tb.SessionOption) (*ledger, *tb.Session) {
 	if err != nil || results.Err() != nil {
 		t.Fatal(err, results)
 	}
-	return it, session
+	return server, session
 }
 
 func sale(amount uint64) tb.Transfer {
@@ -65,12 +65,12 @@ func credited(t testing.TB, session *tb.Session) tb.Uint128 {
 }
 
 func TestMoneyMovesOnceOverLostReplies(t *testing.T) {
-	it, session := begun(t, tb.WithAttempts(3))
-	it.loses(2)
+	server, session := begun(t, tb.WithAttempts(3))
+	server.loses(2)
 	if results, err := session.CreateTransfers(background, []tb.Transfer{sale(100)}); err != nil || len(results) != 0 {
 		t.Fatal(results, err)
 	}
-	it.loses(3)
+	server.loses(3)
 	_, err := session.CreateTransfers(background, []tb.Transfer{sale(10)})
 	if !errors.Is(err, tb.ErrReplyLost) || errors.Is(err, tb.ErrNotSent) {
 		t.Fatal(err)
@@ -87,15 +87,15 @@ func TestMoneyMovesOnceOverLostReplies(t *testing.T) {
 }
 
 func TestCancelledCallLeavesItsRequestInDoubt(t *testing.T) {
-	it, session := begun(t)
-	release := it.holds(130)
+	server, session := begun(t)
+	release := server.holds(130)
 	ctx, cancel := context.WithTimeout(background, 50*time.Millisecond)
 	defer cancel()
 	_, err := session.CreateTransfers(ctx, []tb.Transfer{sale(100)})
 	if !errors.Is(err, context.DeadlineExceeded) || !errors.Is(err, tb.ErrCancelled) || errors.Is(err, tb.ErrNotSent) {
 		t.Fatal(err)
 	}
-	_, sent := it.came()
+	_, sent := server.came()
 	release()
 	if pending := session.Saved().Pending; !bytes.Equal(pending, sent) {
 		t.Fatalf("%x was sent, and %x is in doubt", sent, pending)
@@ -109,15 +109,15 @@ func TestCancelledCallLeavesItsRequestInDoubt(t *testing.T) {
 }
 
 func TestCancelledBeforeSendingTakesNoNumber(t *testing.T) {
-	it, session := begun(t)
-	before, _ := it.came()
+	server, session := begun(t)
+	before, _ := server.came()
 	ctx, cancel := context.WithCancel(background)
 	cancel()
 	_, err := session.CreateTransfers(ctx, []tb.Transfer{sale(100)})
 	if !errors.Is(err, context.Canceled) || !errors.Is(err, tb.ErrNotSent) {
 		t.Fatal(err)
 	}
-	if after, _ := it.came(); after != before {
+	if after, _ := server.came(); after != before {
 		t.Fatalf("%d requests came", after-before)
 	}
 	if _, isThere := session.InDoubt(); isThere {
@@ -127,8 +127,8 @@ func TestCancelledBeforeSendingTakesNoNumber(t *testing.T) {
 }
 
 func TestSavedDoesNotWaitForACall(t *testing.T) {
-	it, session := begun(t)
-	release, ended := it.holds(130), make(chan error)
+	server, session := begun(t)
+	release, ended := server.holds(130), make(chan error)
 	go func() {
 		_, err := session.CreateTransfers(background, []tb.Transfer{sale(100)})
 		ended <- err
@@ -180,19 +180,19 @@ func TestGoroutinesShareASession(t *testing.T) {
 }
 
 func TestCloseEndsWhatGoesOn(t *testing.T) {
-	it := newLedger(t, t.TempDir())
-	socket := newSocket(t, it)
+	server := newLedger(t, t.TempDir())
+	socket := newSocket(t, server)
 	session, err := tb.Register(background, socket, tb.WithAttempts(1))
 	if err != nil {
 		t.Fatal(err)
 	}
-	defer it.holds(131)()
+	defer server.holds(131)()
 	ended := make(chan error)
 	go func() {
 		_, err := session.LookupAccounts(background, nil)
 		ended <- err
 	}()
-	for came := 0; came < 2; came, _ = it.came() {
+	for came := 0; came < 2; came, _ = server.came() {
 		time.Sleep(time.Millisecond)
 	}
 	socket.Close()
@@ -217,8 +217,8 @@ func TestCloseEndsAConnecting(t *testing.T) {
 
 func TestAPathThatBeginsWithAtIsAFile(t *testing.T) {
 	inNewFolder(t)
-	it := beginLedger("./@ledger.sock")
-	t.Cleanup(it.end)
+	server := beginLedger("./@ledger.sock")
+	t.Cleanup(server.end)
 	address := tb.Unix("@ledger.sock")
 	socket, err := tb.NewSocket([]tb.Address{address}, tb.WithTimeout(time.Second))
 	if err != nil || address.String() != "@ledger.sock" {
@@ -305,8 +305,8 @@ func TestCannotConnect(t *testing.T) {
 }
 
 func TestOptionsAreTested(t *testing.T) {
-	it := newLedger(t, t.TempDir())
-	socket := newSocket(t, it)
+	server := newLedger(t, t.TempDir())
+	socket := newSocket(t, server)
 	saved := tb.Saved{Client: tb.ToUint128(7), Session: 1}
 	for name, make := range map[string]func() error{
 		"client":     func() error { return second(tb.NewSession(socket, tb.WithClient(tb.Uint128{}))) },
@@ -373,9 +373,9 @@ func socketOf(address tb.Address, options ...tb.SocketOption) error {
 // scripted is a Transport that answers with what it has.
 type scripted func(frame []byte) ([]byte, error)
 
-func (it scripted) Exchange(_ context.Context, frame []byte) ([]byte, error) { return it(frame) }
+func (s scripted) Exchange(_ context.Context, frame []byte) ([]byte, error) { return s(frame) }
 
-func (it scripted) Close() error { return nil }
+func (s scripted) Close() error { return nil }
 
 func TestATransportOfOnesOwn(t *testing.T) {
 	saved := tb.Saved{Client: tb.ToUint128(7), Session: 1}

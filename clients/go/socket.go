@@ -42,31 +42,31 @@ func TCP(host string, port int) Address {
 }
 
 // String is the path, or the host and the port.
-func (it Address) String() string { return it.name }
+func (a Address) String() string { return a.name }
 
 // dialed is the address for the package net, which takes a path that begins with @ for an abstract
 // socket: another one than the file.
-func (it Address) dialed() string {
-	if it.network == "unix" && strings.HasPrefix(it.name, "@") {
-		return "./" + it.name
+func (a Address) dialed() string {
+	if a.network == "unix" && strings.HasPrefix(a.name, "@") {
+		return "./" + a.name
 	}
-	return it.name
+	return a.name
 }
 
-func (it Address) test(field string) error {
+func (a Address) test(field string) error {
 	switch {
-	case it.network == "":
+	case a.network == "":
 		return invalid(field, "is no address: Unix and TCP make one")
-	case it.network == "unix" && (it.name == "" || strings.Contains(it.name, "\x00")):
+	case a.network == "unix" && (a.name == "" || strings.Contains(a.name, "\x00")):
 		return invalid(field, "is no path")
-	case it.network == "tcp" && it.host == "":
+	case a.network == "tcp" && a.host == "":
 		return invalid(field, "has no host")
 	}
-	_, port, err := net.SplitHostPort(it.name)
-	if it.network == "tcp" && err != nil {
-		return invalid(field, "has no name or number of a host: %.40q", it.host) // as "[::1]"
+	_, port, err := net.SplitHostPort(a.name)
+	if a.network == "tcp" && err != nil {
+		return invalid(field, "has no name or number of a host: %.40q", a.host) // as "[::1]"
 	}
-	if number, _ := strconv.Atoi(port); it.network == "tcp" && (number < 1 || number > 65535) {
+	if number, _ := strconv.Atoi(port); a.network == "tcp" && (number < 1 || number > 65535) {
 		return invalid(field, "must have a port from 1 to 65535")
 	}
 	return nil
@@ -101,11 +101,11 @@ type SocketOption func(*Socket) error
 // is DefaultTimeout where it is not given. A call of a session may send several times: its context
 // is the limit of the whole call.
 func WithTimeout(timeout time.Duration) SocketOption {
-	return func(it *Socket) error {
+	return func(s *Socket) error {
 		if timeout <= 0 {
 			return invalid("timeout", "must be above 0, not %v", timeout)
 		}
-		it.timeout = timeout
+		s.timeout = timeout
 		return nil
 	}
 }
@@ -113,11 +113,11 @@ func WithTimeout(timeout time.Duration) SocketOption {
 // WithTLS makes each connection go over TLS. Where the configuration has no ServerName, the
 // certificate has to be of the host of the address. All addresses have to be of TCP.
 func WithTLS(config *tls.Config) SocketOption {
-	return func(it *Socket) error {
+	return func(s *Socket) error {
 		if config == nil {
 			return invalid("tls", "must be a configuration, not nil")
 		}
-		it.tls = config.Clone()
+		s.tls = config.Clone()
 		return nil
 	}
 }
@@ -153,7 +153,7 @@ func NewSocket(addresses []Address, options ...SocketOption) (*Socket, error) {
 	if len(addresses) == 0 {
 		return nil, invalid("address", "must have one address at least")
 	}
-	it := &Socket{
+	s := &Socket{
 		addresses: append([]Address(nil), addresses...),
 		timeout:   DefaultTimeout,
 		turn:      make(chan struct{}, 1),
@@ -161,32 +161,32 @@ func NewSocket(addresses []Address, options ...SocketOption) (*Socket, error) {
 		ending:    make(chan struct{}),
 	}
 	for _, option := range options {
-		if err := option(it); err != nil {
+		if err := option(s); err != nil {
 			return nil, err
 		}
 	}
-	for at, address := range it.addresses {
+	for at, address := range s.addresses {
 		if err := address.test(fmt.Sprintf("address[%d]", at)); err != nil {
 			return nil, err
 		}
-		if it.tls != nil && address.network != "tcp" {
+		if s.tls != nil && address.network != "tcp" {
 			return nil, invalid("tls", "is for a host and a port, and address[%d] is %v", at, address)
 		}
 	}
-	return it, nil
+	return s, nil
 }
 
 // Close closes the connection. An exchange that goes on ends with an error; each later one is an
 // ErrClosed.
-func (it *Socket) Close() error {
-	it.mu.Lock()
-	defer it.mu.Unlock()
-	if !it.done && it.closed != nil {
-		it.done = true
-		close(it.closed)
+func (s *Socket) Close() error {
+	s.mu.Lock()
+	defer s.mu.Unlock()
+	if !s.done && s.closed != nil {
+		s.done = true
+		close(s.closed)
 	}
-	conn := it.conn
-	it.conn = nil
+	conn := s.conn
+	s.conn = nil
 	if conn != nil {
 		conn.Close()
 	}
@@ -194,8 +194,8 @@ func (it *Socket) Close() error {
 }
 
 // Exchange sends the frame of a request, and returns the frame of its reply.
-func (it *Socket) Exchange(ctx context.Context, frame []byte) ([]byte, error) {
-	if it.closed == nil {
+func (s *Socket) Exchange(ctx context.Context, frame []byte) ([]byte, error) {
+	if s.closed == nil {
 		return nil, invalid("transport", "is none: NewSocket makes one")
 	}
 	asked, err := decodeRequestHeader(frame) // at a wrong one the server would close the connection
@@ -203,57 +203,57 @@ func (it *Socket) Exchange(ctx context.Context, frame []byte) ([]byte, error) {
 		return nil, err
 	}
 	select {
-	case <-it.closed: // first, since select takes any of those that are ready
+	case <-s.closed: // first, since select takes any of those that are ready
 		return nil, ErrClosed
 	default:
 	}
 	select {
-	case it.turn <- struct{}{}:
-		defer func() { <-it.turn }()
-	case <-it.closed:
+	case s.turn <- struct{}{}:
+		defer func() { <-s.turn }()
+	case <-s.closed:
 		return nil, ErrClosed
 	case <-ctx.Done():
 		return nil, &CancelledError{Err: ctx.Err()}
 	}
-	within, cancel := context.WithTimeout(ctx, it.timeout)
+	within, cancel := context.WithTimeout(ctx, s.timeout)
 	defer cancel()
-	it.cause = nil
+	s.cause = nil
 	refusing := make(map[Address]bool)
 	for pause := firstPause; ; pause = doubled(pause, lastPause) {
-		reply, err := it.once(ctx, within, frame, asked)
+		reply, err := s.once(ctx, within, frame, asked)
 		var fault *notTakenError
 		if !errors.As(err, &fault) {
 			return reply, err
 		}
-		it.keepCause(err)
+		s.keepCause(err)
 		if fault.isRefusal {
 			refusing[fault.address] = true
 		}
-		isFinal := it.areAll(refusing)
+		isFinal := s.areAll(refusing)
 		if !isFinal && sleep(within, pause) {
 			continue
 		}
 		if ctx.Err() != nil {
 			return nil, &CancelledError{Err: ctx.Err()}
 		}
-		return nil, it.notConnected(isFinal)
+		return nil, s.notConnected(isFinal)
 	}
 }
 
 // keepCause keeps why no reply came. The end of the time says less than a fault before it.
-func (it *Socket) keepCause(err error) {
-	if it.cause == nil || !errors.Is(err, context.DeadlineExceeded) {
-		it.cause = err
+func (s *Socket) keepCause(err error) {
+	if s.cause == nil || !errors.Is(err, context.DeadlineExceeded) {
+		s.cause = err
 	}
 }
 
-func (it *Socket) notConnected(isFinal bool) error {
-	return &connectError{it.cause, isFinal}
+func (s *Socket) notConnected(isFinal bool) error {
+	return &connectError{s.cause, isFinal}
 }
 
 // areAll reports whether these are all addresses.
-func (it *Socket) areAll(some map[Address]bool) bool {
-	for _, address := range it.addresses {
+func (s *Socket) areAll(some map[Address]bool) bool {
+	for _, address := range s.addresses {
 		if !some[address] {
 			return false
 		}
@@ -269,16 +269,16 @@ type notTakenError struct {
 	err       error
 }
 
-func (it *notTakenError) Error() string { return fmt.Sprintf("%v: %v", it.address, it.err) }
+func (n *notTakenError) Error() string { return fmt.Sprintf("%v: %v", n.address, n.err) }
 
 // once sends the frame once, and returns the frame of its reply.
-func (it *Socket) once(ctx, within context.Context, frame []byte, asked requestHeader) ([]byte, error) {
-	conn, err := it.connected(within)
+func (s *Socket) once(ctx, within context.Context, frame []byte, asked requestHeader) ([]byte, error) {
+	conn, err := s.connected(within)
 	switch {
 	case err == nil:
 	case ctx.Err() != nil:
 		return nil, &CancelledError{Err: ctx.Err()}
-	case it.isClosed() || it.isEnding():
+	case s.isClosed() || s.isEnding():
 		return nil, ErrClosed
 	default:
 		return nil, err
@@ -287,13 +287,13 @@ func (it *Socket) once(ctx, within context.Context, frame []byte, asked requestH
 	if err == nil {
 		return reply, nil
 	}
-	address := it.addresses[it.at]
-	it.lose(conn)
+	address := s.addresses[s.at]
+	s.lose(conn)
 	isRefused := !conn.isUsed && isRefusal(err)
 	if isRefused || isStarting(err) {
 		return nil, &notTakenError{address, isRefused, err}
 	}
-	return nil, it.failed(ctx, within, err)
+	return nil, s.failed(ctx, within, err)
 }
 
 func isStarting(err error) bool {
@@ -302,31 +302,31 @@ func isStarting(err error) bool {
 }
 
 // failed is the error of an exchange that did not end in its reply.
-func (it *Socket) failed(ctx, within context.Context, err error) error {
+func (s *Socket) failed(ctx, within context.Context, err error) error {
 	var lost *LostError
 	switch {
 	case errors.Is(err, ErrBadReply), errors.As(err, &lost):
 		return err
 	case ctx.Err() != nil:
 		return &CancelledError{Sent: true, Err: ctx.Err()}
-	case it.isClosed():
+	case s.isClosed():
 		return &LostError{Err: errors.New("the Socket was closed meanwhile")}
 	case within.Err() != nil, errors.Is(err, os.ErrDeadlineExceeded):
-		if it.cause != nil {
-			return &LostError{Err: fmt.Errorf("none within %v, after %v", it.timeout, it.cause)}
+		if s.cause != nil {
+			return &LostError{Err: fmt.Errorf("none within %v, after %v", s.timeout, s.cause)}
 		}
-		return &LostError{Err: fmt.Errorf("none within %v", it.timeout)}
+		return &LostError{Err: fmt.Errorf("none within %v", s.timeout)}
 	}
 	return &LostError{Err: fmt.Errorf("the connection broke: %w", err)}
 }
 
-func (it *Socket) isClosed() bool { return isEnded(it.closed) }
+func (s *Socket) isClosed() bool { return isEnded(s.closed) }
 
-func (it *Socket) isEnding() bool { return isEnded(it.ending) }
+func (s *Socket) isEnding() bool { return isEnded(s.ending) }
 
-func isEnded(it chan struct{}) bool {
+func isEnded(done chan struct{}) bool {
 	select {
-	case <-it:
+	case <-done:
 		return true
 	default:
 		return false
@@ -334,21 +334,21 @@ func isEnded(it chan struct{}) bool {
 }
 
 // connectNoMore makes each later connecting an ErrClosed. An exchange that goes on ends in its time.
-func (it *Socket) connectNoMore() {
-	it.mu.Lock()
-	defer it.mu.Unlock()
-	if !it.isEnding() {
-		close(it.ending)
+func (s *Socket) connectNoMore() {
+	s.mu.Lock()
+	defer s.mu.Unlock()
+	if !s.isEnding() {
+		close(s.ending)
 	}
 }
 
 // connected is the connection: a new one where there is none, or where the server left it.
-func (it *Socket) connected(ctx context.Context) (*connection, error) {
-	it.mu.Lock()
-	conn := it.conn
-	it.mu.Unlock()
+func (s *Socket) connected(ctx context.Context) (*connection, error) {
+	s.mu.Lock()
+	conn := s.conn
+	s.mu.Unlock()
 	if conn != nil && conn.isLeft() {
-		it.lose(conn)
+		s.lose(conn)
 		conn = nil
 	}
 	ctx, cancel := context.WithCancel(ctx)
@@ -356,9 +356,9 @@ func (it *Socket) connected(ctx context.Context) (*connection, error) {
 	if conn == nil {
 		go func() { // who closes the Socket ends the calls too
 			select {
-			case <-it.closed:
+			case <-s.closed:
 				cancel()
-			case <-it.ending:
+			case <-s.ending:
 				cancel()
 			case <-ctx.Done():
 			}
@@ -366,58 +366,58 @@ func (it *Socket) connected(ctx context.Context) (*connection, error) {
 	}
 	for pause := firstPause; conn == nil; pause = doubled(pause, lastPause) {
 		var areDistrust bool
-		conn, areDistrust = it.callEach(ctx)
+		conn, areDistrust = s.callEach(ctx)
 		if conn == nil && (areDistrust || !sleep(ctx, pause)) {
-			return nil, it.notConnected(areDistrust)
+			return nil, s.notConnected(areDistrust)
 		}
 	}
-	return conn, it.keep(conn)
+	return conn, s.keep(conn)
 }
 
 // keep makes this the connection, or closes it where the Socket was closed.
-func (it *Socket) keep(conn *connection) error {
-	it.mu.Lock()
-	defer it.mu.Unlock()
-	if it.done {
+func (s *Socket) keep(conn *connection) error {
+	s.mu.Lock()
+	defer s.mu.Unlock()
+	if s.done {
 		conn.Close()
 		return ErrClosed
 	}
-	it.conn = conn
+	s.conn = conn
 	return nil
 }
 
 // callEach calls the addresses in turn, from the present one on, until one answers. Each gets a
 // share of the time that is left. Where none answers it reports whether at each one side does not
 // trust the other.
-func (it *Socket) callEach(ctx context.Context) (conn *connection, areDistrust bool) {
+func (s *Socket) callEach(ctx context.Context) (conn *connection, areDistrust bool) {
 	areDistrust = true
-	for left := len(it.addresses); left > 0; left-- {
+	for left := len(s.addresses); left > 0; left-- {
 		deadline, _ := ctx.Deadline()
 		share, cancel := context.WithTimeout(ctx, time.Until(deadline)/time.Duration(left))
-		address := it.addresses[it.at]
-		conn, err := dial(share, address, it.tls)
+		address := s.addresses[s.at]
+		conn, err := dial(share, address, s.tls)
 		cancel()
 		if err == nil {
 			return conn, false
 		}
-		it.keepCause(fmt.Errorf("%v: %w", address, err))
+		s.keepCause(fmt.Errorf("%v: %w", address, err))
 		areDistrust = areDistrust && (isCertificate(err) || isRefusal(err))
-		it.next()
+		s.next()
 	}
 	return nil, areDistrust
 }
 
-func (it *Socket) next() {
-	it.at = (it.at + 1) % len(it.addresses)
+func (s *Socket) next() {
+	s.at = (s.at + 1) % len(s.addresses)
 }
 
 // lose closes a connection. The next one goes to the next address.
-func (it *Socket) lose(conn *connection) {
-	it.mu.Lock()
-	it.conn = nil
-	it.mu.Unlock()
+func (s *Socket) lose(conn *connection) {
+	s.mu.Lock()
+	s.conn = nil
+	s.mu.Unlock()
 	conn.Close()
-	it.next()
+	s.next()
 }
 
 // isCertificate reports whether the server's certificate is not one to be trusted: calling again
@@ -494,36 +494,36 @@ func dial(ctx context.Context, address Address, config *tls.Config) (*connection
 }
 
 // Close closes the connection at once: TLS would wait for its last words to be sent.
-func (it *connection) Close() error {
-	return it.plain.Conn.Close()
+func (c *connection) Close() error {
+	return c.plain.Conn.Close()
 }
 
 // isLeft reports whether the server closed the connection, or said something: it says nothing before
 // it is asked.
-func (it *connection) isLeft() bool {
-	it.plain.isProbed = true
-	defer func() { it.plain.isProbed = false }()
+func (c *connection) isLeft() bool {
+	c.plain.isProbed = true
+	defer func() { c.plain.isProbed = false }()
 	var data [1]byte
-	_, err := it.Read(data[:])
+	_, err := c.Read(data[:])
 	return !errors.Is(err, errNothingYet)
 }
 
 // exchange sends a request and reads its reply, until the context ends.
-func (it *connection) exchange(ctx context.Context, frame []byte, asked requestHeader) ([]byte, error) {
-	defer it.until(ctx)()
-	if _, err := it.Write(frame); err != nil {
-		var said [HeaderSize]byte // what the server said before it closed the connection
-		count, why := io.ReadFull(it, said[:])
+func (c *connection) exchange(ctx context.Context, frame []byte, asked requestHeader) ([]byte, error) {
+	defer c.until(ctx)()
+	if _, err := c.Write(frame); err != nil {
+		var said [headerSize]byte // what the server said before it closed the connection
+		count, why := io.ReadFull(c, said[:])
 		if isRefusal(why) {
 			err = why
 		}
 		return nil, told(said[:count], err)
 	}
-	var header [HeaderSize]byte
-	if count, err := io.ReadFull(it, header[:]); err != nil {
+	var header [headerSize]byte
+	if count, err := io.ReadFull(c, header[:]); err != nil {
 		return nil, told(header[:count], err)
 	}
-	it.isUsed = true
+	c.isUsed = true
 	reply, err := decodeReplyHeader(header[:])
 	if err != nil {
 		return nil, err
@@ -531,22 +531,22 @@ func (it *connection) exchange(ctx context.Context, frame []byte, asked requestH
 	if err := reply.answers(asked); err != nil {
 		return nil, err
 	}
-	whole := make([]byte, HeaderSize+reply.length)
+	whole := make([]byte, headerSize+reply.length)
 	copy(whole, header[:])
-	_, err = io.ReadFull(it, whole[HeaderSize:])
+	_, err = io.ReadFull(c, whole[headerSize:])
 	return whole, err
 }
 
 // until ends reads and writes where the context ends. What it returns is called behind the last of
 // them.
-func (it *connection) until(ctx context.Context) func() {
-	it.plain.SetDeadline(time.Time{})
+func (c *connection) until(ctx context.Context) func() {
+	c.plain.SetDeadline(time.Time{})
 	finished, ended := make(chan struct{}), make(chan struct{})
 	go func() {
 		defer close(ended)
 		select {
 		case <-ctx.Done():
-			it.plain.SetDeadline(time.Unix(1, 0))
+			c.plain.SetDeadline(time.Unix(1, 0))
 		case <-finished:
 		}
 	}()
@@ -567,11 +567,11 @@ func told(said []byte, err error) error {
 }
 
 // printable is a character, or ? in place of one that a terminal may obey.
-func printable(it rune) rune {
-	if it < ' ' || it > '~' {
+func printable(r rune) rune {
+	if r < ' ' || r > '~' {
 		return '?'
 	}
-	return it
+	return r
 }
 
 // errNothingYet says that a connection that is probed has nothing to be read. TLS takes it for a
@@ -590,9 +590,9 @@ type plainConn struct {
 	isProbed bool
 }
 
-func (it *plainConn) Read(data []byte) (int, error) {
-	if it.isProbed {
-		return probe(it.Conn, data)
+func (p *plainConn) Read(data []byte) (int, error) {
+	if p.isProbed {
+		return probe(p.Conn, data)
 	}
-	return it.Conn.Read(data)
+	return p.Conn.Read(data)
 }

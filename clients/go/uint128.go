@@ -61,39 +61,39 @@ func ParseUint128(text string) (Uint128, error) {
 }
 
 // BigInt is the number as a new big.Int.
-func (it Uint128) BigInt() *big.Int {
+func (u Uint128) BigInt() *big.Int {
 	var data [16]byte
-	binary.BigEndian.PutUint64(data[:8], it.Hi)
-	binary.BigEndian.PutUint64(data[8:], it.Lo)
+	binary.BigEndian.PutUint64(data[:8], u.Hi)
+	binary.BigEndian.PutUint64(data[8:], u.Lo)
 	return new(big.Int).SetBytes(data[:])
 }
 
 // String is the number in decimal digits.
-func (it Uint128) String() string {
-	return it.BigInt().String()
+func (u Uint128) String() string {
+	return u.BigInt().String()
 }
 
 // Format prints the number by the verbs of a big.Int, as %v, %d and %x.
-func (it Uint128) Format(state fmt.State, verb rune) {
-	it.BigInt().Format(signless{state}, verb)
+func (u Uint128) Format(state fmt.State, verb rune) {
+	u.BigInt().Format(signless{state}, verb)
 }
 
 // signless passes over the flag of %+v, which asks for the names of fields and for no sign.
 type signless struct{ fmt.State }
 
-func (it signless) Flag(flag int) bool { return flag != '+' && it.State.Flag(flag) }
+func (s signless) Flag(flag int) bool { return flag != '+' && s.State.Flag(flag) }
 
 // IsZero reports whether the number is 0.
-func (it Uint128) IsZero() bool {
-	return it == Uint128{}
+func (u Uint128) IsZero() bool {
+	return u == Uint128{}
 }
 
 // Cmp is -1, 0 or 1 where the number is below the other one, equal to it, or above it.
-func (it Uint128) Cmp(other Uint128) int {
+func (u Uint128) Cmp(other Uint128) int {
 	switch {
-	case it == other:
+	case u == other:
 		return 0
-	case it.Hi < other.Hi || it.Hi == other.Hi && it.Lo < other.Lo:
+	case u.Hi < other.Hi || u.Hi == other.Hi && u.Lo < other.Lo:
 		return -1
 	}
 	return 1
@@ -101,37 +101,37 @@ func (it Uint128) Cmp(other Uint128) int {
 
 // Add is the sum of two numbers, and whether it fits into 128 bits. Where it does not, the sum is
 // without its 129th bit.
-func (it Uint128) Add(other Uint128) (sum Uint128, fits bool) {
-	lo, carry := bits.Add64(it.Lo, other.Lo, 0)
-	hi, carry := bits.Add64(it.Hi, other.Hi, carry)
+func (u Uint128) Add(other Uint128) (sum Uint128, fits bool) {
+	lo, carry := bits.Add64(u.Lo, other.Lo, 0)
+	hi, carry := bits.Add64(u.Hi, other.Hi, carry)
 	return Uint128{Hi: hi, Lo: lo}, carry == 0
 }
 
 // Sub is the number less the other one, and whether that is 0 at least. Where it is not, 2^128 is
 // added.
-func (it Uint128) Sub(other Uint128) (rest Uint128, fits bool) {
-	lo, borrow := bits.Sub64(it.Lo, other.Lo, 0)
-	hi, borrow := bits.Sub64(it.Hi, other.Hi, borrow)
+func (u Uint128) Sub(other Uint128) (rest Uint128, fits bool) {
+	lo, borrow := bits.Sub64(u.Lo, other.Lo, 0)
+	hi, borrow := bits.Sub64(u.Hi, other.Hi, borrow)
 	return Uint128{Hi: hi, Lo: lo}, borrow == 0
 }
 
 // MarshalText is the number in decimal digits: in JSON a string, since many readers round numbers.
-func (it Uint128) MarshalText() ([]byte, error) {
-	return []byte(it.String()), nil
+func (u Uint128) MarshalText() ([]byte, error) {
+	return []byte(u.String()), nil
 }
 
 // UnmarshalText reads what MarshalText wrote.
-func (it *Uint128) UnmarshalText(text []byte) error {
+func (u *Uint128) UnmarshalText(text []byte) error {
 	value, err := ParseUint128(string(text))
 	if err == nil {
-		*it = value
+		*u = value
 	}
 	return err
 }
 
-func (it Uint128) encode(data []byte) {
-	binary.LittleEndian.PutUint64(data[:8], it.Lo)
-	binary.LittleEndian.PutUint64(data[8:16], it.Hi)
+func (u Uint128) encode(data []byte) {
+	binary.LittleEndian.PutUint64(data[:8], u.Lo)
+	binary.LittleEndian.PutUint64(data[8:16], u.Hi)
 }
 
 func decodeUint128(data []byte) Uint128 {

@@ -8,7 +8,7 @@ import (
 	"strings"
 	"testing"
 
-	tb "ledger.example/tbclient"
+	tb "telovamish.org/tbclient"
 )
 
 const most = "340282366920938463463374607431768211455"

@@ -59,8 +59,8 @@ func (w *worker) serve(batch []*call) {
 		return // another worker took them
 	}
 	asked := joint{operation: batch[0].operation}
-	for _, it := range batch {
-		asked.bodies = append(asked.bodies, it.body)
+	for _, one := range batch {
+		asked.bodies = append(asked.bodies, one.body)
 	}
 	answer, isDoubtful, err := w.ask(asked, false)
 	if err == nil && isDoubtful {
@@ -138,7 +138,7 @@ func (w *worker) once(asked joint) (Answer, error) {
 
 // registered is the session, registered.
 func (w *worker) registered() (*Session, error) {
-	if it := w.session; it != nil && it.number == NumberMax && it.pending == nil {
+	if s := w.session; s != nil && s.number == numberMax && s.pending == nil {
 		w.session = nil // it has no next number
 	}
 	if w.session == nil {

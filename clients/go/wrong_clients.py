@@ -81,29 +81,29 @@ WRONG = {
     ),
     "edge: a session is compared by its lower half": (
         "replies.go",
-        "it.operation == asked.operation && it.session == session {",
-        "it.operation == asked.operation && uint32(it.session) == uint32(session) {",
+        "r.operation == asked.operation && r.session == session {",
+        "r.operation == asked.operation && uint32(r.session) == uint32(session) {",
     ),
     "edge: a client is compared by its lower half": (
         "replies.go",
-        "if it.client == asked.client &&",
-        "if it.client.Lo == asked.client.Lo &&",
+        "if r.client == asked.client &&",
+        "if r.client.Lo == asked.client.Lo &&",
     ),
     "edge: a number is compared by its lower half": (
         "replies.go",
-        "it.number == asked.number && it.operation",
-        "uint16(it.number) == uint16(asked.number) && it.operation",
+        "r.number == asked.number && r.operation",
+        "uint16(r.number) == uint16(asked.number) && r.operation",
     ),
     "edge: a limit within a reply leaves the connection": (
         "socket.go",
-        "\taddress := it.addresses[it.at]\n\tit.lose(conn)\n",
-        "\taddress := it.addresses[it.at]\n\tif ctx.Err() == nil {\n\t\tit.lose(conn)\n\t}\n",
+        "\taddress := s.addresses[s.at]\n\ts.lose(conn)\n",
+        "\taddress := s.addresses[s.at]\n\tif ctx.Err() == nil {\n\t\ts.lose(conn)\n\t}\n",
     ),
     "edge: a lookup that is lost is in doubt no longer": (
         "session.go",
-        "if err != nil && !mayBeSent(err) {\n\t\tit.mu.Lock()",
+        "if err != nil && !mayBeSent(err) {\n\t\ts.mu.Lock()",
         "if err != nil && (!mayBeSent(err) || request.Operation() > OperationCreateTransfers) {\n"
-        "\t\tit.mu.Lock()",
+        "\t\ts.mu.Lock()",
     ),
     "edge: NotYet after a loss ends the call": (
         "session.go",
@@ -118,52 +118,52 @@ WRONG = {
     ),
     "a new number for each retry": (
         "session.go",
-        "\tframe := it.pending\n\tit.mu.Unlock()\n\tif frame == nil {\n",
-        "\tif len(it.pending) > 0 && it.pending[28] != 2 && it.refusal == 99 {\n"
-        "\t\tit.pending[24]++\n\t}\n\tit.refusal = 99\n"
-        "\tframe := it.pending\n\tit.mu.Unlock()\n\tif frame == nil {\n",
+        "\tframe := s.pending\n\ts.mu.Unlock()\n\tif frame == nil {\n",
+        "\tif len(s.pending) > 0 && s.pending[28] != 2 && s.refusal == 99 {\n"
+        "\t\ts.pending[24]++\n\t}\n\ts.refusal = 99\n"
+        "\tframe := s.pending\n\ts.mu.Unlock()\n\tif frame == nil {\n",
     ),
     "a new id of the record for each retry": (
         "session.go",
-        "\t\tanswer, err := it.exchange(ctx, frame)\n",
+        "\t\tanswer, err := s.exchange(ctx, frame)\n",
         "\t\tif attempt > 1 && frame[28] == 130 {\n\t\t\tID().encode(frame[48:])\n\t\t}\n"
-        "\t\tanswer, err := it.exchange(ctx, frame)\n",
+        "\t\tanswer, err := s.exchange(ctx, frame)\n",
     ),
     "the next number before the reply": (
         "session.go",
-        "\tif it.pending != nil {\n\t\treturn it.doubt()\n\t}\n",
-        "\tif it.pending != nil {\n\t\tit.number++\n\t}\n",
+        "\tif s.pending != nil {\n\t\treturn s.doubt()\n\t}\n",
+        "\tif s.pending != nil {\n\t\ts.number++\n\t}\n",
     ),
     "a refusal is taken for an answer": (
         "session.go",
         "\t\treturn Answer{}, &RefusedError{",
-        "\t\tit.number, it.pending = header.number, nil\n"
+        "\t\ts.number, s.pending = header.number, nil\n"
         "\t\tif header.number > 0 {\n\t\t\treturn Answer{Operation: header.operation}, nil\n\t\t}\n"
         "\t\treturn Answer{}, &RefusedError{",
     ),
     "a refusal ends the doubt": (
         "session.go",
-        "\t\tit.refusal = header.status\n",
-        "\t\tit.refusal, it.pending = header.status, nil\n",
+        "\t\ts.refusal = header.status\n",
+        "\t\ts.refusal, s.pending = header.status, nil\n",
     ),
     "a lost reply ends the doubt": (
         "session.go",
-        "\tif err != nil && !mayBeSent(err) {\n\t\tit.mu.Lock()\n",
-        "\tif err != nil {\n\t\tit.mu.Lock()\n",
+        "\tif err != nil && !mayBeSent(err) {\n\t\ts.mu.Lock()\n",
+        "\tif err != nil {\n\t\ts.mu.Lock()\n",
     ),
     "a request is sent once": (
         "session.go",
-        "attempt == it.attempts ||",
+        "attempt == s.attempts ||",
         "attempt == 1 ||",
     ),
     "one sending too many": (
         "session.go",
-        "attempt == it.attempts ||",
-        "attempt > it.attempts ||",
+        "attempt == s.attempts ||",
+        "attempt > s.attempts ||",
     ),
     "pauses that do not grow": (
         "session.go",
-        "\t\tpause = doubled(pause, longest(it.pause, pauseMax))\n",
+        "\t\tpause = doubled(pause, longest(s.pause, pauseMax))\n",
         "",
     ),
     "a bad reply is sent again": (
@@ -178,36 +178,36 @@ WRONG = {
     ),
     "what was never sent stays in doubt": (
         "session.go",
-        "\tif err != nil && !mayBeSent(err) {\n\t\tit.mu.Lock()\n",
-        "\tif false {\n\t\tit.mu.Lock()\n",
+        "\tif err != nil && !mayBeSent(err) {\n\t\ts.mu.Lock()\n",
+        "\tif false {\n\t\ts.mu.Lock()\n",
     ),
     "a call that was cancelled ends the doubt": (
         "session.go",
-        "\tif err != nil && !mayBeSent(err) {\n\t\tit.mu.Lock()\n",
+        "\tif err != nil && !mayBeSent(err) {\n\t\ts.mu.Lock()\n",
         "\tif err != nil && (!mayBeSent(err) || errors.Is(err, ErrCancelled)) {\n"
-        "\t\tit.mu.Lock()\n",
+        "\t\ts.mu.Lock()\n",
     ),
     "goroutines send over one session at once": (
         "session.go",
-        "\tcase it.turn <- struct{}{}:\n\t\treturn nil\n",
+        "\tcase s.turn <- struct{}{}:\n\t\treturn nil\n",
         "\tdefault:\n\t\treturn nil\n",
         "session.go",
-        "func (it *Session) end() { <-it.turn }\n",
-        "func (it *Session) end() {}\n",
+        "func (s *Session) end() { <-s.turn }\n",
+        "func (s *Session) end() {}\n",
     ),
     "any reply will do": (
         "replies.go",
-        "\tif it.client == asked.client && it.number",
-        "\tif true || it.client == asked.client && it.number",
+        "\tif r.client == asked.client && r.number",
+        "\tif true || r.client == asked.client && r.number",
     ),
     "the session of a reply is not tested": (
         "replies.go",
-        " && it.session == session {",
-        " && (true || it.session == session) {",
+        " && r.session == session {",
+        " && (true || r.session == session) {",
     ),
     "unknown result codes are passed over": (
         "replies.go",
-        "\t\tcase !it.Result.Known():\n",
+        "\t\tcase !row.Result.Known():\n",
         "\t\tcase false:\n",
     ),
     "records are not compared with the ids": (
@@ -217,8 +217,8 @@ WRONG = {
     ),
     "a late reply is waited for on the old connection": (
         "socket.go",
-        "\tit.lose(conn)\n\tisRefused",
-        "\tif within.Err() == nil {\n\t\tit.lose(conn)\n\t}\n\tisRefused",
+        "\ts.lose(conn)\n\tisRefused",
+        "\tif within.Err() == nil {\n\t\ts.lose(conn)\n\t}\n\tisRefused",
     ),
     "a connection that was closed is not looked at": (
         "socket.go",
@@ -227,12 +227,12 @@ WRONG = {
     ),
     "always the first address": (
         "socket.go",
-        "\tit.at = (it.at + 1) % len(it.addresses)\n",
-        "\tit.at = 0\n",
+        "\ts.at = (s.at + 1) % len(s.addresses)\n",
+        "\ts.at = 0\n",
     ),
     "two requests in flight on a connection": (
         "socket.go",
-        "\tcase it.turn <- struct{}{}:\n\t\tdefer func() { <-it.turn }()\n",
+        "\tcase s.turn <- struct{}{}:\n\t\tdefer func() { <-s.turn }()\n",
         "\tdefault:\n",
     ),
     "TLS without a test of the certificate": (
@@ -253,13 +253,13 @@ WRONG = {
     ),
     "a file forgets the request in doubt": (
         "saved.go",
-        "\t\tit.Client, it.Session, it.Number, it.Pending)\n",
-        "\t\tit.Client, it.Session, it.Number, []byte{})\n",
+        "\t\ts.Client, s.Session, s.Number, s.Pending)\n",
+        "\t\ts.Client, s.Session, s.Number, []byte{})\n",
     ),
     "bytes of another session are loaded": (
         "saved.go",
-        "\tif asked.client != it.Client || asked.session",
-        "\tif false && asked.client != it.Client || false && asked.session",
+        "\tif asked.client != s.Client || asked.session",
+        "\tif false && asked.client != s.Client || false && asked.session",
     ),
     "two fields of one name: the last one counts": (
         "saved.go",
@@ -268,8 +268,8 @@ WRONG = {
     ),
     "ids follow the clock back": (
         "ids.go",
-        "\tif now <= int64(it.last.Hi>>highBits) {\n",
-        "\tif now == int64(it.last.Hi>>highBits) {\n",
+        "\tif now <= int64(i.last.Hi>>highBits) {\n",
+        "\tif now == int64(i.last.Hi>>highBits) {\n",
     ),
     "8191 items": ("names.go", "ItemsMax   = 8190", "ItemsMax   = 8191"),
     "ledger and code change places": (

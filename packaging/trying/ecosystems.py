@@ -67,7 +67,7 @@ def tarball(dist: Path, room: Path, version: str) -> None:
 
 def module(dist: Path, room: Path, version: str) -> None:
     """Go takes the zip from a proxy that is a folder, and builds a program over it."""
-    name = "ledger.example/tbclient"
+    name = "telovamish.org/tbclient"
     proxy, project = room / "proxy" / name / "@v", room / "project"
     proxy.mkdir(parents=True)
     project.mkdir()

@@ -41,14 +41,13 @@ def whole(table):
 def constants(table):
     size, most = t.sizes(table), t.limits(table)
     rows = [
-        ("HeaderSize", size["header"], "bytes of the header of a request or reply"),
-        ("RecordSize", size["record"], "bytes of an account or a transfer"),
-        ("IDSize", size["id"], "bytes of an id"),
-        ("ResultSize", size["result"], "bytes of the result of an event"),
+        ("headerSize", size["header"], "bytes of the header of a request or reply"),
+        ("recordSize", size["record"], "bytes of an account or a transfer"),
+        ("idSize", size["id"], "bytes of an id"),
+        ("resultSize", size["result"], "bytes of the result of an event"),
         ("ItemsMax", most["items_max"], "accounts, transfers or ids in a request"),
         ("ClientsMax", most["clients_max"], "clients that can have a session at one time"),
-        ("NumberMax", most["number_max"], "the last number of a request in its session"),
-        ("TimeMax", most["time_max"], "no entry has a later time, in nanoseconds"),
+        ("numberMax", most["number_max"], "the last number of a request in its session"),
     ]
     return block("// Sizes and limits.", [(name, "", value, says) for name, value, says in rows])
 
@@ -67,6 +66,7 @@ def block(about, rows):
 
 def numbered(kind, rows):
     name, under, prefix, about = KINDS[kind]
+    receiver = name[0].lower()
     constants = [(name_of(prefix, word), name, number, says) for number, word, says in rows]
     lines = [
         f"// {name} {about}",
@@ -85,16 +85,16 @@ def numbered(kind, rows):
         "}",
         "",
         "// String returns the name, or the number where it has none.",
-        f"func (it {name}) String() string {{",
-        f"\tif name, ok := {table}[it]; ok {{",
+        f"func ({receiver} {name}) String() string {{",
+        f"\tif name, ok := {table}[{receiver}]; ok {{",
         "\t\treturn name",
         "\t}",
-        "\treturn strconv.FormatUint(uint64(it), 10)",
+        f"\treturn strconv.FormatUint(uint64({receiver}), 10)",
         "}",
         "",
         "// Known reports whether the number has a name.",
-        f"func (it {name}) Known() bool {{",
-        f"\t_, ok := {table}[it]",
+        f"func ({receiver} {name}) Known() bool {{",
+        f"\t_, ok := {table}[{receiver}]",
         "\treturn ok",
         "}",
         "",
@@ -120,11 +120,11 @@ def flags(kind, rows):
         "}",
         "",
         "// String returns the names of the flags, joined by |; bits without a name are a number.",
-        f"func (it {name}) String() string {{",
+        f"func (f {name}) String() string {{",
         "\tvar names string",
-        "\trest := it",
+        "\trest := f",
         f"\tfor _, row := range {table} {{",
-        "\t\tif it&row.flag != 0 {",
+        "\t\tif f&row.flag != 0 {",
         "\t\t\tnames = joined(names, row.name)",
         "\t\t\trest &^= row.flag",
         "\t\t}",
@@ -151,7 +151,7 @@ def flags(kind, rows):
 
 def record(table, kind):
     """A record as a struct, and its bytes both ways."""
-    name, fields = t.camel(kind), t.fields(table, kind)
+    name, fields, receiver = t.camel(kind), t.fields(table, kind), kind[0]
     article = "an" if kind == "account" else "a"
     rows = [
         (name_of("", it["name"]), go_type(kind, it), f"at{name}{name_of('', it['name'])}", it)
@@ -170,13 +170,14 @@ def record(table, kind):
         "}",
         "",
         "// encode writes the record into its place in a body.",
-        f"func (it *{name}) encode(data []byte) {{",
+        f"func ({receiver} *{name}) encode(data []byte) {{",
     ]
     for field, type_, at, it in rows:
         if type_ == "Uint128":
-            lines.append(f"\tit.{field}.encode(data[{at}:])")
+            lines.append(f"\t{receiver}.{field}.encode(data[{at}:])")
         else:
-            plain = f"uint16(it.{field})" if it["name"] == "flags" else f"it.{field}"
+            value = f"{receiver}.{field}"
+            plain = f"uint16({value})" if it["name"] == "flags" else value
             lines.append(f"\tbinary.LittleEndian.Put{bits(it)}(data[{at}:], {plain})")
     lines += [
         "}",

@@ -15,7 +15,7 @@ import (
 	"sync"
 	"time"
 
-	"ledger.example/tbclient"
+	"telovamish.org/tbclient"
 )
 
 var features = []string{"unix", "tcp", "addresses", "tls", "parallel", "cancel", "shared"}
@@ -32,41 +32,41 @@ type runner struct {
 }
 
 func newRunner() *runner {
-	it := &runner{
+	r := &runner{
 		transports: map[string]*tbclient.Socket{},
 		sessions:   map[string]*tbclient.Session{},
 		shared:     map[string]*tbclient.Client{},
 		begun:      map[string]*begunCall{},
 	}
-	it.calls = map[string]func(object) (any, error){
-		"hello":    it.hello,
-		"reset":    it.reset,
-		"connect":  it.connect,
-		"open":     it.open,
-		"register": it.register,
-		"load":     it.load,
-		"resume":   it.resume,
-		"prepare":  it.prepare,
-		"retry":    it.retry,
-		"ask":      it.ask,
-		"saved":    it.saved,
-		"save":     it.save,
-		"in_doubt": it.inDoubt,
-		"close":    it.close,
-		"drop":     it.drop,
-		"ids":      it.ids,
-		"parallel": it.parallel,
-		"share":    it.share,
-		"begin":    it.begin,
-		"end":      it.end,
-		"leave":    it.leave,
+	r.calls = map[string]func(object) (any, error){
+		"hello":    r.hello,
+		"reset":    r.reset,
+		"connect":  r.connect,
+		"open":     r.open,
+		"register": r.register,
+		"load":     r.load,
+		"resume":   r.resume,
+		"prepare":  r.prepare,
+		"retry":    r.retry,
+		"ask":      r.ask,
+		"saved":    r.saved,
+		"save":     r.save,
+		"in_doubt": r.inDoubt,
+		"close":    r.close,
+		"drop":     r.drop,
+		"ids":      r.ids,
+		"parallel": r.parallel,
+		"share":    r.share,
+		"begin":    r.begin,
+		"end":      r.end,
+		"leave":    r.leave,
 	}
-	return it
+	return r
 }
 
 // answer makes a call.
-func (it *runner) answer(line object) object {
-	call, isKnown := it.calls[text(line["do"])]
+func (r *runner) answer(line object) object {
+	call, isKnown := r.calls[text(line["do"])]
 	if !isKnown {
 		return object{"unsupported": fmt.Sprintf("no call %v", line["do"])}
 	}
@@ -98,34 +98,34 @@ func answerOf(call func() (any, error)) object {
 }
 
 func text(given any) string {
-	it, _ := given.(string)
-	return it
+	value, _ := given.(string)
+	return value
 }
 
-func (it *runner) session(line object) (*tbclient.Session, error) {
-	it.mu.Lock()
-	defer it.mu.Unlock()
-	session, isThere := it.sessions[text(line["session"])]
+func (r *runner) session(line object) (*tbclient.Session, error) {
+	r.mu.Lock()
+	defer r.mu.Unlock()
+	session, isThere := r.sessions[text(line["session"])]
 	if !isThere {
 		return nil, unsupported(fmt.Sprintf("no session %v", line["session"]))
 	}
 	return session, nil
 }
 
-func (it *runner) transport(line object) (*tbclient.Socket, error) {
-	it.mu.Lock()
-	defer it.mu.Unlock()
-	transport, isThere := it.transports[text(line["transport"])]
+func (r *runner) transport(line object) (*tbclient.Socket, error) {
+	r.mu.Lock()
+	defer r.mu.Unlock()
+	transport, isThere := r.transports[text(line["transport"])]
 	if !isThere {
 		return nil, unsupported(fmt.Sprintf("no transport %v", line["transport"]))
 	}
 	return transport, nil
 }
 
-func (it *runner) keep(line object, session *tbclient.Session) {
-	it.mu.Lock()
-	defer it.mu.Unlock()
-	it.sessions[text(line["session"])] = session
+func (r *runner) keep(line object, session *tbclient.Session) {
+	r.mu.Lock()
+	defer r.mu.Unlock()
+	r.sessions[text(line["session"])] = session
 }
 
 // within is the context of a call: the caller's own limit where it has one.
@@ -140,33 +140,33 @@ func within(ctx context.Context, line object) (context.Context, context.CancelFu
 
 // Transports
 
-func (it *runner) hello(object) (any, error) {
+func (r *runner) hello(object) (any, error) {
 	language := "Go " + strings.TrimPrefix(runtime.Version(), "go")
 	return object{"protocol": 1, "client": "tbclient", "language": language, "features": features}, nil
 }
 
-func (it *runner) reset(object) (any, error) {
-	it.mu.Lock()
-	defer it.mu.Unlock()
-	for name, transport := range it.transports {
+func (r *runner) reset(object) (any, error) {
+	r.mu.Lock()
+	defer r.mu.Unlock()
+	for name, transport := range r.transports {
 		transport.Close()
-		delete(it.transports, name)
+		delete(r.transports, name)
 	}
-	for name := range it.sessions {
-		delete(it.sessions, name)
+	for name := range r.sessions {
+		delete(r.sessions, name)
 	}
-	for name, call := range it.begun {
+	for name, call := range r.begun {
 		call.cancel()
-		delete(it.begun, name)
+		delete(r.begun, name)
 	}
-	for name, client := range it.shared {
+	for name, client := range r.shared {
 		go client.Close() // a request that is in flight has no reply any more
-		delete(it.shared, name)
+		delete(r.shared, name)
 	}
 	return nil, nil
 }
 
-func (it *runner) connect(line object) (any, error) {
+func (r *runner) connect(line object) (any, error) {
 	given, _ := line["addresses"].([]any)
 	addresses, err := allOf(given, addressOf)
 	if err != nil {
@@ -191,9 +191,9 @@ func (it *runner) connect(line object) (any, error) {
 	if err != nil {
 		return nil, err
 	}
-	it.mu.Lock()
-	defer it.mu.Unlock()
-	it.transports[text(line["transport"])] = transport
+	r.mu.Lock()
+	defer r.mu.Unlock()
+	r.transports[text(line["transport"])] = transport
 	return nil, nil
 }
 
@@ -226,7 +226,7 @@ func configOf(given object) (*tls.Config, error) {
 // Sessions
 
 // options are those of a session, and its transport.
-func (it *runner) options(line object) (*tbclient.Socket, []tbclient.SessionOption, error) {
+func (r *runner) options(line object) (*tbclient.Socket, []tbclient.SessionOption, error) {
 	var options []tbclient.SessionOption
 	if given, isGiven := line["client"]; isGiven {
 		client, err := uint128Of(given)
@@ -249,12 +249,12 @@ func (it *runner) options(line object) (*tbclient.Socket, []tbclient.SessionOpti
 		}
 		options = append(options, tbclient.WithPause(pause))
 	}
-	transport, err := it.transport(line)
+	transport, err := r.transport(line)
 	return transport, options, err
 }
 
-func (it *runner) open(line object) (any, error) {
-	transport, options, err := it.options(line)
+func (r *runner) open(line object) (any, error) {
+	transport, options, err := r.options(line)
 	if err != nil {
 		return nil, err
 	}
@@ -262,12 +262,12 @@ func (it *runner) open(line object) (any, error) {
 	if err != nil {
 		return nil, err
 	}
-	it.keep(line, session)
+	r.keep(line, session)
 	return object{"client": session.Client().String()}, nil
 }
 
-func (it *runner) register(line object) (any, error) {
-	transport, options, err := it.options(line)
+func (r *runner) register(line object) (any, error) {
+	transport, options, err := r.options(line)
 	if err != nil {
 		return nil, err
 	}
@@ -280,13 +280,13 @@ func (it *runner) register(line object) (any, error) {
 	if err != nil {
 		return nil, err
 	}
-	it.keep(line, session)
+	r.keep(line, session)
 	saved := session.Saved()
 	return object{"client": saved.Client.String(), "session": fmt.Sprint(saved.Session)}, nil
 }
 
-func (it *runner) load(line object) (any, error) {
-	transport, options, err := it.options(line)
+func (r *runner) load(line object) (any, error) {
+	transport, options, err := r.options(line)
 	if err != nil {
 		return nil, err
 	}
@@ -294,12 +294,12 @@ func (it *runner) load(line object) (any, error) {
 	if err != nil {
 		return nil, err
 	}
-	it.keep(line, session)
+	r.keep(line, session)
 	return shownSaved(session.Saved()), nil
 }
 
-func (it *runner) resume(line object) (any, error) {
-	transport, options, err := it.options(line)
+func (r *runner) resume(line object) (any, error) {
+	transport, options, err := r.options(line)
 	if err != nil {
 		return nil, err
 	}
@@ -311,7 +311,7 @@ func (it *runner) resume(line object) (any, error) {
 	if err != nil {
 		return nil, err
 	}
-	it.keep(line, session)
+	r.keep(line, session)
 	return shownSaved(session.Saved()), nil
 }
 
@@ -333,8 +333,8 @@ func savedOf(given any) (saved tbclient.Saved, err error) {
 	return saved, err
 }
 
-func (it *runner) prepare(line object) (any, error) {
-	session, err := it.session(line)
+func (r *runner) prepare(line object) (any, error) {
+	session, err := r.session(line)
 	if err != nil {
 		return nil, err
 	}
@@ -351,22 +351,22 @@ func (it *runner) prepare(line object) (any, error) {
 
 // change changes a caller's items after a call.
 func change(request tbclient.Request) {
-	switch it := request.(type) {
+	switch items := request.(type) {
 	case tbclient.CreateAccounts:
-		for at := range it {
-			it[at] = tbclient.Account{}
+		for at := range items {
+			items[at] = tbclient.Account{}
 		}
 	case tbclient.CreateTransfers:
-		for at := range it {
-			it[at] = tbclient.Transfer{}
+		for at := range items {
+			items[at] = tbclient.Transfer{}
 		}
 	case tbclient.LookupAccounts:
-		for at := range it {
-			it[at] = tbclient.Uint128{}
+		for at := range items {
+			items[at] = tbclient.Uint128{}
 		}
 	case tbclient.LookupTransfers:
-		for at := range it {
-			it[at] = tbclient.Uint128{}
+		for at := range items {
+			items[at] = tbclient.Uint128{}
 		}
 	}
 }
@@ -378,8 +378,8 @@ func itemsOf(line object) any {
 	return []any{}
 }
 
-func (it *runner) retry(line object) (any, error) {
-	session, err := it.session(line)
+func (r *runner) retry(line object) (any, error) {
+	session, err := r.session(line)
 	if err != nil {
 		return nil, err
 	}
@@ -408,15 +408,15 @@ type asking interface {
 	LookupTransfers(context.Context, []tbclient.Uint128) ([]tbclient.Transfer, error)
 }
 
-func (it *runner) ask(line object) (any, error) {
+func (r *runner) ask(line object) (any, error) {
 	if _, isShared := line["shared"]; isShared {
-		client, err := it.client(line)
+		client, err := r.client(line)
 		if err != nil {
 			return nil, err
 		}
 		return askOf(client, line)
 	}
-	session, err := it.session(line)
+	session, err := r.session(line)
 	if err != nil {
 		return nil, err
 	}
@@ -473,24 +473,24 @@ func asked[T any](name string, said T, err error, required bool, shown func(T) [
 	return object{name: shown(said)}, err
 }
 
-func (it *runner) saved(line object) (any, error) {
-	session, err := it.session(line)
+func (r *runner) saved(line object) (any, error) {
+	session, err := r.session(line)
 	if err != nil {
 		return nil, err
 	}
 	return shownSaved(session.Saved()), nil
 }
 
-func (it *runner) save(line object) (any, error) {
-	session, err := it.session(line)
+func (r *runner) save(line object) (any, error) {
+	session, err := r.session(line)
 	if err != nil {
 		return nil, err
 	}
 	return nil, session.Save(text(line["path"]))
 }
 
-func (it *runner) inDoubt(line object) (any, error) {
-	session, err := it.session(line)
+func (r *runner) inDoubt(line object) (any, error) {
+	session, err := r.session(line)
 	if err != nil {
 		return nil, err
 	}
@@ -501,38 +501,38 @@ func (it *runner) inDoubt(line object) (any, error) {
 	return shownAsked(asked), nil
 }
 
-func (it *runner) close(line object) (any, error) {
+func (r *runner) close(line object) (any, error) {
 	if _, isSession := line["session"]; isSession {
-		session, err := it.session(line)
+		session, err := r.session(line)
 		if err != nil {
 			return nil, err
 		}
 		return nil, session.Close()
 	}
 	if _, isShared := line["shared"]; isShared {
-		client, err := it.client(line)
+		client, err := r.client(line)
 		if err == nil {
 			client.Close()
 		}
 		return nil, err
 	}
-	transport, err := it.transport(line)
+	transport, err := r.transport(line)
 	if err != nil {
 		return nil, err
 	}
 	return nil, transport.Close()
 }
 
-func (it *runner) drop(line object) (any, error) {
-	it.mu.Lock()
-	defer it.mu.Unlock()
-	delete(it.sessions, text(line["session"]))
+func (r *runner) drop(line object) (any, error) {
+	r.mu.Lock()
+	defer r.mu.Unlock()
+	delete(r.sessions, text(line["session"]))
 	return nil, nil
 }
 
 // Ids, and calls at once
 
-func (it *runner) ids(line object) (any, error) {
+func (r *runner) ids(line object) (any, error) {
 	if times, isGiven := line["times"].([]any); isGiven {
 		return seamIDs(times, line["random"])
 	}
@@ -565,8 +565,8 @@ func (it *runner) ids(line object) (any, error) {
 func seamIDs(times []any, random any) (any, error) {
 	var drawn bytes.Buffer
 	list, _ := random.([]any)
-	for _, it := range list {
-		data, err := hex.DecodeString(text(it))
+	for _, item := range list {
+		data, err := hex.DecodeString(text(item))
 		if err != nil {
 			return nil, err
 		}
@@ -575,8 +575,8 @@ func seamIDs(times []any, random any) (any, error) {
 	var now time.Time
 	ids := tbclient.NewIDs(func() time.Time { return now }, &drawn)
 	made := []string{}
-	for _, it := range times {
-		number, _ := it.(json.Number)
+	for _, item := range times {
+		number, _ := item.(json.Number)
 		milliseconds, err := number.Int64()
 		if err != nil {
 			return nil, err
@@ -587,12 +587,12 @@ func seamIDs(times []any, random any) (any, error) {
 	return made, nil
 }
 
-func (it *runner) parallel(line object) (any, error) {
+func (r *runner) parallel(line object) (any, error) {
 	calls, _ := line["calls"].([]any)
 	answers := make([]object, len(calls))
 	together(len(calls), func(at int) {
 		call, _ := calls[at].(object)
-		answers[at] = it.answer(call)
+		answers[at] = r.answer(call)
 	})
 	return answers, nil
 }

@@ -4,7 +4,7 @@ import (
 	"context"
 	"fmt"
 
-	"ledger.example/tbclient"
+	"telovamish.org/tbclient"
 )
 
 // begunCall is a call of a shared client that goes on.
@@ -13,17 +13,17 @@ type begunCall struct {
 	answer chan object
 }
 
-func (it *runner) client(line object) (*tbclient.Client, error) {
-	it.mu.Lock()
-	defer it.mu.Unlock()
-	client, isThere := it.shared[text(line["shared"])]
+func (r *runner) client(line object) (*tbclient.Client, error) {
+	r.mu.Lock()
+	defer r.mu.Unlock()
+	client, isThere := r.shared[text(line["shared"])]
 	if !isThere {
 		return nil, unsupported(fmt.Sprintf("no shared client %v", line["shared"]))
 	}
 	return client, nil
 }
 
-func (it *runner) share(line object) (any, error) {
+func (r *runner) share(line object) (any, error) {
 	given, _ := line["addresses"].([]any)
 	addresses, err := allOf(given, textOfAddress)
 	if err != nil {
@@ -48,9 +48,9 @@ func (it *runner) share(line object) (any, error) {
 	if err != nil {
 		return nil, err
 	}
-	it.mu.Lock()
-	defer it.mu.Unlock()
-	it.shared[text(line["shared"])] = client
+	r.mu.Lock()
+	defer r.mu.Unlock()
+	r.shared[text(line["shared"])] = client
 	return nil, nil
 }
 
@@ -63,8 +63,8 @@ func textOfAddress(given any) (string, error) {
 }
 
 // begin begins a call, which waits for `end`.
-func (it *runner) begin(line object) (any, error) {
-	client, err := it.client(line)
+func (r *runner) begin(line object) (any, error) {
+	client, err := r.client(line)
 	if err != nil {
 		return nil, err
 	}
@@ -76,16 +76,16 @@ func (it *runner) begin(line object) (any, error) {
 		call.answer <- answerOf(func() (any, error) { return askWithin(ctx, client, line) })
 	}()
 	<-started
-	it.mu.Lock()
-	defer it.mu.Unlock()
-	it.begun[text(line["call"])] = call
+	r.mu.Lock()
+	defer r.mu.Unlock()
+	r.begun[text(line["call"])] = call
 	return nil, nil
 }
 
-func (it *runner) call(line object) (*begunCall, error) {
-	it.mu.Lock()
-	defer it.mu.Unlock()
-	call, isThere := it.begun[text(line["call"])]
+func (r *runner) call(line object) (*begunCall, error) {
+	r.mu.Lock()
+	defer r.mu.Unlock()
+	call, isThere := r.begun[text(line["call"])]
 	if !isThere {
 		return nil, unsupported(fmt.Sprintf("no call %v", line["call"]))
 	}
@@ -95,18 +95,18 @@ func (it *runner) call(line object) (*begunCall, error) {
 // endedCall is the answer of a call that was begun.
 type endedCall object
 
-func (it endedCall) Error() string { return fmt.Sprint(object(it)) }
+func (e endedCall) Error() string { return fmt.Sprint(object(e)) }
 
-func (it *runner) end(line object) (any, error) {
-	call, err := it.call(line)
+func (r *runner) end(line object) (any, error) {
+	call, err := r.call(line)
 	if err != nil {
 		return nil, err
 	}
 	return nil, endedCall(<-call.answer)
 }
 
-func (it *runner) leave(line object) (any, error) {
-	call, err := it.call(line)
+func (r *runner) leave(line object) (any, error) {
+	call, err := r.call(line)
 	if err == nil {
 		call.cancel()
 	}

@@ -12,7 +12,7 @@ import (
 	"strconv"
 	"time"
 
-	"ledger.example/tbclient"
+	"telovamish.org/tbclient"
 )
 
 // object is a JSON object. Its numbers are json.Number.
@@ -28,12 +28,12 @@ func decodeLine(text []byte) (object, error) {
 // unrepresentable says that no caller in Go can pass such a value: it would not compile.
 type unrepresentable string
 
-func (it unrepresentable) Error() string { return string(it) }
+func (u unrepresentable) Error() string { return string(u) }
 
 // unsupported says that the kit asks for what this runner does not know.
 type unsupported string
 
-func (it unsupported) Error() string { return string(it) }
+func (u unsupported) Error() string { return string(u) }
 
 // What the kit gives
 
@@ -98,11 +98,11 @@ func recordOf[T tbclient.Account | tbclient.Transfer](given any, kind string, fl
 	}
 	value := reflect.ValueOf(&record).Elem()
 	for at := 0; at < value.NumField(); at++ {
-		it, isThere := fields[value.Type().Field(at).Tag.Get("json")]
+		f, isThere := fields[value.Type().Field(at).Tag.Get("json")]
 		if !isThere {
 			continue
 		}
-		if err := setField(value.Field(at), it, flag); err != nil {
+		if err := setField(value.Field(at), f, flag); err != nil {
 			return record, err
 		}
 	}
@@ -129,12 +129,12 @@ func setField(field reflect.Value, given any, flag func(uint16) string) error {
 
 // listOf is the list that is meant: of these items, or of so many with ids that rise.
 func listOf(given any) ([]any, error) {
-	switch it := given.(type) {
+	switch value := given.(type) {
 	case []any:
-		return it, nil
+		return value, nil
 	case object:
-		if count, isCount := it["count"].(json.Number); isCount {
-			return risingOf(count, it["first"])
+		if count, isCount := value["count"].(json.Number); isCount {
+			return risingOf(count, value["first"])
 		}
 	case nil:
 		return nil, unrepresentable("Go's nil slice is the empty list")
@@ -160,8 +160,8 @@ func risingOf(count json.Number, first any) ([]any, error) {
 	for at := range items {
 		if items[at] = id.String(); isRecord {
 			next := make(object, len(record))
-			for name, it := range record {
-				next[name] = it
+			for name, value := range record {
+				next[name] = value
 			}
 			next["id"] = id.String()
 			items[at] = next
@@ -185,13 +185,13 @@ func requestOf(operation, items any) (tbclient.Request, error) {
 	}
 	switch operation {
 	case tbclient.OperationCreateAccounts.String():
-		records, err := allOf(list, func(it any) (tbclient.Account, error) {
-			return recordOf[tbclient.Account](it, "account", accountFlag)
+		records, err := allOf(list, func(a any) (tbclient.Account, error) {
+			return recordOf[tbclient.Account](a, "account", accountFlag)
 		})
 		return tbclient.CreateAccounts(records), err
 	case tbclient.OperationCreateTransfers.String():
-		records, err := allOf(list, func(it any) (tbclient.Transfer, error) {
-			return recordOf[tbclient.Transfer](it, "transfer", transferFlag)
+		records, err := allOf(list, func(a any) (tbclient.Transfer, error) {
+			return recordOf[tbclient.Transfer](a, "transfer", transferFlag)
 		})
 		return tbclient.CreateTransfers(records), err
 	case tbclient.OperationLookupAccounts.String():
@@ -206,9 +206,9 @@ func requestOf(operation, items any) (tbclient.Request, error) {
 
 func allOf[T any](list []any, one func(any) (T, error)) ([]T, error) {
 	found := make([]T, len(list))
-	for at, it := range list {
+	for at, item := range list {
 		var err error
-		if found[at], err = one(it); err != nil {
+		if found[at], err = one(item); err != nil {
 			return nil, err
 		}
 	}
@@ -241,13 +241,13 @@ func shownRecord(record any, flag func(uint16) string) object {
 	value := reflect.ValueOf(record)
 	for at := 0; at < value.NumField(); at++ {
 		name := value.Type().Field(at).Tag.Get("json")
-		switch it := value.Field(at).Interface().(type) {
+		switch field := value.Field(at).Interface().(type) {
 		case tbclient.Uint128:
-			shown[name] = it.String()
+			shown[name] = field.String()
 		case tbclient.AccountFlags:
-			shown[name] = shownFlags(uint16(it), flag)
+			shown[name] = shownFlags(uint16(field), flag)
 		case tbclient.TransferFlags:
-			shown[name] = shownFlags(uint16(it), flag)
+			shown[name] = shownFlags(uint16(field), flag)
 		default:
 			shown[name] = strconv.FormatUint(value.Field(at).Uint(), 10)
 		}
@@ -271,21 +271,21 @@ func shownFlags(flags uint16, name func(uint16) string) any {
 
 func shownAll[T any](items []T, one func(T) any) []any {
 	shown := make([]any, len(items))
-	for at, it := range items {
-		shown[at] = one(it)
+	for at, item := range items {
+		shown[at] = one(item)
 	}
 	return shown
 }
 
-func shownAccount(it tbclient.Account) any { return shownRecord(it, accountFlag) }
+func shownAccount(a tbclient.Account) any { return shownRecord(a, accountFlag) }
 
-func shownTransfer(it tbclient.Transfer) any { return shownRecord(it, transferFlag) }
+func shownTransfer(t tbclient.Transfer) any { return shownRecord(t, transferFlag) }
 
-func shownID(it tbclient.Uint128) any { return it.String() }
+func shownID(u tbclient.Uint128) any { return u.String() }
 
 func shownResults[C tbclient.Code](results tbclient.Results[C]) []any {
-	return shownAll(results, func(it tbclient.Result[C]) any {
-		return object{"index": it.Index, "result": it.Result.String()}
+	return shownAll(results, func(r tbclient.Result[C]) any {
+		return object{"index": r.Index, "result": r.Result.String()}
 	})
 }
 
@@ -320,15 +320,15 @@ func shownAsked(asked tbclient.Asked) any {
 		"operation": asked.Request.Operation().String(),
 		"items":     []any{},
 	}
-	switch it := asked.Request.(type) {
+	switch items := asked.Request.(type) {
 	case tbclient.CreateAccounts:
-		shown["items"] = shownAll(it, shownAccount)
+		shown["items"] = shownAll(items, shownAccount)
 	case tbclient.CreateTransfers:
-		shown["items"] = shownAll(it, shownTransfer)
+		shown["items"] = shownAll(items, shownTransfer)
 	case tbclient.LookupAccounts:
-		shown["items"] = shownAll(it, shownID)
+		shown["items"] = shownAll(items, shownID)
 	case tbclient.LookupTransfers:
-		shown["items"] = shownAll(it, shownID)
+		shown["items"] = shownAll(items, shownID)
 	}
 	return shown
 }
@@ -358,8 +358,8 @@ func shownError(err error) object {
 		shown["name"] = refused.Status.String()
 	case errors.As(err, &failed):
 		shown["name"] = "EventsFailed"
-		shown["results"] = shownAll(failed.Events, func(it tbclient.FailedEvent) any {
-			return object{"index": it.Index, "result": it.Result.String()}
+		shown["results"] = shownAll(failed.Events, func(f tbclient.FailedEvent) any {
+			return object{"index": f.Index, "result": f.Result.String()}
 		})
 	case errors.As(err, &path), errors.As(err, &link):
 		shown["name"], shown["sent"] = "File", false
@@ -374,7 +374,7 @@ func shownError(err error) object {
 }
 
 func nameOf(err error) string {
-	for name, it := range map[string]error{
+	for name, kind := range map[string]error{
 		"InDoubt":        tbclient.ErrInDoubt,
 		"NothingInDoubt": tbclient.ErrNothingInDoubt,
 		"Closed":         tbclient.ErrClosed,
@@ -382,7 +382,7 @@ func nameOf(err error) string {
 		"BadReply":       tbclient.ErrBadReply,
 		"Cancelled":      tbclient.ErrCancelled,
 	} {
-		if errors.Is(err, it) {
+		if errors.Is(err, kind) {
 			return name
 		}
 	}

@@ -17,8 +17,11 @@ import (
 	"sync/atomic"
 	"time"
 
-	"ledger.example/tbclient"
+	"telovamish.org/tbclient"
 )
+
+// The bytes of a frame's header, and of a record.
+const headerSize, recordSize = 48, 128
 
 func main() {
 	if err := run(os.Args[1:]); err != nil {
@@ -140,8 +143,8 @@ func serve(path string) error {
 // answer answers each request of a connection with an empty body.
 func answer(conn net.Conn, commit *atomic.Uint64) {
 	defer conn.Close()
-	var header [tbclient.HeaderSize]byte
-	body := make([]byte, tbclient.ItemsMax*tbclient.RecordSize)
+	var header [headerSize]byte
+	body := make([]byte, tbclient.ItemsMax*recordSize)
 	for {
 		if _, err := io.ReadFull(conn, header[:]); err != nil {
 			return
