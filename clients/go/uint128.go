@@ -2,6 +2,7 @@ package tbclient
 
 import (
 	"encoding/binary"
+	"encoding/hex"
 	"fmt"
 	"math/big"
 	"math/bits"
@@ -35,11 +36,35 @@ func BigIntToUint128(value *big.Int) (Uint128, error) {
 		return Uint128{}, invalid("Uint128", "must be at most 2^128 - 1, not a number of %d bits", value.BitLen())
 	}
 	var data [16]byte
-	value.FillBytes(data[:])
-	return Uint128{Hi: binary.BigEndian.Uint64(data[:8]), Lo: binary.BigEndian.Uint64(data[8:])}, nil
+	return ofBigEndian(value.FillBytes(data[:])), nil
 }
 
-const uint128Digits = 39 // of 2^128 - 1
+func ofBigEndian(data []byte) Uint128 {
+	return Uint128{Hi: binary.BigEndian.Uint64(data[:8]), Lo: binary.BigEndian.Uint64(data[8:])}
+}
+
+// BytesToUint128 is the number of these bytes, the low one first, as TigerBeetle's clients have them.
+func BytesToUint128(value [16]byte) Uint128 {
+	return decodeUint128(value[:])
+}
+
+const (
+	uint128Digits    = 39 // of 2^128 - 1
+	uint128HexDigits = 32
+)
+
+// HexStringToUint128 reads a number in 1 to 32 hexadecimal digits, as %x prints it. Anything else, as
+// a sign or 0x, is an [InvalidError].
+func HexStringToUint128(text string) (Uint128, error) {
+	if text == "" || len(text) > uint128HexDigits {
+		return Uint128{}, invalid("Uint128", "must have 1 to 32 hexadecimal digits, not %d", len(text))
+	}
+	data, err := hex.DecodeString(strings.Repeat("0", uint128HexDigits-len(text)) + text)
+	if err != nil {
+		return Uint128{}, invalid("Uint128", "must be hexadecimal digits, not %q", text)
+	}
+	return ofBigEndian(data), nil
+}
 
 // ParseUint128 reads a number in decimal digits. Anything else, as a sign or a space, is an
 // [InvalidError].
@@ -66,6 +91,12 @@ func (u Uint128) BigInt() *big.Int {
 	binary.BigEndian.PutUint64(data[:8], u.Hi)
 	binary.BigEndian.PutUint64(data[8:], u.Lo)
 	return new(big.Int).SetBytes(data[:])
+}
+
+// Bytes are the number's bytes, the low one first, as TigerBeetle's clients have them.
+func (u Uint128) Bytes() (data [16]byte) {
+	u.encode(data[:])
+	return data
 }
 
 // String is the number in decimal digits.

@@ -40,6 +40,33 @@ func TestUint128AndBigInt(t *testing.T) {
 	}
 }
 
+func TestUint128AndHex(t *testing.T) {
+	for text, wanted := range map[string]tb.Uint128{
+		"0": {}, "a": {Lo: 10}, "0A": {Lo: 10}, "10000000000000abc": {Hi: 1, Lo: 0xabc},
+		strings.Repeat("f", 32): tb.AmountMax, strings.Repeat("0", 31) + "1": {Lo: 1},
+	} {
+		value, err := tb.HexStringToUint128(text)
+		if err != nil || value != wanted {
+			t.Errorf("%s is %x, %v", text, value, err)
+		}
+		if back, err := tb.HexStringToUint128(fmt.Sprintf("%x", value)); err != nil || back != wanted {
+			t.Errorf("%s comes back as %x, %v", text, back, err)
+		}
+	}
+	for _, text := range []string{"", "g", "0x1", "-1", "+1", " 1", strings.Repeat("0", 33)} {
+		if _, err := tb.HexStringToUint128(text); !errors.Is(err, tb.ErrInvalid) {
+			t.Errorf("%q is answered %v", text, err)
+		}
+	}
+}
+
+func TestUint128AndBytes(t *testing.T) {
+	value := tb.Uint128{Hi: 1 << 56, Lo: 2}
+	if data := value.Bytes(); data != [16]byte{0: 2, 15: 1} || tb.BytesToUint128(data) != value {
+		t.Errorf("%v has the bytes %v", value, data)
+	}
+}
+
 func TestUint128ByTheVerbsOfNumbers(t *testing.T) {
 	id := tb.Uint128{Hi: 1, Lo: 0xabc}
 	for form, wanted := range map[string]string{
