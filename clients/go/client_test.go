@@ -80,7 +80,7 @@ func TestCallsThatWaitGoOutAsOneRequest(t *testing.T) {
 	for at := 0; at < 20; at++ {
 		call(sale(1), again)
 	}
-	time.Sleep(50 * time.Millisecond)
+	waitUntil(t, func() bool { return tb.Waiting(client) == 20 })
 	release()
 	all.Wait()
 	requests, records := items(server)
@@ -140,7 +140,7 @@ func TestOneThatLeavesBeforeItIsSentIsNotExecuted(t *testing.T) {
 		_, err := client.CreateTransfers(ctx, []tb.Transfer{sale(10)})
 		done <- err
 	}()
-	time.Sleep(20 * time.Millisecond)
+	waitUntil(t, func() bool { return tb.Waiting(client) == 1 })
 	cancel()
 	if err := <-done; !errors.Is(err, tb.ErrCancelled) || !errors.Is(err, tb.ErrNotSent) {
 		t.Fatal(err)
@@ -189,7 +189,7 @@ func TestAServerThatIsNotThereForAWhile(t *testing.T) {
 		t.Fatal(err)
 	}
 	defer client.Close()
-	ctx, cancel := context.WithTimeout(background, 150*time.Millisecond)
+	ctx, cancel := context.WithTimeout(background, 500*time.Millisecond)
 	defer cancel()
 	_, err = client.LookupAccounts(ctx, []tb.Uint128{tb.ToUint128(1)})
 	if !errors.Is(err, tb.ErrNotSent) || !errors.Is(err, context.DeadlineExceeded) || !strings.Contains(err.Error(), "cannot connect") {
@@ -220,18 +220,20 @@ func TestTheEndOfAClient(t *testing.T) {
 		_, err := client.CreateTransfers(background, []tb.Transfer{sale(1)})
 		waiting <- err
 	}()
-	time.Sleep(20 * time.Millisecond)
+	waitUntil(t, func() bool { return tb.Waiting(client) == 1 })
+	closed := make(chan struct{})
 	go func() {
-		time.Sleep(20 * time.Millisecond)
-		release()
+		defer close(closed)
+		client.Close()
 	}()
-	client.Close()
 	if err := <-waiting; !errors.Is(err, tb.ErrClosed) || !errors.Is(err, tb.ErrNotSent) {
 		t.Fatal(err)
 	}
+	release()
 	if err := <-sent; err != nil {
 		t.Fatal(err)
 	}
+	<-closed
 	if _, err := client.CreateTransfers(background, nil); !errors.Is(err, tb.ErrClosed) {
 		t.Fatal(err)
 	}
@@ -248,13 +250,13 @@ func TestTheEndWhileNoServerIsThere(t *testing.T) {
 		_, err := client.LookupAccounts(background, []tb.Uint128{tb.ToUint128(1)})
 		done <- err
 	}()
-	time.Sleep(20 * time.Millisecond)
+	waitUntil(t, func() bool { return tb.Waiting(client) == 1 })
 	began := time.Now()
 	client.Close()
 	if err := <-done; !errors.Is(err, tb.ErrClosed) {
 		t.Fatal(err)
 	}
-	if took := time.Since(began); took > 2*time.Second {
+	if took := time.Since(began); took > tb.DefaultTimeout-time.Second {
 		t.Fatal(took)
 	}
 }
@@ -300,6 +302,7 @@ func TestOptionsOfAClient(t *testing.T) {
 func TestSessionsAtOnce(t *testing.T) {
 	server, client := shared(t, tb.WithSessions(4))
 	release := server.holds(130)
+	begun, _ := server.came()
 	var all sync.WaitGroup
 	for at := 0; at < 4; at++ {
 		all.Add(1)
@@ -309,9 +312,9 @@ func TestSessionsAtOnce(t *testing.T) {
 				t.Error(err)
 			}
 		}()
-		time.Sleep(10 * time.Millisecond)
+		wanted := begun + 1 + 2*at // each session but the first is registered too
+		waitUntil(t, func() bool { count, _ := server.came(); return count == wanted })
 	}
-	waitUntil(t, func() bool { server.mu.Lock(); defer server.mu.Unlock(); return len(server.sessions) == 4 })
 	release()
 	all.Wait()
 	if sum := total(t, client); sum != tb.ToUint128(4) {
