@@ -8,6 +8,7 @@ from pathlib import Path
 from .table import ROOT, Form, Option, Program
 
 PAGES = ROOT / "docs" / "use"
+WIDTH = 72  # columns of a terminal that a table may take
 # Made from a clone: these sections say nothing to whoever installed the package.
 LEFT_OUT = {"In three lines", "Under systemd", "What it costs", "Measured"}
 
@@ -46,12 +47,34 @@ def sections(text: str) -> list[tuple[str, str]]:
     return [("Description", parts[0])] + list(zip(parts[1::2], parts[2::2]))
 
 
+def cells(row: str) -> list[str]:
+    inner = row.strip().removeprefix("|").removesuffix("|")
+    return [it.strip() for it in re.split(r"(?<!\\)\|", inner)]
+
+
+def item(head: list[str], row: list[str]) -> str:
+    """A row as an item of a list: its first cell, then each other one, named if there are more."""
+    named = zip(head[1:], row[1:]) if len(head) > 2 else [("", row[1])]
+    others = [f"{name}: {it}" if name else it for name, it in named if it]
+    return "- " + ": ".join(it for it in (row[0], "; ".join(others)) if it) + "\n"
+
+
+def listed(table: re.Match[str]) -> str:
+    """A table, as a list if it is too wide for a terminal."""
+    head, _, *rows = [cells(it) for it in table[0].splitlines()]
+    widths = [max(map(len, column)) + 3 for column in zip(head, *rows)]
+    if sum(widths) <= WIDTH:
+        return table[0]
+    return "".join(item(head, it) for it in rows)
+
+
 def plain(text: str) -> str:
-    """Markdown without pictures and comments, and with links as their words."""
+    """Markdown without pictures, comments and wide tables, and with links as their words."""
     text = re.sub(r"<!--.*?-->\n?", "", text, flags=re.S)
     text = re.sub(r"^!\[.*?\]\(.*?\)$", "", text, flags=re.M)
     text = re.sub(r"\[([^\]\n]*)\]\([^)\s]*\)", r"\1", text)
     text = re.sub(r"\bcrates/(\w+)/out/\1\b", r"\1", text)
+    text = re.sub(r"^(?:\|.*\n){3,}", listed, text, flags=re.M)
     return re.sub(r"^##(#+) ", r"#\1 ", text, flags=re.M)
 
 
@@ -97,9 +120,19 @@ def head(program: Program) -> str:
     return text + "\n"
 
 
+# What pandoc writes, and what takes its place: names are not hyphenated, cells are short, JSON may
+# be broken after a comma, and the first line has groff make the tables.
+ROFF = (
+    (r"^\.hy$", ".nh\n.ad l"),
+    (r"T\{\n([^\n@.'][^\n@]*|)\nT\}", r"\1"),
+    (r",(?=\\\[dq\])", r",\\:"),
+    (r'\A(?:\.\\".*\n|\'.*\n)*', "'\\\\\" t\n"),
+)
+
+
 def roff(markdown: str, title: str, section: int, version: str, date: str) -> str:
     """A manual page in roff."""
-    words = ["pandoc", "-s", "-f", "gfm-task_lists", "-t", "man"]
+    words = ["pandoc", "-s", "-f", "gfm-task_lists", "-t", "man", "--columns=1000"]
     given = {
         "title": title.upper(),
         "section": str(section),
@@ -109,7 +142,10 @@ def roff(markdown: str, title: str, section: int, version: str, date: str) -> st
     }
     words += [f"--metadata={name}={value}" for name, value in given.items()]
     ran = subprocess.run(words, input=markdown, capture_output=True, text=True, check=True)
-    return re.sub(r'\A(?:\.\\".*\n|\'.*\n)*', "'\\\\\" t\n", ran.stdout)
+    text = ran.stdout
+    for pattern, replacement in ROFF:
+        text = re.sub(pattern, replacement, text, flags=re.M)
+    return text
 
 
 def of_program(program: Program, version: str, date: str) -> str:

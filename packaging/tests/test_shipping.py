@@ -87,6 +87,14 @@ def test_a_section_that_a_page_lost_is_found() -> None:
         manuals.body("TBD.md", ["The promise", "No such section"])
 
 
+def test_a_table_that_is_too_wide_for_a_terminal_becomes_a_list() -> None:
+    assert manuals.plain("| A | B |\n|---|---|\n| 1 | 2 |\n").startswith("| A | B |")
+    wide = f"| A | B |\n|---|---|\n| 1 | {'b' * 80} |\n| `x \\| y` | |\n"
+    assert manuals.plain(wide) == f"- 1: {'b' * 80}\n- `x \\| y`\n"
+    wider = f"| A | B | C |\n|---|---|---|\n| | {'b' * 80} | c |\n"
+    assert manuals.plain(wider) == f"- B: {'b' * 80}; C: c\n"
+
+
 def test_units_have_the_paths_of_the_package(tmp_path: Path) -> None:
     units.write(tmp_path)
     text = (tmp_path / "tb-listen.service").read_text()
