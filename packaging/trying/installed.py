@@ -216,7 +216,6 @@ def versions_and_help(root: Root, programs: dict[str, Program]) -> str:
     return f"{right} with status 0; one usage line: {' '.join(usage)}"
 
 
-def lintian(debs: list[Path]) -> str:
-    """No error; warnings are counted."""
-    said = run(["lintian", "--fail-on", "error", "--allow-root", *debs])
-    return f"{len(re.findall('^W:', said, re.M))} warnings"
+def lintian(debs: list[Path]) -> None:
+    """No error and no warning, but for those that packaging/debian overrides with a reason."""
+    run(["lintian", "--fail-on", "error,warning", "--allow-root", *debs])
