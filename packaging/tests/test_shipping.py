@@ -161,6 +161,19 @@ def test_each_status_that_ends_a_unit_is_on_its_page(unit: str, page: str) -> No
         assert wanted <= rows
 
 
+def test_each_status_of_tbd_is_on_the_operators_page() -> None:
+    """With the same faults; the listener's own are 0, 1 and 2."""
+    tables = []
+    for name in ("TBD", "OPERATING"):
+        shown = (ROOT / f"docs/use/{name}.md").read_text()
+        tables.append(dict(re.findall(r"^\| (\d+) \| ([^|]*) \|", shown, re.M)))
+    of_tbd, known = tables
+    assert of_tbd and set(of_tbd) <= set(known)
+    for status, named in of_tbd.items():
+        faults = set(re.findall(r"\b[A-Z][a-z]\w+", named))
+        assert faults - {"Usage"} <= set(re.findall(r"\w+", known[status])), status
+
+
 def test_each_metric_of_a_query_is_one_of_the_listener() -> None:
     source = (ROOT / "apps/host/src/tb_host/reports.py").read_text()
     served = set(re.findall(r'"(tb_[a-z_]+)"', source))
