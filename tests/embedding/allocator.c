@@ -1,6 +1,7 @@
 /* Memory for the library from an allocator of the program's own, linked in place of the kit's liblibc_c.a. */
 #include <stddef.h>
 #include <stdint.h>
+#include <string.h>
 
 typedef struct rattle_tried {
     uint8_t ok;
@@ -16,6 +17,13 @@ rattle_tried rattle_alloc(size_t size, size_t alignment) {
     rattle_tried tried = {taken <= sizeof heap - used, heap + used};
     (void)alignment;
     if (tried.ok) used += taken;
+    return tried;
+}
+
+/* A block of so many bytes, whose first kept bytes are those of the one at `at`. */
+rattle_tried rattle_realloc(void *at, size_t kept, size_t size, size_t alignment) {
+    rattle_tried tried = rattle_alloc(size, alignment);
+    if (tried.ok) memcpy(tried.at, at, kept);
     return tried;
 }
 

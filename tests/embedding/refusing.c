@@ -27,18 +27,30 @@ long left(void) {
     return blocks;
 }
 
+static int is_refused(void) {
+    if (until < 0 || until-- > 0) return 0;
+    return was_refused = 1;
+}
+
 rattle_tried rattle_alloc(size_t size, size_t alignment) {
     rattle_tried tried = {0, nothing};
     (void)alignment;
-    if (until >= 0 && until-- == 0) {
-        was_refused = 1;
-        return tried;
-    }
-    void *at = malloc(size ? size : 1);
+    void *at = is_refused() ? NULL : malloc(size ? size : 1);
     if (at == NULL) return tried;
     blocks++;
     tried.ok = 1;
     tried.at = at;
+    return tried;
+}
+
+rattle_tried rattle_realloc(void *at, size_t kept, size_t size, size_t alignment) {
+    rattle_tried tried = {0, nothing};
+    (void)kept;
+    (void)alignment;
+    void *moved = is_refused() ? NULL : realloc(at, size ? size : 1);
+    if (moved == NULL) return tried;
+    tried.ok = 1;
+    tried.at = moved;
     return tried;
 }
 
