@@ -208,7 +208,8 @@ def work_amid_kills(
     assert credited == CLIENTS * COUNT, "the money moved more than once, or not at all"
 
     listening.process.terminate()
-    assert listening.ended() == (0, ""), "the listener did not end well"
+    status, said = listening.ended()
+    assert status == 0, f"the listener did not end well: {said}"
     print("  the listener is asked to end, and ends with status 0")
 
 
