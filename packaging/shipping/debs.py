@@ -1,6 +1,7 @@
 """Debian's packages, by debhelper over a tree in which everything is built."""
 
 import os
+import re
 import shutil
 from datetime import datetime, timezone
 from email.utils import format_datetime
@@ -45,6 +46,17 @@ CHANGELOG = """telovamish ({0}) unstable; urgency=medium
 PAGES = ("README.md", "CHANGELOG.md", "SECURITY.md", "docs", "examples")
 
 
+def with_links_inside(page: Path, folder: Path) -> str:
+    """A page's text. A link to a file that is not installed is its words."""
+
+    def kept(link: re.Match[str]) -> str:
+        target = (page.parent / link[2].partition("#")[0]).resolve()
+        inside = folder.resolve() in (target, *target.parents) and target.exists()
+        return link[0] if inside or re.match(r"[a-z]+:", link[2]) else link[1]
+
+    return re.sub(r"(?<!!)\[([^\]\n]*)\]\(([^)\s]+)\)", kept, page.read_text())
+
+
 def pages(tree: Path, top: Path, record: Record) -> None:
     """What goes to /usr/share/doc/telovamish."""
     folder = top / "doc"
@@ -58,6 +70,8 @@ def pages(tree: Path, top: Path, record: Record) -> None:
         path.chmod(0o644)
         if path.suffix in (".py", ".dot", ".gp") or path.name == "Makefile":
             path.unlink()
+    for page in folder.rglob("*.md"):
+        page.write_text(with_links_inside(page, folder))
     (folder / "BUILD.json").write_text(record.text())
 
 

@@ -8,7 +8,7 @@ from pathlib import Path
 
 import jsonschema
 import pytest
-from shipping import bill, completion, ecosystems, manuals, notes, table, units, versions
+from shipping import bill, completion, debs, ecosystems, manuals, notes, table, units, versions
 from shipping.programs import Record
 from shipping.table import ROOT
 from trying import watching
@@ -100,6 +100,17 @@ def test_units_have_the_paths_of_the_package(tmp_path: Path) -> None:
     text = (tmp_path / "tb-listen.service").read_text()
     assert "/usr/bin/tbd run ${LEDGER} $PLACES" in text and "User=telovamish" in text
     assert "RestartPreventExitStatus=" in text and "/opt/" not in text
+
+
+def test_an_installed_page_has_no_link_to_what_is_not_installed(tmp_path: Path) -> None:
+    (tmp_path / "docs").mkdir()
+    page = tmp_path / "docs/A.md"
+    text = "[itself](#part) [B](B.md#x) [code](../crates/a.rt) [out](../../x) [web](https://x.y/)"
+    page.write_text(text)
+    (tmp_path / "docs/B.md").touch()
+    (tmp_path.parent / "x").touch()
+    wanted = "[itself](#part) [B](B.md#x) code out [web](https://x.y/)"
+    assert debs.with_links_inside(page, tmp_path) == wanted
 
 
 def test_a_path_of_a_copy_by_hand_is_found(monkeypatch: pytest.MonkeyPatch) -> None:
