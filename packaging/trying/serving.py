@@ -3,6 +3,7 @@
 import re
 import signal
 import subprocess
+import threading
 import time
 from collections.abc import Callable
 
@@ -64,14 +65,32 @@ class Listener:
         words += ["tbd", "run", LEDGER, "64", "--existing"]
         self.process = root.start(*words, user="telovamish")
         self.lines: list[str] = []
+        threading.Thread(target=self.read, daemon=True).start()
+        self.port = self.said(r"listens on 127\.0\.0\.1:(\d+)")[1]
+
+    def read(self) -> None:
+        """Keeps each line that the listener prints."""
         assert self.process.stderr
         for line in self.process.stderr:
             self.lines.append(line)
-            found = re.search(r"listens on 127\.0\.0\.1:(\d+)", line)
-            if found:
-                self.port = found[1]
-                return
-        raise Failed("".join(self.lines))
+
+    def said(self, pattern: str, after: int = 0) -> re.Match[str]:
+        """Waits for a line, after so many others."""
+
+        def found() -> re.Match[str] | None:
+            return re.search(pattern, "".join(self.lines[after:]), re.M)
+
+        waited(pattern, lambda: found() or self.process.poll() is not None)
+        line = found()
+        if not line:
+            raise Failed("".join(self.lines))
+        return line
+
+    def reload(self) -> str:
+        """What `systemctl reload` does, and the line that the listener prints then."""
+        before = len(self.lines)
+        self.process.send_signal(signal.SIGHUP)
+        return self.said(r"SIGHUP: .*$", before)[0]
 
     def stop(self) -> None:
         """SIGTERM: all that was taken is answered, and the status is 0."""
@@ -99,7 +118,8 @@ def page_lines(heading: str) -> list[str]:
     """The lines of OPERATING.md after a heading, without those that need apt's files or an init."""
     text = PAGE.read_text().split(f"\n## {heading}\n")[1].split("\n## ")[0]
     lines = [it for part in re.findall(r"```sh\n(.*?)```", text, re.S) for it in part.splitlines()]
-    return [it for it in lines if it.split()[0] not in ("apt", "editor", "systemctl")]
+    others = ("apt", "editor", "journalctl", "systemctl")
+    return [it for it in lines if it.split()[0] not in others]
 
 
 def file_made(root: Root) -> str:
@@ -178,6 +198,25 @@ def not_enabled(root: Root) -> None:
     check(not links, links)
     for it in UNITS:
         check(root.inside(f"/lib/systemd/system/{it}").exists(), it)
+
+
+NOW = {"enable": "start", "disable": "stop"}  # what `--now` does besides
+
+
+def commanded(root: Root) -> str:
+    """Each systemctl line of OPERATING.md, in its order. Offline, systemd makes and removes the
+    links of `enable` and `disable`, and ignores what asks a running manager."""
+    lines = re.findall(r"\bsystemctl [^`\n]*", PAGE.read_text())
+    check({it.split()[1] for it in lines} >= {*NOW, "reload"}, lines)
+    for it in lines:
+        verb, name = it.split()[1], it.split()[-1]
+        unit = root.inside(f"/lib/systemd/system/{name}.service").read_text()
+        check(verb != "reload" or "\nExecReload=" in unit, f"{name} has no ExecReload")
+        for word in (verb, *([NOW[verb]] if "--now" in it else [])):
+            root.run("env", "SYSTEMD_OFFLINE=1", "systemctl", word, name)
+        link = root.inside(f"/etc/systemd/system/multi-user.target.wants/{name}.service")
+        check(link.is_symlink() == (verb != "disable"), f"{it}: {link.is_symlink()}")
+    return f"{len(lines)} lines"
 
 
 def unit_words(root: Root, unit: str) -> list[str]:
@@ -294,7 +333,8 @@ def configured(root: Root, names: list[str]) -> list[str]:
 
 
 def removed(root: Root, names: list[str]) -> None:
-    """`apt remove` leaves ledgers and configuration; `apt purge` leaves ledgers."""
+    """`apt remove` leaves ledgers, configuration and enabled units; `apt purge` leaves ledgers."""
+    root.run("systemctl", "enable", *UNITS)
     kept = root.shell(f"sha256sum {LEDGER}")
     installed = [
         it
@@ -306,12 +346,13 @@ def removed(root: Root, names: list[str]) -> None:
     check(bool(asked) and all(it.startswith("stop ") for it in asked), asked)
     left = [it for it in installed if root.inside(it).exists() or root.inside(it).is_symlink()]
     check(not left, f"left: {left}")
-    allowed = ("/etc/telovamish", "/var/lib/telovamish", "/run/telovamish")
+    ledgers = ("/var/lib/telovamish", "/run/telovamish")
+    allowed = (*ledgers, "/etc/telovamish", "/etc/systemd/system/")
     others = {it for it in traces(root) if not it.startswith(allowed)}
     check(not others, f"left: {sorted(others)}")
     left = configured(root, names)
     check("telovamish-server" in left, f"configuration is left of {left}")
     root.apt("purge", *left)
-    others = {it for it in traces(root) if not it.startswith(allowed[1:])}
+    others = {it for it in traces(root) if not it.startswith(ledgers)}
     check(not others, f"left by purge: {sorted(others)}")
     check(root.shell(f"sha256sum {LEDGER}") == kept, "the ledger is another one")
