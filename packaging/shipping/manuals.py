@@ -11,6 +11,11 @@ PAGES = ROOT / "docs" / "use"
 WIDTH = 72  # columns of a terminal that a table may take
 # Made from a clone: these sections say nothing to whoever installed the package.
 LEFT_OUT = {"In three lines", "Under systemd", "What it costs", "Measured"}
+# So do blocks that build a program, with the words that introduce or explain them.
+BUILDS = (
+    r"(?:^[^\n]*this shows it\.[^`]*?)?^```sh\n[^`]*\brt run\b[^`]*^```\n"
+    r"(?:\nThis line [^\n]*\n)?"
+)
 
 
 @dataclass(frozen=True)
@@ -71,9 +76,10 @@ def listed(table: re.Match[str]) -> str:
 def plain(text: str) -> str:
     """Markdown without pictures, comments and wide tables, and with links as their words."""
     text = re.sub(r"<!--.*?-->\n?", "", text, flags=re.S)
+    text = re.sub(BUILDS, "", text, flags=re.M)
     text = re.sub(r"^!\[.*?\]\(.*?\)$", "", text, flags=re.M)
     text = re.sub(r"\[([^\]\n]*)\]\([^)\s]*\)", r"\1", text)
-    text = re.sub(r"\bcrates/(\w+)/out/\1\b", r"\1", text)
+    text = re.sub(r"\b(?:crates/(\w+)/out/\1|apps/\w+/(telovamish|tb-\w+))\b", r"\1\2", text)
     text = re.sub(r"^(?:\|.*\n){3,}", listed, text, flags=re.M)
     return re.sub(r"^##(#+) ", r"#\1 ", text, flags=re.M)
 

@@ -77,6 +77,7 @@ def test_each_form_and_option_is_in_the_manual_page(name: str) -> None:
         assert page == f".so man1/{program.same_as}.1\n"
         return
     plain = re.sub(r"\\f.|\\", "", page)
+    assert "rt run" not in plain and "/out/" not in plain
     for flag in completion.flags(completion.all_options(program)):
         assert flag in plain
     assert all(it.name() in plain for it in program.forms)
