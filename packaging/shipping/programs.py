@@ -55,11 +55,10 @@ def is_clean() -> bool:
 
 
 def prove() -> str:
-    """Runs `rt ci`, which leaves the programs, and `rt lib` for the library; CI's last line."""
+    """Runs `rt ci`, which leaves the programs; its last line."""
     last = run(["rt", "ci"], cwd=ROOT).strip().splitlines()[-1]
     if ", 0 failed" not in last:
         raise Failed(last)
-    run(["rt", "lib"], cwd=ROOT / "crates/tb_embed")
     return last
 
 
