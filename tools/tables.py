@@ -39,7 +39,7 @@ from tabled import (  # noqa: E402
 BEGIN = r"^[^\n]*generated: ([\w-]+), by tools/tables\.py[^\n]*\n"
 PART = re.compile(BEGIN + r"(.*?)(?=^[^\n]*end of \1\b[^\n]*$)", re.M | re.S)
 PAGES = ("*.md", "docs/**/*.md", "clients/**/*.md", "crates/*/*.md", "embed/**/*.md")
-JAVA = "clients/java/src/main/java/tbclient"
+JAVA = "clients/java/src/main/java/org/telovamish/tbclient"
 PYTHON = "clients/python/src/tb_client"
 COMMAND = "apps/telovamish/src/telovamish"
 

@@ -274,7 +274,9 @@ class Java(unittest.TestCase):
         )
         words = ["sh", f"{client}/build.sh"]
         subprocess.run(words, check=True, timeout=600)
-        with open(f"{client}/src/main/java/tbclient/Link.java", "a", encoding="utf-8") as it:
+        with open(
+            f"{client}/src/main/java/org/telovamish/tbclient/Link.java", "a", encoding="utf-8"
+        ) as it:
             it.write("no Java\n")
         ran = subprocess.run([*words, "test"], capture_output=True, text=True, timeout=600)
         self.assertIn("Link.java", ran.stderr)

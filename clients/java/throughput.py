@@ -21,7 +21,7 @@ ROWS = ((1, 1000, 1), (24, 100, 1), (1, 10, 8190))  # connections, requests of e
 
 def in_java(path, row):
     classes = f"{HERE}/out/classes:{HERE}/out/test-classes"
-    words = ["java", "-cp", classes, "tbclient.Throughput", path, *map(str, row)]
+    words = ["java", "-cp", classes, "org.telovamish.tbclient.Throughput", path, *map(str, row)]
     return float(subprocess.run(words, check=True, capture_output=True, text=True).stdout)
 
 

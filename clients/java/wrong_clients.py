@@ -364,7 +364,7 @@ def compiled(folder, edit):
     if not edit:
         return BUILT
     name, *texts = edit
-    with open(f"{HERE}/src/main/java/tbclient/{name}.java", encoding="utf-8") as it:
+    with open(f"{HERE}/src/main/java/org/telovamish/tbclient/{name}.java", encoding="utf-8") as it:
         text = it.read()
     for old, new in zip(texts[::2], texts[1::2]):
         if text.count(old) != 1:
@@ -382,7 +382,7 @@ def compiled(folder, edit):
 def caught(edit, scenarios="*"):
     """The kit's status for an edited client, and the scenario that failed first."""
     with tempfile.TemporaryDirectory() as folder:
-        runner = [*JAVA, compiled(folder, edit), "tbclient.ConformanceRunner"]
+        runner = [*JAVA, compiled(folder, edit), "org.telovamish.tbclient.ConformanceRunner"]
         words = [sys.executable, "-B", KIT, "--first", "--jobs", "1"]
         words += ["--only", scenarios, "--", *runner]
         ran = subprocess.run(words, capture_output=True, text=True, timeout=SECONDS)

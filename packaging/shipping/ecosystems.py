@@ -61,7 +61,7 @@ def java(tree: Path, dist: Path, epoch: int) -> None:
     documented = ["javadoc", "-quiet", "-notimestamp", "-Xdoclint:all", "-Werror"]
     run([*documented, "-encoding", "UTF-8", "-d", "out/doc", *sources], cwd=top)
     manifest = out / "manifest"
-    manifest.write_text("Automatic-Module-Name: tbclient\n")
+    manifest.write_text("Automatic-Module-Name: org.telovamish.tbclient\n")
     parts = {"": "out/jar", "-sources": "src/main/java", "-javadoc": "out/doc"}
     for end, folder in parts.items():
         jar = dist / f"tbclient-{version}{end}.jar"

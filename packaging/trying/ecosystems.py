@@ -43,13 +43,17 @@ def jars(dist: Path, room: Path, version: str) -> None:
     """A class compiles against the jar and runs; sources and javadoc have what they are for."""
     room.mkdir()
     (room / "First.java").write_text(
-        "import tbclient.*;\npublic class First { public static void main(String[] given) {\n"
+        "import org.telovamish.tbclient.*;\n"
+        "public class First { public static void main(String[] given) {\n"
         "System.out.println(CreateTransferResult.class.getSimpleName()); } }\n"
     )
     jar = str(dist / f"tbclient-{version}.jar")
     run(["javac", "-cp", jar, "-d", str(room), str(room / "First.java")])
     check(run(["java", "-cp", f"{jar}:{room}", "First"]) == "CreateTransferResult\n", "First")
-    wanted = {"-sources": "tbclient/Session.java", "-javadoc": "tbclient/Session.html"}
+    wanted = {
+        "-sources": "org/telovamish/tbclient/Session.java",
+        "-javadoc": "org/telovamish/tbclient/Session.html",
+    }
     for end, name in wanted.items():
         listed = run(["jar", "--list", "--file", str(dist / f"tbclient-{version}{end}.jar")])
         check(name in listed.splitlines(), f"{end} has no {name}")

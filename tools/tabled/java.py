@@ -1,7 +1,7 @@
 """The names and layouts of the client in Java: a file for each type."""
 from . import table as t
 
-PACKAGE = "tbclient"
+PACKAGE = "org.telovamish.tbclient"
 HEAD = "// Made by tools/tables.py --write from tables/ledger.json: edit that.\n"
 NAMES = {
     "operation": ("Operation", "What a request asks for."),

@@ -1,0 +1,10 @@
+package org.telovamish.tbclient;
+
+/** The system refused a file: none is there, there is no such folder, or no permission. */
+public final class FileException extends NotSentException {
+    private static final long serialVersionUID = 1L;
+
+    FileException(String message, java.io.IOException cause) {
+        super(message, cause);
+    }
+}

@@ -1,0 +1,29 @@
+package org.telovamish.tbclient;
+
+import java.time.Duration;
+
+/**
+ * Carries frames: one exchange is one sending of a request and its reply.
+ *
+ * <p>A session sends the same bytes again after a {@link ReplyLostException}. What else an exchange
+ * throws goes to the caller, and the request is in doubt unless it says that nothing was sent.
+ */
+@FunctionalInterface
+public interface Transport extends AutoCloseable {
+    /**
+     * Sends a request, and waits for its reply.
+     *
+     * @param frame the request's bytes, which are not to be changed
+     * @param within the caller's limit, or null for none but the transport's own
+     * @return the bytes of a reply
+     * @throws ReplyLostException where none came
+     * @throws BadReplyException where what came is no reply to this request
+     * @throws CancelledException where the limit went by
+     * @throws NotSentException where nothing was sent
+     */
+    byte[] exchange(byte[] frame, Duration within);
+
+    /** Closes it, where there is something to close. */
+    @Override
+    default void close() {}
+}

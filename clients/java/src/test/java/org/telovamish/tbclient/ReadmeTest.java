@@ -1,0 +1,144 @@
+package org.telovamish.tbclient;
+
+import static org.junit.Assert.assertEquals;
+import static org.junit.Assert.assertTrue;
+import static org.junit.Assume.assumeTrue;
+
+import java.io.BufferedReader;
+import java.io.File;
+import java.io.IOException;
+import java.io.InputStreamReader;
+import java.net.URL;
+import java.nio.charset.StandardCharsets;
+import java.nio.file.Files;
+import java.nio.file.Path;
+import java.util.List;
+import java.util.concurrent.TimeUnit;
+import java.util.regex.Matcher;
+import java.util.regex.Pattern;
+import org.junit.Rule;
+import org.junit.Test;
+import org.junit.rules.TemporaryFolder;
+
+/** The program of README.md, as it stands there, over a listener and its server. */
+public class ReadmeTest {
+    private static final Path TOP = Path.of("../..").toAbsolutePath().normalize();
+    private static final Pattern BLOCK = Pattern.compile("```java\n(import .*?)```", Pattern.DOTALL);
+    private static final int SESSIONS = 8;
+    private static final int[] KILLS = {150, 350, 250}; // ms after the file is there
+
+    @Rule public TemporaryFolder folder = new TemporaryFolder();
+
+    private static boolean isPythonThere() {
+        try {
+            return new ProcessBuilder("python3", "--version").start().waitFor() == 0;
+        } catch (IOException | InterruptedException why) {
+            return false;
+        }
+    }
+
+    private String compiled() throws IOException, InterruptedException {
+        Matcher block = BLOCK.matcher(Files.readString(Path.of("README.md")));
+        assertTrue("README.md has a program", block.find());
+        Path source = folder.getRoot().toPath().resolve("Sale.java");
+        Files.writeString(source, block.group(1));
+        URL place = Session.class.getProtectionDomain().getCodeSource().getLocation();
+        String client = new File(place.getPath()).getAbsolutePath();
+        Process javac =
+                new ProcessBuilder(
+                                "javac", "-Xlint:all", "-Werror", "-cp", client, "Sale.java")
+                        .directory(folder.getRoot())
+                        .inheritIO()
+                        .start();
+        assertEquals("javac", 0, javac.waitFor());
+        return client + ":.";
+    }
+
+    private Process listener() throws IOException {
+        List<String> words =
+                List.of(
+                        "python3",
+                        "-B",
+                        TOP + "/apps/host/tb-listen",
+                        "--unix",
+                        "ledger.sock",
+                        "--",
+                        "python3",
+                        "-B",
+                        TOP + "/clients/python/tests/stand_in_tbd.py",
+                        "run",
+                        "ledger.journal",
+                        String.valueOf(SESSIONS));
+        Process it =
+                new ProcessBuilder(words)
+                        .directory(folder.getRoot())
+                        .redirectErrorStream(true)
+                        .start();
+        BufferedReader said =
+                new BufferedReader(
+                        new InputStreamReader(it.getInputStream(), StandardCharsets.UTF_8));
+        String line = said.readLine();
+        while (line != null && line.contains("tbd: made")) { // the server may be the first
+            line = said.readLine();
+        }
+        assertEquals("tb_listen: listens on ledger.sock", line);
+        return it;
+    }
+
+    private Process sale(String path) throws IOException {
+        return new ProcessBuilder("java", "-XX:+UseSerialGC", "-cp", path, "Sale")
+                .directory(folder.getRoot())
+                .redirectErrorStream(true)
+                .start();
+    }
+
+    private String printed(String path) throws IOException, InterruptedException {
+        Process sale = sale(path);
+        String said = new String(sale.getInputStream().readAllBytes());
+        assertEquals(said, 0, sale.waitFor());
+        return said;
+    }
+
+    /** Makes a transfer between the program's accounts by another client. */
+    private void sellElsewhere(long amount) {
+        Path place = folder.getRoot().toPath().resolve("ledger.sock");
+        Transfer.Builder sale = Transfer.builder().id(Ids.id()).ledger(700).code(10);
+        sale.debitAccountId(1).creditAccountId(2).amount(amount);
+        try (Session other = Session.register(new SocketTransport(Address.unix(place)))) {
+            Session.requireOk(other.createTransfers(List.of(sale.build())));
+        }
+    }
+
+    /** Evicts the program's session: as many others register as the server keeps. */
+    private void evict() {
+        Path place = folder.getRoot().toPath().resolve("ledger.sock");
+        try (SocketTransport transport = new SocketTransport(Address.unix(place))) {
+            for (int at = 0; at < SESSIONS; at++) {
+                Session.register(transport);
+            }
+        }
+    }
+
+    @Test(timeout = 120_000)
+    public void theProgramMovesMoneyOnceAmidKills() throws Exception {
+        assumeTrue("python3 is not there", isPythonThere());
+        String path = compiled();
+        Process listener = listener();
+        try {
+            for (int kill : KILLS) {
+                Process killed = sale(path);
+                killed.waitFor(kill, TimeUnit.MILLISECONDS);
+                killed.destroyForcibly().waitFor();
+                evict();
+            }
+            assertEquals("1000\n", printed(path));
+            sellElsewhere(5);
+            assertEquals("1005\n", printed(path)); // and not the reply of the run before
+            evict();
+            assertEquals("1005\n", printed(path));
+        } finally {
+            listener.destroy();
+            listener.waitFor();
+        }
+    }
+}
