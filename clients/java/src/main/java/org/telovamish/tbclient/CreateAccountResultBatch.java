@@ -3,32 +3,18 @@ package org.telovamish.tbclient;
 import java.util.List;
 
 /** The results of accounts that were not created, by rising index. */
-public final class CreateAccountResultBatch extends Batch {
+public final class CreateAccountResultBatch extends ResultBatch<CreateAccountResult> {
     CreateAccountResultBatch(List<EventResult<CreateAccountResult>> results) {
-        super(Layout.RESULT_SIZE, results.size());
-        for (EventResult<CreateAccountResult> it : results) {
-            add();
-            Values.putInt(data(), place() + Layout.RESULT_INDEX, it.index());
-            Values.putInt(data(), place() + Layout.RESULT_RESULT, it.result().code());
-        }
-        beforeFirst();
+        super(results);
     }
 
     /**
-     * The account's place in its batch.
+     * The results without those of a code.
      *
-     * @return from 0
+     * @param code as {@link CreateAccountResult#EXISTS}, where the same accounts are created again
+     * @return the others, before the first of them
      */
-    public int getIndex() {
-        return Values.i32(data(), place() + Layout.RESULT_INDEX);
-    }
-
-    /**
-     * Why it was not created.
-     *
-     * @return the result
-     */
-    public CreateAccountResult getResult() {
-        return CreateAccountResult.of(Values.i32(data(), place() + Layout.RESULT_RESULT));
+    public CreateAccountResultBatch except(CreateAccountResult code) {
+        return new CreateAccountResultBatch(Session.except(results(), code));
     }
 }

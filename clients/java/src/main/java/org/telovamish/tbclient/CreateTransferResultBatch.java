@@ -3,32 +3,18 @@ package org.telovamish.tbclient;
 import java.util.List;
 
 /** The results of transfers that were not created, by rising index. */
-public final class CreateTransferResultBatch extends Batch {
+public final class CreateTransferResultBatch extends ResultBatch<CreateTransferResult> {
     CreateTransferResultBatch(List<EventResult<CreateTransferResult>> results) {
-        super(Layout.RESULT_SIZE, results.size());
-        for (EventResult<CreateTransferResult> it : results) {
-            add();
-            Values.putInt(data(), place() + Layout.RESULT_INDEX, it.index());
-            Values.putInt(data(), place() + Layout.RESULT_RESULT, it.result().code());
-        }
-        beforeFirst();
+        super(results);
     }
 
     /**
-     * The transfer's place in its batch.
+     * The results without those of a code.
      *
-     * @return from 0
+     * @param code as {@link CreateTransferResult#EXISTS}, where the same transfers are created again
+     * @return the others, before the first of them
      */
-    public int getIndex() {
-        return Values.i32(data(), place() + Layout.RESULT_INDEX);
-    }
-
-    /**
-     * Why it was not created.
-     *
-     * @return the result
-     */
-    public CreateTransferResult getResult() {
-        return CreateTransferResult.of(Values.i32(data(), place() + Layout.RESULT_RESULT));
+    public CreateTransferResultBatch except(CreateTransferResult code) {
+        return new CreateTransferResultBatch(Session.except(results(), code));
     }
 }

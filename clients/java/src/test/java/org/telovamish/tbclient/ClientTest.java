@@ -8,6 +8,7 @@ import static org.junit.Assert.assertTrue;
 
 import java.math.BigInteger;
 import java.time.Duration;
+import java.util.List;
 import java.util.UUID;
 import org.junit.Test;
 
@@ -69,6 +70,25 @@ public final class ClientTest {
         assertFalse(batch.next());
         assertThrows(InvalidValueException.class, () -> UInt128.asBytes(-1));
         assertArrayEquals(UInt128.asBytes(wide), new byte[] {1, 0, 0, 0, 0, 0, 0, 0, 2, 0, 0, 0, 0, 0, 0, 0});
+    }
+
+    /** Results are read one at a time, and those of a code may be passed over. */
+    @Test
+    public void results() {
+        List<EventResult<CreateTransferResult>> all =
+                List.of(
+                        new EventResult<>(1, CreateTransferResult.EXISTS),
+                        new EventResult<>(4, CreateTransferResult.EXCEEDS_CREDITS));
+        CreateTransferResultBatch batch = new CreateTransferResultBatch(all);
+        assertThrows(IllegalStateException.class, batch::getIndex);
+        assertTrue(batch.next());
+        assertEquals(CreateTransferResult.EXISTS, batch.getResult());
+        CreateTransferResultBatch rest = batch.except(CreateTransferResult.EXISTS);
+        assertEquals(1, rest.getLength());
+        assertTrue(rest.next());
+        assertEquals(4, rest.getIndex());
+        assertFalse(rest.next());
+        assertThrows(IllegalStateException.class, rest::getIndex);
     }
 
     /** A call whose limit goes by while no server is there was not sent, and says why. */
