@@ -352,8 +352,8 @@ WRONG = {
     ),
     "ids follow the clock back": (
         "Ids",
-        "        if (now > millisecond) {\n",
-        "        if (now != millisecond) {\n",
+        "        if (now > most >>> HIGH_BITS) {\n",
+        "        if (now != most >>> HIGH_BITS) {\n",
     ),
 }
 

@@ -11,13 +11,14 @@ import java.util.function.Supplier;
  */
 public final class Ids {
     private static final int RANDOM_BYTES = 10;
+    private static final int HIGH_BITS = 8 * RANDOM_BYTES - Long.SIZE;
     private static final SecureRandom RANDOM = new SecureRandom();
     private static final Ids IDS = new Ids(System::currentTimeMillis, Ids::draw);
 
     private final LongSupplier clock;
     private final Supplier<byte[]> random;
-    private long millisecond;
-    private BigInteger bits = BigInteger.ZERO;
+    private long most; // 48 bits of milliseconds, and 16 random ones
+    private long least; // 64 random bits
 
     /** A generator of its own: milliseconds, and ten random bytes a call, the low one first. */
     Ids(LongSupplier clock, Supplier<byte[]> random) {
@@ -35,28 +36,27 @@ public final class Ids {
         return IDS.next();
     }
 
-    synchronized BigInteger next() {
-        long now = clock.getAsLong();
-        if (now > millisecond) {
-            millisecond = now;
-            bits = drawn();
-        } else {
-            bits = bits.add(BigInteger.ONE);
-        }
-        if (bits.bitLength() > 8 * RANDOM_BYTES) { // the ids rise into the next millisecond
-            millisecond++;
-            bits = BigInteger.ZERO;
-        }
-        return BigInteger.valueOf(millisecond).shiftLeft(8 * RANDOM_BYTES).or(bits);
+    /** The same as its 16 bytes, the low one first. */
+    static byte[] idBytes() {
+        return IDS.nextBytes();
     }
 
-    private BigInteger drawn() {
-        byte[] low = random.get();
-        byte[] high = new byte[RANDOM_BYTES];
-        for (int at = 0; at < RANDOM_BYTES; at++) {
-            high[at] = low[RANDOM_BYTES - 1 - at];
+    BigInteger next() {
+        return Values.u128(nextBytes(), 0);
+    }
+
+    synchronized byte[] nextBytes() {
+        long now = clock.getAsLong();
+        if (now > most >>> HIGH_BITS) {
+            byte[] drawn = random.get();
+            least = Values.i64(drawn, 0);
+            most = now << HIGH_BITS | Values.u16(drawn, Long.BYTES);
+        } else if (++least == 0) { // the ids rise, at last into the next millisecond
+            most++;
         }
-        return new BigInteger(1, high);
+        byte[] id = new byte[Layout.ID_SIZE];
+        Values.bits(id, 0, least, most);
+        return id;
     }
 
     private static byte[] draw() {

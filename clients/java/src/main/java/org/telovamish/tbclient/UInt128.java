@@ -59,6 +59,16 @@ public final class UInt128 {
     }
 
     /**
+     * The UUID of a number.
+     *
+     * @param value 0 to 2^128 - 1, as a record's id
+     * @return the UUID
+     */
+    public static UUID asUUID(BigInteger value) {
+        return asUUID(asBytes(value));
+    }
+
+    /**
      * The number of some bytes.
      *
      * @param bytes its 16 bytes
@@ -74,6 +84,6 @@ public final class UInt128 {
      * @return its 16 bytes
      */
     public static byte[] id() {
-        return asBytes(Ids.id());
+        return Ids.idBytes();
     }
 }
