@@ -155,6 +155,7 @@ def record(kind, fields):
         "import java.math.BigInteger;",
         "import java.util.Arrays;",
         "import java.util.List;",
+        "import java.util.UUID;",
         "",
         "/**",
         f" * {ABOUT[kind]}",
@@ -394,23 +395,29 @@ def unit(field):
 
 
 def setters(name, kind, field):
-    """What sets a field: wide ones take a long too."""
+    """What sets a field: wide ones take a long too, and ids a UUID or bytes."""
     kind_of, write = READS[field["type"]]
     at = f"Layout.{t.upper(kind)}_{t.upper(field['name'])}"
+    range_ = field["type"] + unit(field)
+    rows = [(kind_of, write, "value", range_)]
+    if kind_of == "BigInteger":
+        rows.append(("long", write, "value", "0 to 2^63 - 1" + unit(field)))
+    if field["type"] == "u128" and field["name"] not in AMOUNTS:
+        rows.append(("UUID", "id", "UInt128.asBytes(value)", "u128"))
+        rows.append(("byte[]", "id", "value", "16 bytes, the low one first"))
     lines = []
-    for given in (kind_of, "long") if kind_of == "BigInteger" else (kind_of,):
-        range_ = "0 to 2^63 - 1" if given == "long" and kind_of == "BigInteger" else field["type"]
+    for given, put, value, says in rows:
         lines += [
             "",
             "        /**",
             f"         * Sets the {field['name']}.",
             "         *",
-            f"         * @param value {range_}{unit(field)}",
+            f"         * @param value {says}",
             "         * @return this",
-            "         * @throws InvalidValueException where it is out of that range",
+            "         * @throws InvalidValueException where it is no such value",
             "         */",
             f"        public Builder {t.lower_camel(field['name'])}({given} value) {{",
-            f'            Values.{write}(data, {at}, "{name}.{field["name"]}", value);',
+            f'            Values.{put}(data, {at}, "{name}.{field["name"]}", {value});',
             "            return this;",
             "        }",
         ]

@@ -5,6 +5,7 @@ package org.telovamish.tbclient;
 import java.math.BigInteger;
 import java.util.Arrays;
 import java.util.List;
+import java.util.UUID;
 
 /**
  * An account. Its balances, and its timestamp, are the ledger's to give.
@@ -219,7 +220,7 @@ public final class Account {
          *
          * @param value u128
          * @return this
-         * @throws InvalidValueException where it is out of that range
+         * @throws InvalidValueException where it is no such value
          */
         public Builder id(BigInteger value) {
             Values.u128(data, Layout.ACCOUNT_ID, "Account.id", value);
@@ -231,10 +232,34 @@ public final class Account {
          *
          * @param value 0 to 2^63 - 1
          * @return this
-         * @throws InvalidValueException where it is out of that range
+         * @throws InvalidValueException where it is no such value
          */
         public Builder id(long value) {
             Values.u128(data, Layout.ACCOUNT_ID, "Account.id", value);
+            return this;
+        }
+
+        /**
+         * Sets the id.
+         *
+         * @param value u128
+         * @return this
+         * @throws InvalidValueException where it is no such value
+         */
+        public Builder id(UUID value) {
+            Values.id(data, Layout.ACCOUNT_ID, "Account.id", UInt128.asBytes(value));
+            return this;
+        }
+
+        /**
+         * Sets the id.
+         *
+         * @param value 16 bytes, the low one first
+         * @return this
+         * @throws InvalidValueException where it is no such value
+         */
+        public Builder id(byte[] value) {
+            Values.id(data, Layout.ACCOUNT_ID, "Account.id", value);
             return this;
         }
 
@@ -243,7 +268,7 @@ public final class Account {
          *
          * @param value u128
          * @return this
-         * @throws InvalidValueException where it is out of that range
+         * @throws InvalidValueException where it is no such value
          */
         public Builder debitsPending(BigInteger value) {
             Values.u128(data, Layout.ACCOUNT_DEBITS_PENDING, "Account.debits_pending", value);
@@ -255,7 +280,7 @@ public final class Account {
          *
          * @param value 0 to 2^63 - 1
          * @return this
-         * @throws InvalidValueException where it is out of that range
+         * @throws InvalidValueException where it is no such value
          */
         public Builder debitsPending(long value) {
             Values.u128(data, Layout.ACCOUNT_DEBITS_PENDING, "Account.debits_pending", value);
@@ -267,7 +292,7 @@ public final class Account {
          *
          * @param value u128
          * @return this
-         * @throws InvalidValueException where it is out of that range
+         * @throws InvalidValueException where it is no such value
          */
         public Builder debitsPosted(BigInteger value) {
             Values.u128(data, Layout.ACCOUNT_DEBITS_POSTED, "Account.debits_posted", value);
@@ -279,7 +304,7 @@ public final class Account {
          *
          * @param value 0 to 2^63 - 1
          * @return this
-         * @throws InvalidValueException where it is out of that range
+         * @throws InvalidValueException where it is no such value
          */
         public Builder debitsPosted(long value) {
             Values.u128(data, Layout.ACCOUNT_DEBITS_POSTED, "Account.debits_posted", value);
@@ -291,7 +316,7 @@ public final class Account {
          *
          * @param value u128
          * @return this
-         * @throws InvalidValueException where it is out of that range
+         * @throws InvalidValueException where it is no such value
          */
         public Builder creditsPending(BigInteger value) {
             Values.u128(data, Layout.ACCOUNT_CREDITS_PENDING, "Account.credits_pending", value);
@@ -303,7 +328,7 @@ public final class Account {
          *
          * @param value 0 to 2^63 - 1
          * @return this
-         * @throws InvalidValueException where it is out of that range
+         * @throws InvalidValueException where it is no such value
          */
         public Builder creditsPending(long value) {
             Values.u128(data, Layout.ACCOUNT_CREDITS_PENDING, "Account.credits_pending", value);
@@ -315,7 +340,7 @@ public final class Account {
          *
          * @param value u128
          * @return this
-         * @throws InvalidValueException where it is out of that range
+         * @throws InvalidValueException where it is no such value
          */
         public Builder creditsPosted(BigInteger value) {
             Values.u128(data, Layout.ACCOUNT_CREDITS_POSTED, "Account.credits_posted", value);
@@ -327,7 +352,7 @@ public final class Account {
          *
          * @param value 0 to 2^63 - 1
          * @return this
-         * @throws InvalidValueException where it is out of that range
+         * @throws InvalidValueException where it is no such value
          */
         public Builder creditsPosted(long value) {
             Values.u128(data, Layout.ACCOUNT_CREDITS_POSTED, "Account.credits_posted", value);
@@ -339,7 +364,7 @@ public final class Account {
          *
          * @param value u128
          * @return this
-         * @throws InvalidValueException where it is out of that range
+         * @throws InvalidValueException where it is no such value
          */
         public Builder userData128(BigInteger value) {
             Values.u128(data, Layout.ACCOUNT_USER_DATA_128, "Account.user_data_128", value);
@@ -351,10 +376,34 @@ public final class Account {
          *
          * @param value 0 to 2^63 - 1
          * @return this
-         * @throws InvalidValueException where it is out of that range
+         * @throws InvalidValueException where it is no such value
          */
         public Builder userData128(long value) {
             Values.u128(data, Layout.ACCOUNT_USER_DATA_128, "Account.user_data_128", value);
+            return this;
+        }
+
+        /**
+         * Sets the user_data_128.
+         *
+         * @param value u128
+         * @return this
+         * @throws InvalidValueException where it is no such value
+         */
+        public Builder userData128(UUID value) {
+            Values.id(data, Layout.ACCOUNT_USER_DATA_128, "Account.user_data_128", UInt128.asBytes(value));
+            return this;
+        }
+
+        /**
+         * Sets the user_data_128.
+         *
+         * @param value 16 bytes, the low one first
+         * @return this
+         * @throws InvalidValueException where it is no such value
+         */
+        public Builder userData128(byte[] value) {
+            Values.id(data, Layout.ACCOUNT_USER_DATA_128, "Account.user_data_128", value);
             return this;
         }
 
@@ -363,7 +412,7 @@ public final class Account {
          *
          * @param value u64
          * @return this
-         * @throws InvalidValueException where it is out of that range
+         * @throws InvalidValueException where it is no such value
          */
         public Builder userData64(BigInteger value) {
             Values.u64(data, Layout.ACCOUNT_USER_DATA_64, "Account.user_data_64", value);
@@ -375,7 +424,7 @@ public final class Account {
          *
          * @param value 0 to 2^63 - 1
          * @return this
-         * @throws InvalidValueException where it is out of that range
+         * @throws InvalidValueException where it is no such value
          */
         public Builder userData64(long value) {
             Values.u64(data, Layout.ACCOUNT_USER_DATA_64, "Account.user_data_64", value);
@@ -387,7 +436,7 @@ public final class Account {
          *
          * @param value u32
          * @return this
-         * @throws InvalidValueException where it is out of that range
+         * @throws InvalidValueException where it is no such value
          */
         public Builder userData32(long value) {
             Values.u32(data, Layout.ACCOUNT_USER_DATA_32, "Account.user_data_32", value);
@@ -399,7 +448,7 @@ public final class Account {
          *
          * @param value u32
          * @return this
-         * @throws InvalidValueException where it is out of that range
+         * @throws InvalidValueException where it is no such value
          */
         public Builder reserved(long value) {
             Values.u32(data, Layout.ACCOUNT_RESERVED, "Account.reserved", value);
@@ -411,7 +460,7 @@ public final class Account {
          *
          * @param value u32
          * @return this
-         * @throws InvalidValueException where it is out of that range
+         * @throws InvalidValueException where it is no such value
          */
         public Builder ledger(long value) {
             Values.u32(data, Layout.ACCOUNT_LEDGER, "Account.ledger", value);
@@ -423,7 +472,7 @@ public final class Account {
          *
          * @param value u16
          * @return this
-         * @throws InvalidValueException where it is out of that range
+         * @throws InvalidValueException where it is no such value
          */
         public Builder code(int value) {
             Values.u16(data, Layout.ACCOUNT_CODE, "Account.code", value);
@@ -435,7 +484,7 @@ public final class Account {
          *
          * @param value u16
          * @return this
-         * @throws InvalidValueException where it is out of that range
+         * @throws InvalidValueException where it is no such value
          */
         public Builder flags(int value) {
             Values.u16(data, Layout.ACCOUNT_FLAGS, "Account.flags", value);
@@ -447,7 +496,7 @@ public final class Account {
          *
          * @param value u64 in nanoseconds
          * @return this
-         * @throws InvalidValueException where it is out of that range
+         * @throws InvalidValueException where it is no such value
          */
         public Builder timestamp(BigInteger value) {
             Values.u64(data, Layout.ACCOUNT_TIMESTAMP, "Account.timestamp", value);
@@ -459,7 +508,7 @@ public final class Account {
          *
          * @param value 0 to 2^63 - 1 in nanoseconds
          * @return this
-         * @throws InvalidValueException where it is out of that range
+         * @throws InvalidValueException where it is no such value
          */
         public Builder timestamp(long value) {
             Values.u64(data, Layout.ACCOUNT_TIMESTAMP, "Account.timestamp", value);

@@ -5,6 +5,7 @@ import java.nio.charset.StandardCharsets;
 import java.util.ArrayList;
 import java.util.Arrays;
 import java.util.List;
+import java.util.UUID;
 import java.util.function.Function;
 
 /** Frames of requests and replies (docs/use/FORMATS.md). */
@@ -65,13 +66,25 @@ final class Frames {
             System.arraycopy(it.data(), 0, body, place, Layout.RECORD_SIZE);
         } else if (operation == Operation.CREATE_TRANSFERS && item instanceof Transfer it) {
             System.arraycopy(it.data(), 0, body, place, Layout.RECORD_SIZE);
-        } else if (name.equals("ids") && item instanceof BigInteger it) {
-            Values.u128(body, place, name + "[" + at + "]", it);
-        } else {
+        } else if (!name.equals("ids") || !putId(body, place, name + "[" + at + "]", item)) {
             String kind = item == null ? "null" : item.getClass().getSimpleName();
             throw new InvalidValueException(
                     name + "[" + at + "]", "is " + kind + ", no item of " + operation.label());
         }
+    }
+
+    /** Puts an id into a body, where the item is one. */
+    private static boolean putId(byte[] body, int place, String field, Object item) {
+        if (item instanceof BigInteger it) {
+            Values.u128(body, place, field, it);
+        } else if (item instanceof UUID it) {
+            Values.id(body, place, field, UInt128.asBytes(it));
+        } else if (item instanceof byte[] it) {
+            Values.id(body, place, field, it);
+        } else {
+            return false;
+        }
+        return true;
     }
 
     /** Tests that the bytes are a request that is whole and has no fault. */

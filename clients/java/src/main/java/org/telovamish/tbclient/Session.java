@@ -293,42 +293,42 @@ public final class Session implements AutoCloseable {
     /**
      * Looks accounts up. It takes a number: see above for a session that is saved.
      *
-     * @param ids at most 8190
+     * @param ids at most 8190: each a {@link BigInteger}, a UUID, or 16 bytes, the low one first
      * @return the accounts that are there, in the order of the ids
      */
-    public List<Account> lookupAccounts(List<BigInteger> ids) {
+    public List<Account> lookupAccounts(List<?> ids) {
         return lookupAccounts(ids, null);
     }
 
     /**
      * Looks accounts up. It takes a number: see above for a session that is saved.
      *
-     * @param ids at most 8190
+     * @param ids at most 8190: each a {@link BigInteger}, a UUID, or 16 bytes, the low one first
      * @param within the limit of this call, or null
      * @return the accounts that are there, in the order of the ids
      */
-    public List<Account> lookupAccounts(List<BigInteger> ids, Duration within) {
+    public List<Account> lookupAccounts(List<?> ids, Duration within) {
         return ((Answer.Accounts) ask(Operation.LOOKUP_ACCOUNTS, ids, within)).accounts();
     }
 
     /**
      * Looks transfers up. It takes a number: see above for a session that is saved.
      *
-     * @param ids at most 8190
+     * @param ids at most 8190: each a {@link BigInteger}, a UUID, or 16 bytes, the low one first
      * @return the transfers that are there, in the order of the ids
      */
-    public List<Transfer> lookupTransfers(List<BigInteger> ids) {
+    public List<Transfer> lookupTransfers(List<?> ids) {
         return lookupTransfers(ids, null);
     }
 
     /**
      * Looks transfers up. It takes a number: see above for a session that is saved.
      *
-     * @param ids at most 8190
+     * @param ids at most 8190: each a {@link BigInteger}, a UUID, or 16 bytes, the low one first
      * @param within the limit of this call, or null
      * @return the transfers that are there, in the order of the ids
      */
-    public List<Transfer> lookupTransfers(List<BigInteger> ids, Duration within) {
+    public List<Transfer> lookupTransfers(List<?> ids, Duration within) {
         return ((Answer.Transfers) ask(Operation.LOOKUP_TRANSFERS, ids, within)).transfers();
     }
 
@@ -374,8 +374,8 @@ public final class Session implements AutoCloseable {
      * session, then {@link #retry}.
      *
      * @param operation what it asks for
-     * @param items {@link Account}s or {@link Transfer}s to create, or the ids to look up, as
-     *     {@link BigInteger}s; of a register none
+     * @param items {@link Account}s or {@link Transfer}s to create, or the ids to look up, as for
+     *     {@link #lookupAccounts}; of a register none
      * @throws InDoubtException where the last request has no reply yet
      * @throws InvalidValueException where the items are not what the operation takes
      */

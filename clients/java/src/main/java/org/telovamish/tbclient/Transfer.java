@@ -5,6 +5,7 @@ package org.telovamish.tbclient;
 import java.math.BigInteger;
 import java.util.Arrays;
 import java.util.List;
+import java.util.UUID;
 
 /**
  * A transfer: an amount that goes from one account to another.
@@ -219,7 +220,7 @@ public final class Transfer {
          *
          * @param value u128
          * @return this
-         * @throws InvalidValueException where it is out of that range
+         * @throws InvalidValueException where it is no such value
          */
         public Builder id(BigInteger value) {
             Values.u128(data, Layout.TRANSFER_ID, "Transfer.id", value);
@@ -231,10 +232,34 @@ public final class Transfer {
          *
          * @param value 0 to 2^63 - 1
          * @return this
-         * @throws InvalidValueException where it is out of that range
+         * @throws InvalidValueException where it is no such value
          */
         public Builder id(long value) {
             Values.u128(data, Layout.TRANSFER_ID, "Transfer.id", value);
+            return this;
+        }
+
+        /**
+         * Sets the id.
+         *
+         * @param value u128
+         * @return this
+         * @throws InvalidValueException where it is no such value
+         */
+        public Builder id(UUID value) {
+            Values.id(data, Layout.TRANSFER_ID, "Transfer.id", UInt128.asBytes(value));
+            return this;
+        }
+
+        /**
+         * Sets the id.
+         *
+         * @param value 16 bytes, the low one first
+         * @return this
+         * @throws InvalidValueException where it is no such value
+         */
+        public Builder id(byte[] value) {
+            Values.id(data, Layout.TRANSFER_ID, "Transfer.id", value);
             return this;
         }
 
@@ -243,7 +268,7 @@ public final class Transfer {
          *
          * @param value u128
          * @return this
-         * @throws InvalidValueException where it is out of that range
+         * @throws InvalidValueException where it is no such value
          */
         public Builder debitAccountId(BigInteger value) {
             Values.u128(data, Layout.TRANSFER_DEBIT_ACCOUNT_ID, "Transfer.debit_account_id", value);
@@ -255,10 +280,34 @@ public final class Transfer {
          *
          * @param value 0 to 2^63 - 1
          * @return this
-         * @throws InvalidValueException where it is out of that range
+         * @throws InvalidValueException where it is no such value
          */
         public Builder debitAccountId(long value) {
             Values.u128(data, Layout.TRANSFER_DEBIT_ACCOUNT_ID, "Transfer.debit_account_id", value);
+            return this;
+        }
+
+        /**
+         * Sets the debit_account_id.
+         *
+         * @param value u128
+         * @return this
+         * @throws InvalidValueException where it is no such value
+         */
+        public Builder debitAccountId(UUID value) {
+            Values.id(data, Layout.TRANSFER_DEBIT_ACCOUNT_ID, "Transfer.debit_account_id", UInt128.asBytes(value));
+            return this;
+        }
+
+        /**
+         * Sets the debit_account_id.
+         *
+         * @param value 16 bytes, the low one first
+         * @return this
+         * @throws InvalidValueException where it is no such value
+         */
+        public Builder debitAccountId(byte[] value) {
+            Values.id(data, Layout.TRANSFER_DEBIT_ACCOUNT_ID, "Transfer.debit_account_id", value);
             return this;
         }
 
@@ -267,7 +316,7 @@ public final class Transfer {
          *
          * @param value u128
          * @return this
-         * @throws InvalidValueException where it is out of that range
+         * @throws InvalidValueException where it is no such value
          */
         public Builder creditAccountId(BigInteger value) {
             Values.u128(data, Layout.TRANSFER_CREDIT_ACCOUNT_ID, "Transfer.credit_account_id", value);
@@ -279,10 +328,34 @@ public final class Transfer {
          *
          * @param value 0 to 2^63 - 1
          * @return this
-         * @throws InvalidValueException where it is out of that range
+         * @throws InvalidValueException where it is no such value
          */
         public Builder creditAccountId(long value) {
             Values.u128(data, Layout.TRANSFER_CREDIT_ACCOUNT_ID, "Transfer.credit_account_id", value);
+            return this;
+        }
+
+        /**
+         * Sets the credit_account_id.
+         *
+         * @param value u128
+         * @return this
+         * @throws InvalidValueException where it is no such value
+         */
+        public Builder creditAccountId(UUID value) {
+            Values.id(data, Layout.TRANSFER_CREDIT_ACCOUNT_ID, "Transfer.credit_account_id", UInt128.asBytes(value));
+            return this;
+        }
+
+        /**
+         * Sets the credit_account_id.
+         *
+         * @param value 16 bytes, the low one first
+         * @return this
+         * @throws InvalidValueException where it is no such value
+         */
+        public Builder creditAccountId(byte[] value) {
+            Values.id(data, Layout.TRANSFER_CREDIT_ACCOUNT_ID, "Transfer.credit_account_id", value);
             return this;
         }
 
@@ -291,7 +364,7 @@ public final class Transfer {
          *
          * @param value u128
          * @return this
-         * @throws InvalidValueException where it is out of that range
+         * @throws InvalidValueException where it is no such value
          */
         public Builder amount(BigInteger value) {
             Values.u128(data, Layout.TRANSFER_AMOUNT, "Transfer.amount", value);
@@ -303,7 +376,7 @@ public final class Transfer {
          *
          * @param value 0 to 2^63 - 1
          * @return this
-         * @throws InvalidValueException where it is out of that range
+         * @throws InvalidValueException where it is no such value
          */
         public Builder amount(long value) {
             Values.u128(data, Layout.TRANSFER_AMOUNT, "Transfer.amount", value);
@@ -315,7 +388,7 @@ public final class Transfer {
          *
          * @param value u128
          * @return this
-         * @throws InvalidValueException where it is out of that range
+         * @throws InvalidValueException where it is no such value
          */
         public Builder pendingId(BigInteger value) {
             Values.u128(data, Layout.TRANSFER_PENDING_ID, "Transfer.pending_id", value);
@@ -327,10 +400,34 @@ public final class Transfer {
          *
          * @param value 0 to 2^63 - 1
          * @return this
-         * @throws InvalidValueException where it is out of that range
+         * @throws InvalidValueException where it is no such value
          */
         public Builder pendingId(long value) {
             Values.u128(data, Layout.TRANSFER_PENDING_ID, "Transfer.pending_id", value);
+            return this;
+        }
+
+        /**
+         * Sets the pending_id.
+         *
+         * @param value u128
+         * @return this
+         * @throws InvalidValueException where it is no such value
+         */
+        public Builder pendingId(UUID value) {
+            Values.id(data, Layout.TRANSFER_PENDING_ID, "Transfer.pending_id", UInt128.asBytes(value));
+            return this;
+        }
+
+        /**
+         * Sets the pending_id.
+         *
+         * @param value 16 bytes, the low one first
+         * @return this
+         * @throws InvalidValueException where it is no such value
+         */
+        public Builder pendingId(byte[] value) {
+            Values.id(data, Layout.TRANSFER_PENDING_ID, "Transfer.pending_id", value);
             return this;
         }
 
@@ -339,7 +436,7 @@ public final class Transfer {
          *
          * @param value u128
          * @return this
-         * @throws InvalidValueException where it is out of that range
+         * @throws InvalidValueException where it is no such value
          */
         public Builder userData128(BigInteger value) {
             Values.u128(data, Layout.TRANSFER_USER_DATA_128, "Transfer.user_data_128", value);
@@ -351,10 +448,34 @@ public final class Transfer {
          *
          * @param value 0 to 2^63 - 1
          * @return this
-         * @throws InvalidValueException where it is out of that range
+         * @throws InvalidValueException where it is no such value
          */
         public Builder userData128(long value) {
             Values.u128(data, Layout.TRANSFER_USER_DATA_128, "Transfer.user_data_128", value);
+            return this;
+        }
+
+        /**
+         * Sets the user_data_128.
+         *
+         * @param value u128
+         * @return this
+         * @throws InvalidValueException where it is no such value
+         */
+        public Builder userData128(UUID value) {
+            Values.id(data, Layout.TRANSFER_USER_DATA_128, "Transfer.user_data_128", UInt128.asBytes(value));
+            return this;
+        }
+
+        /**
+         * Sets the user_data_128.
+         *
+         * @param value 16 bytes, the low one first
+         * @return this
+         * @throws InvalidValueException where it is no such value
+         */
+        public Builder userData128(byte[] value) {
+            Values.id(data, Layout.TRANSFER_USER_DATA_128, "Transfer.user_data_128", value);
             return this;
         }
 
@@ -363,7 +484,7 @@ public final class Transfer {
          *
          * @param value u64
          * @return this
-         * @throws InvalidValueException where it is out of that range
+         * @throws InvalidValueException where it is no such value
          */
         public Builder userData64(BigInteger value) {
             Values.u64(data, Layout.TRANSFER_USER_DATA_64, "Transfer.user_data_64", value);
@@ -375,7 +496,7 @@ public final class Transfer {
          *
          * @param value 0 to 2^63 - 1
          * @return this
-         * @throws InvalidValueException where it is out of that range
+         * @throws InvalidValueException where it is no such value
          */
         public Builder userData64(long value) {
             Values.u64(data, Layout.TRANSFER_USER_DATA_64, "Transfer.user_data_64", value);
@@ -387,7 +508,7 @@ public final class Transfer {
          *
          * @param value u32
          * @return this
-         * @throws InvalidValueException where it is out of that range
+         * @throws InvalidValueException where it is no such value
          */
         public Builder userData32(long value) {
             Values.u32(data, Layout.TRANSFER_USER_DATA_32, "Transfer.user_data_32", value);
@@ -399,7 +520,7 @@ public final class Transfer {
          *
          * @param value u32 in seconds
          * @return this
-         * @throws InvalidValueException where it is out of that range
+         * @throws InvalidValueException where it is no such value
          */
         public Builder timeout(long value) {
             Values.u32(data, Layout.TRANSFER_TIMEOUT, "Transfer.timeout", value);
@@ -411,7 +532,7 @@ public final class Transfer {
          *
          * @param value u32
          * @return this
-         * @throws InvalidValueException where it is out of that range
+         * @throws InvalidValueException where it is no such value
          */
         public Builder ledger(long value) {
             Values.u32(data, Layout.TRANSFER_LEDGER, "Transfer.ledger", value);
@@ -423,7 +544,7 @@ public final class Transfer {
          *
          * @param value u16
          * @return this
-         * @throws InvalidValueException where it is out of that range
+         * @throws InvalidValueException where it is no such value
          */
         public Builder code(int value) {
             Values.u16(data, Layout.TRANSFER_CODE, "Transfer.code", value);
@@ -435,7 +556,7 @@ public final class Transfer {
          *
          * @param value u16
          * @return this
-         * @throws InvalidValueException where it is out of that range
+         * @throws InvalidValueException where it is no such value
          */
         public Builder flags(int value) {
             Values.u16(data, Layout.TRANSFER_FLAGS, "Transfer.flags", value);
@@ -447,7 +568,7 @@ public final class Transfer {
          *
          * @param value u64 in nanoseconds
          * @return this
-         * @throws InvalidValueException where it is out of that range
+         * @throws InvalidValueException where it is no such value
          */
         public Builder timestamp(BigInteger value) {
             Values.u64(data, Layout.TRANSFER_TIMESTAMP, "Transfer.timestamp", value);
@@ -459,7 +580,7 @@ public final class Transfer {
          *
          * @param value 0 to 2^63 - 1 in nanoseconds
          * @return this
-         * @throws InvalidValueException where it is out of that range
+         * @throws InvalidValueException where it is no such value
          */
         public Builder timestamp(long value) {
             Values.u64(data, Layout.TRANSFER_TIMESTAMP, "Transfer.timestamp", value);

@@ -7,6 +7,7 @@ import static org.junit.Assert.assertThrows;
 import java.math.BigInteger;
 import java.util.HexFormat;
 import java.util.List;
+import java.util.UUID;
 import org.junit.Test;
 
 /** Records, their ranges, and their bytes as docs/use/FORMATS.md has them. */
@@ -61,6 +62,24 @@ public class RecordsTest {
         assertEquals(4294967295L, it.userData32());
         assertEquals(List.of("linked", "pending"), it.flagNames());
         assertNotEquals(it, Transfer.builder().id(11).build());
+    }
+
+    @Test
+    public void idsAreNumbersUuidsOrBytes() {
+        UUID uuid = new UUID(1, 2);
+        BigInteger number = BigInteger.ONE.shiftLeft(64).or(BigInteger.TWO);
+        Transfer it = Transfer.builder().id(uuid).pendingId(UInt128.asBytes(number)).build();
+        assertEquals(number, it.id());
+        assertEquals(number, it.pendingId());
+        assertEquals(uuid, UInt128.asUUID(it.id()));
+        List<Object> all = List.of(number, uuid, UInt128.asBytes(uuid));
+        byte[] body = Frames.body(Operation.LOOKUP_ACCOUNTS, all);
+        String hex = HexFormat.of().formatHex(UInt128.asBytes(number));
+        assertEquals(hex.repeat(3), HexFormat.of().formatHex(body));
+        refused("Transfer.id", () -> Transfer.builder().id(new byte[15]));
+        refused("Account.user_data_128", () -> Account.builder().userData128((byte[]) null));
+        List<byte[]> wrong = List.of(new byte[17]);
+        refused("ids[0]", () -> Frames.body(Operation.LOOKUP_TRANSFERS, wrong));
     }
 
     @Test
