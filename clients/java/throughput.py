@@ -1,88 +1,75 @@
 #!/usr/bin/env python3
-"""Measures transfers a second of this client and of the one in Python, over one listener.
+"""Measures transfers a second of this client: a session with records, and a client that is shared
+with batches.
 
-    throughput.py [SERVER [WORD ..]]        (tbd where it is built, else its stand-in)
+    sh build.sh && throughput.py [SERVER [WORD ..]]     (tbd where it is built, else its stand-in)
 
-Prints a row of a table for each: single transfers over 1 and 24 connections, and batches of 8190.
+Over the listener before that server, and over one in Go that accepts all and keeps nothing, which
+shows what the client itself takes (`go build -o out/ ./...` in clients/go makes it). Prints a row
+for single transfers over 1 and 24 connections, and for batches of 8190.
 """
+import contextlib
 import os
 import subprocess
 import sys
 import tempfile
-import threading
-import time
 
 HERE = os.path.dirname(os.path.abspath(__file__))
-PYTHON = os.path.join(os.path.dirname(HERE), "python", "src")
+STAND_IN = os.path.join(os.path.dirname(HERE), "python", "tests", "stand_in_tbd.py")
 LISTENER = os.path.join(HERE, "..", "..", "apps", "host", "tb-listen")
 TBD = os.path.join(HERE, "..", "..", "crates", "tbd", "out", "tbd")
-ROWS = ((1, 1000, 1), (24, 100, 1), (1, 10, 8190))  # connections, requests of each, transfers
+SINK = os.path.join(os.path.dirname(HERE), "go", "out", "throughput")
+ROWS = ((1, 1000, 1), (24, 100, 1), (1, 100, 8190))  # connections, requests of each, transfers
+FACES = ("session", "client")
 
 
-def in_java(path, row):
-    classes = f"{HERE}/out/classes:{HERE}/out/test-classes"
-    words = ["java", "-cp", classes, "org.telovamish.tbclient.Throughput", path, *map(str, row)]
-    return float(subprocess.run(words, check=True, capture_output=True, text=True).stdout)
+@contextlib.contextmanager
+def serving(words):
+    """A server that listens, until the end of the block."""
+    with subprocess.Popen(
+        words, stdout=subprocess.PIPE, stderr=subprocess.STDOUT, text=True
+    ) as process:
+        try:
+            if not any("listens on" in line for line in process.stdout):
+                raise SystemExit(f"the server does not start: {' '.join(words)}")
+            yield
+        finally:
+            process.terminate()
 
 
-def in_python(path, row):
-    words = [sys.executable, "-B", os.path.abspath(__file__), "--client", path, *map(str, row)]
-    return float(subprocess.run(words, check=True, capture_output=True, text=True).stdout)
-
-
-def client(path, connections, requests, count):
-    """The same work as Throughput.java has."""
-    sys.path.insert(0, PYTHON)
-    from tb_client import Account, Session, Socket, Transfer, id, require_ok
-
-    def work(session):
-        for _ in range(requests):
-            batch = [Transfer(id(), 1, 2, 1, ledger=700, code=10) for _ in range(count)]
-            require_ok(session.create_transfers(batch))
-
-    sessions = [Session.register(Socket(path)) for _ in range(connections)]
-    sessions[0].create_accounts([Account(it, ledger=700, code=10) for it in (1, 2)])
-    threads = [threading.Thread(target=work, args=(it,)) for it in sessions]
-    began = time.monotonic()
-    for it in threads:
-        it.start()
-    for it in threads:
-        it.join()
-    print(connections * requests * count / (time.monotonic() - began))
-    for it in sessions:
-        it.close()
-
-
-def measured(server, measure, row):
-    """What a client makes over a listener and a ledger of its own."""
+def measured(face, row, words):
+    """What a client makes over a server of its own."""
     with tempfile.TemporaryDirectory() as folder:
         path = f"{folder}/ledger.sock"
-        words = [sys.executable, "-B", LISTENER, "--unix", path, "--", *server]
-        words += ["run", f"{folder}/ledger.journal", "32"]
-        listener = subprocess.Popen(words, stderr=subprocess.PIPE, text=True)
-        try:
-            listener.stderr.readline()
-            return measure(path, row)
-        finally:
-            listener.terminate()
-            listener.wait()
-            listener.stderr.close()
+        with serving([it.format(path=path, folder=folder) for it in words]):
+            classes = f"{HERE}/out/classes:{HERE}/out/test-classes"
+            words = ["java", "-cp", classes, "org.telovamish.tbclient.Throughput", face, path]
+            words += map(str, row)
+            return float(
+                subprocess.run(words, check=True, stdout=subprocess.PIPE, text=True).stdout
+            )
+
+
+def servers():
+    stand_in = [sys.executable, "-SE", STAND_IN]
+    server = sys.argv[1:] or ([TBD] if os.access(TBD, os.X_OK) else stand_in)
+    listener = [sys.executable, "-B", LISTENER, "--unix", "{path}", "--", *server]
+    yield os.path.basename(server[-1]), [*listener, "run", "{folder}/ledger.journal", "64"]
+    if os.access(SINK, os.X_OK):
+        yield "keeps nothing", [SINK, "serve", "{path}"]
+    else:
+        print(f"not measured: the server that keeps nothing, since {SINK} is not built")
 
 
 def main():
-    if sys.argv[1:2] == ["--client"]:
-        client(sys.argv[2], *map(int, sys.argv[3:]))
-        return
-    stand_in = [sys.executable, "-SE", f"{PYTHON}/stand_in_tbd.py"]
-    server = sys.argv[1:] or ([TBD] if os.access(TBD, os.X_OK) else stand_in)
-    print(f"over {' '.join(map(os.path.basename, server))}, load {os.getloadavg()[0]:.1f}")
-    print("| Transfers a second | Java | Python |")
-    print("|---|---|---|")
-    for row in ROWS:
-        connections, _, count = row
-        found = [measured(server, it, row) for it in (in_java, in_python)]
-        name = f"{'single' if count == 1 else f'batches of {count}'}, connections: {connections}"
-        print(f"| {name} | {found[0]:.0f} | {found[1]:.0f} |", flush=True)
+    print(f"load {os.getloadavg()[0]:.1f} on {os.cpu_count()} CPUs")
+    print(
+        "| Server | Connections | Transfers a request | Session | Client |\n|---|---|---|---|---|"
+    )
+    for name, words in servers():
+        for row in ROWS:
+            figures = " | ".join(f"{measured(it, row, words):.0f}" for it in FACES)
+            print(f"| {name} | {row[0]} | {row[2]} | {figures} |", flush=True)
 
 
 if __name__ == "__main__":

@@ -12,51 +12,76 @@ public final class Throughput {
 
     private static Transfer transfer() {
         Transfer.Builder it = Transfer.builder().debitAccountId(1).creditAccountId(2).amount(1);
-        return it.id(Ids.id()).ledger(700).code(10).build();
+        return it.id(UInt128.id()).ledger(700).code(10).build();
     }
 
-    private static List<Transfer> batch(int count) {
-        List<Transfer> batch = new ArrayList<>();
+    private static List<Transfer> records(int count) {
+        List<Transfer> records = new ArrayList<>(count);
         for (int at = 0; at < count; at++) {
-            batch.add(transfer());
+            records.add(transfer());
+        }
+        return records;
+    }
+
+    private static TransferBatch batch(int count) {
+        TransferBatch batch = new TransferBatch(count);
+        for (int at = 0; at < count; at++) {
+            batch.add();
+            batch.setId(UInt128.id());
+            batch.setDebitAccountId(1);
+            batch.setCreditAccountId(2);
+            batch.setAmount(1);
+            batch.setLedger(700);
+            batch.setCode(10);
         }
         return batch;
     }
 
-    private static void requests(Session session, int requests, int count) {
-        for (int at = 0; at < requests; at++) {
-            Session.requireOk(session.createTransfers(batch(count)));
+    /** What one connection does for a request. */
+    private static List<Runnable> requests(String face, String path, int connections, int count) {
+        List<Runnable> requests = new ArrayList<>();
+        for (int at = 0; at < connections; at++) {
+            if (face.equals("session")) {
+                Session session = Session.register(new SocketTransport(Address.unix(path)));
+                requests.add(() -> Session.requireOk(session.createTransfers(records(count))));
+            } else {
+                Client client = new Client(UInt128.asBytes(0), new String[] {path});
+                requests.add(() -> client.createTransfers(batch(count)));
+            }
+        }
+        return requests;
+    }
+
+    private static void repeat(Runnable request, int times) {
+        for (int at = 0; at < times; at++) {
+            request.run();
         }
     }
 
     /**
      * Prints the transfers a second.
      *
-     * @param words the socket's path, how many connections, requests of each, transfers of each
+     * @param words session (and records) or client (and batches), the socket's path, how many
+     *     connections, requests of each, transfers of each
      * @throws Exception where one fails
      */
     public static void main(String[] words) throws Exception {
-        int connections = Integer.parseInt(words[1]);
-        int requests = Integer.parseInt(words[2]);
-        int count = Integer.parseInt(words[3]);
-        List<Session> sessions = new ArrayList<>();
-        for (int at = 0; at < connections; at++) {
-            sessions.add(Session.register(new SocketTransport(Address.unix(words[0]))));
-        }
+        int connections = Integer.parseInt(words[2]);
+        int times = Integer.parseInt(words[3]);
+        int count = Integer.parseInt(words[4]);
         Account.Builder account = Account.builder().ledger(700).code(10);
-        sessions.get(0).createAccounts(List.of(account.id(1).build(), account.id(2).build()));
+        Session.register(new SocketTransport(Address.unix(words[1])))
+                .createAccounts(List.of(account.id(1).build(), account.id(2).build()));
+        List<Runnable> requests = requests(words[0], words[1], connections, count);
         ExecutorService threads = Executors.newFixedThreadPool(connections);
         long began = System.nanoTime();
         List<Future<?>> work = new ArrayList<>();
-        for (Session it : sessions) {
-            work.add(threads.submit(() -> requests(it, requests, count)));
-        }
+        requests.forEach(it -> work.add(threads.submit(() -> repeat(it, times))));
         for (Future<?> it : work) {
             it.get();
         }
         double seconds = (System.nanoTime() - began) / 1e9;
-        System.out.printf("%.0f%n", connections * requests * (double) count / seconds);
-        threads.shutdown();
-        sessions.forEach(Session::close);
+        System.out.printf("%.0f%n", connections * times * (double) count / seconds);
+        System.exit(0); // connections are open
     }
 }
