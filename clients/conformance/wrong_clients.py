@@ -290,6 +290,21 @@ WRONG = {
         'NARROW = struct.Struct("<QIIIHHQ")',
         'NARROW = struct.Struct("<QIIHIHQ")',
     ),
+    "a long list: timeout and user_data_32 change places": (
+        "layout.py",
+        '"user_data_32": (104, 4),\n    "timeout": (108, 4),\n',
+        '"user_data_32": (108, 4),\n    "timeout": (104, 4),\n',
+    ),
+    "a long list: upper halves are lost": (
+        "columns.py",
+        "for half in range(2):",
+        "for half in range(1):",
+    ),
+    "a long list: records of a lookup lose their upper halves": (
+        "columns.py",
+        "if any(upper) else lower",
+        "if False else lower",
+    ),
     "unknown result codes are passed over": (
         "frames.py",
         "    except ValueError as unknown:\n        raise BadReply(str(unknown)) from None\n",
@@ -302,13 +317,14 @@ WRONG = {
     ),
     "ids follow the clock back": (
         "ids.py",
-        "            if now > self.millisecond:\n",
-        "            if now != self.millisecond:\n",
+        "            if now > self.last >> RANDOM_BITS:\n",
+        "            if now != self.last >> RANDOM_BITS:\n",
     ),
     "ids of one millisecond are drawn anew": (
         "ids.py",
-        "                self.random += 1\n",
-        "                self.random = int.from_bytes(os.urandom(10), 'little')\n",
+        "                self.last += 1  #",
+        "                self.last = now << RANDOM_BITS | "
+        "int.from_bytes(os.urandom(10), 'little')  #",
     ),
     "two requests in flight on a connection": (
         "sockets.py",

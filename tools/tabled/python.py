@@ -44,7 +44,7 @@ def layout(table):
         "from __future__ import annotations",
         "",
         "import struct",
-        "from typing import Dict",
+        "from typing import Dict, Tuple",
         "",
         "from .names import Operation",
         "",
@@ -67,10 +67,21 @@ def layout(table):
         "# what follows the six numbers of 16 bytes that each record begins with",
         f'NARROW = struct.Struct("{packed(table, "transfer", 96)}")',
         "",
+        *places(table, "account"),
+        *places(table, "transfer"),
+        "",
         *item_tables(table),
         "",
     ]
     return "\n".join(lines)
+
+
+def places(table, name):
+    """Where a record has each field, and how many bytes."""
+    lines = [f"{name.upper()}_PLACES: Dict[str, Tuple[int, int]] = {{"]
+    for it in t.fields(table, name):
+        lines.append(f'    "{it["name"]}": ({it["at"]}, {t.size_of(it)}),')
+    return [*lines, "}"]
 
 
 def place(table, name):
@@ -115,7 +126,8 @@ def records(table):
 
 
 def record(table, name):
-    """The class of a record: its fields with their ranges, and its bytes."""
+    """The class of a record: its fields with their ranges, and its bytes. Its fields are in the
+    order of TigerBeetle's class, which has none that is reserved."""
     kind, fields = t.camel(name), t.fields(table, name)
     flags = f"{kind}Flags"
     ranges = ", ".join(
@@ -125,14 +137,14 @@ def record(table, name):
         *wrapped(f"_{name.upper()} = {{{ranges}}}"),
         "",
         "",
-        "@dataclasses.dataclass(frozen=True)",
+        "@dataclasses.dataclass",
         f"class {kind}:",
     ]
-    for field in fields:
+    for field in sorted(fields, key=lambda it: it["name"] == "reserved"):
         is_flags = field["name"] == "flags"
-        default = "" if field["name"] == "id" else f" = {flags}(0)" if is_flags else " = 0"
+        what = f"{flags} = {flags}.NONE" if is_flags else "int = 0"
         unit = f"  # {field['unit']}" if "unit" in field else ""
-        lines.append(f"    {field['name']}: {flags if is_flags else 'int'}{default}{unit}")
+        lines.append(f"    {field['name']}: {what}{unit}")
     wide = ", ".join(f"self.{it['name']}" for it in fields if it["type"] == "u128")
     narrow = ", ".join(f"self.{it['name']}" for it in fields if it["type"] != "u128")
     settle = f"_settle(self, _{name.upper()}, {flags})"
@@ -142,15 +154,14 @@ def record(table, name):
         f"        {settle}",
         "",
         "    def to_bytes(self) -> bytes:",
-        "        # again, since Python lets a frozen record be changed by force",
-        f"        {settle}",
+        f"        {settle}  # again, since it may have been changed",
         *wrapped(f"        wide = ({wide})"),
         *wrapped(f"        narrow = ({narrow})"),
         '        return b"".join(map(u128, wide)) + NARROW.pack(*narrow)',
         "",
         "    @classmethod",
         f"    def from_bytes(cls, data: bytes) -> {kind}:",
-        f"        return _read(cls, data, {flags})",
+        f"        return _read(cls, data, {flags}, {name.upper()}_PLACES)",
         "",
     ]
     return "\n".join(lines)

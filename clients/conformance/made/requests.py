@@ -310,6 +310,11 @@ def request_scenarios():
     )
 
 
+def field_of(name, number, flags):
+    """A field's value, made of a number."""
+    return [list(flags)[number % len(flags)]] if name == "flags" else str(number)
+
+
 def record_scenarios():
     for kind, (create, find, fields, flags, _, to_bytes, whole) in KINDS.items():
         for at, field in enumerate(fields):
@@ -354,6 +359,25 @@ def record_scenarios():
                 ["5"],
                 served(frame_of(2, find, ["5"]), reply(2, find, to_bytes(every), commit=9)),
                 {"ok": {"records": [whole(every)]}},
+            ),
+        )
+        long = [
+            {
+                name: field_of(name, MOST[at] // 41 * it - at, flags)
+                for at, name in enumerate(fields)
+            }
+            for it in range(1, 41)
+        ]
+        ids, body = [it["id"] for it in long], b"".join(map(to_bytes, long))
+        yield scenario(
+            f"{kind}s-40",
+            "40 records, each field of which differs from all others, both ways.",
+            ask(create, long, served(request(1, create, body), empty(1, create))),
+            ask(
+                find,
+                ids,
+                served(frame_of(2, find, ids), reply(2, find, body, commit=9)),
+                {"ok": {"records": [whole(it) for it in long]}},
             ),
         )
         twice, absent = [whole({"id": "5"}), whole({"id": "5"}), whole({"id": "6"})], [

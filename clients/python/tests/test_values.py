@@ -168,10 +168,9 @@ class Values(unittest.TestCase):
                     self.assertEqual(kind.from_bytes(record.to_bytes()), record)
 
     def test_batches_at_random(self):
-        """A record somewhere in a batch has one field that is wrong: where it is made, or by
-        force in a record that was right."""
+        """A record somewhere in a batch has one field that is wrong: when it is made, or later."""
         chance = random.Random(11)
-        for _ in range(2000):
+        for turn in range(2000):
             kind, fields, name = chance.choice(
                 ((Account, ACCOUNT, "account"), (Transfer, TRANSFER, "transfer"))
             )
@@ -183,7 +182,7 @@ class Values(unittest.TestCase):
                         for field, greatest in fields.items()
                     }
                 )
-                for _ in range(chance.randrange(1, 6))
+                for _ in range(chance.randrange(1, 6 if turn % 20 else 40))
             ]
             field, at = chance.choice(list(fields)), chance.randrange(len(right))
             value = chance.choice(
@@ -200,9 +199,9 @@ class Values(unittest.TestCase):
                 ),
             )
             kept = getattr(right[at], field)
-            object.__setattr__(right[at], field, value)
-            self.refused(f"{kind.__name__}.{field}", create, right)
-            object.__setattr__(right[at], field, kept)
+            setattr(right[at], field, value)
+            self.refused(f"{name}s[{at}].{field}", create, right)
+            setattr(right[at], field, kept)
             self.assertEqual(create(right), [])
             self.assertEqual(self.sent.pop()[48:], b"".join(it.to_bytes() for it in right))
             self.session.number = 0
@@ -318,10 +317,87 @@ class Values(unittest.TestCase):
         for read in Account.from_bytes, Transfer.from_bytes, tb.reply_length, tb.request_fault:
             self.assertRaisesRegex(tb.InvalidValue, "is a view that was released", read, gone)
 
-    def test_records_cannot_be_changed(self):
-        record = Transfer(1)
-        with self.assertRaises(AttributeError):
-            record.amount = 1.5
+    def test_records_can_be_changed(self):
+        record = Transfer()
+        record.amount, record.flags = 5, TransferFlags.pending
+        record.flags |= TransferFlags.linked
+        self.assertEqual(record, Transfer(amount=5, flags=TransferFlags(3)))
+        self.assertEqual(Transfer.from_bytes(record.to_bytes()), record)
+        record.amount = 1.5
+        with self.assertRaisesRegex(tb.InvalidType, "Transfer.amount must be an int, not float"):
+            record.to_bytes()
+
+    def test_positions_are_those_of_tigerbeetle(self):
+        values = [*range(1, 11), AccountFlags.linked, 11]
+        self.assertEqual(
+            Account(*values),
+            Account(
+                id=1,
+                debits_pending=2,
+                debits_posted=3,
+                credits_pending=4,
+                credits_posted=5,
+                user_data_128=6,
+                user_data_64=7,
+                user_data_32=8,
+                ledger=9,
+                code=10,
+                flags=AccountFlags.linked,
+                timestamp=11,
+            ),
+        )
+        self.assertEqual(
+            Transfer(*range(1, 12), TransferFlags.pending, 12),
+            Transfer(
+                id=1,
+                debit_account_id=2,
+                credit_account_id=3,
+                amount=4,
+                pending_id=5,
+                user_data_128=6,
+                user_data_64=7,
+                user_data_32=8,
+                timeout=9,
+                ledger=10,
+                code=11,
+                flags=TransferFlags.pending,
+                timestamp=12,
+            ),
+        )
+
+    def test_a_prepared_request_is_as_it_was(self):
+        for count in (1, 100):
+            records = [Transfer(1, 2, 3, 4, ledger=5, code=6) for _ in range(count)]
+            wanted = records[0].to_bytes() * count
+            self.session.prepare(tb.Operation.create_transfers, records)
+            for it in records:
+                it.amount = 99
+            records.clear()
+            self.assertEqual(self.session.in_doubt.items[0].amount, 4)
+            self.session.retry()
+            self.assertEqual(self.sent.pop()[48:], wanted)
+
+    def test_one_record_and_many_have_the_same_bytes(self):
+        """Batches are packed and read a field at a time."""
+        chance = random.Random(12)
+        for kind, fields, operation in (
+            (Account, ACCOUNT, tb.Operation.create_accounts),
+            (Transfer, TRANSFER, tb.Operation.create_transfers),
+        ):
+            records = [
+                kind(
+                    **{
+                        field: chance.choice((0, 1, chance.randrange(greatest + 1), greatest))
+                        for field, greatest in fields.items()
+                    }
+                )
+                for _ in range(200)
+            ]
+            self.session.prepare(operation, records)
+            self.assertEqual(self.session.pending[48:], b"".join(it.to_bytes() for it in records))
+            self.assertEqual(list(self.session.in_doubt.items), records)
+            self.session.retry()
+            self.sent.clear()
 
     def test_ids_of_lookups(self):
         for call in (self.session.lookup_accounts, self.session.lookup_transfers):
@@ -368,7 +444,7 @@ class Values(unittest.TestCase):
                 *NO_NUMBERS,
             ):
                 self.refused(f"{name}[1]", call, [right, value], types=TypeError)
-            for value in (right, wrong, None, 1, "x", right.to_bytes(), {right: 1}, object()):
+            for value in (right, wrong, None, 1, "x", right.to_bytes(), {1: right}, object()):
                 self.refused(name, call, value, types=TypeError)
             self.refused(name, call, [right] * 8191, types=ValueError)
 

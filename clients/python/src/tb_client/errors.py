@@ -29,7 +29,7 @@ class Invalid(NotSent):
 
     def __init__(self, field: str, problem: str) -> None:
         super().__init__(field, problem)
-        self.field = field
+        self.field, self.problem = field, problem
 
     def __str__(self) -> str:
         return " ".join(self.args)

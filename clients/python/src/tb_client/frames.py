@@ -16,6 +16,7 @@ from typing import (
     cast,
 )
 
+from .columns import packed, unpacked
 from .errors import BadReply, InvalidType, InvalidValue
 from .layout import (
     HEADER,
@@ -60,26 +61,30 @@ def request_frame(
 ) -> bytes:
     """The frame of a request. One that the server would find malformed, and end at, is refused."""
     kind = operation_of(operation)
-    client = whole("client", client, U128, 1)
-    if kind == Operation.register:
-        session, number = whole("session", session, 0), whole("number", number, 0)
-    else:
-        session, number = whole("session", session, U64), whole("number", number, U32, 1)
-    _test_body(kind, body)
+    client, session, number = _tested(kind, client, session, number)
+    if not isinstance(body, (bytes, bytearray)):
+        raise InvalidType("body", f"must be bytes, not {kind_of(body)}")
+    _test_length(kind, len(body))
     return u128(client) + REQUEST.pack(session, number, kind, len(body)) + body
 
 
-def _test_body(operation: Operation, body: object) -> None:
-    if not isinstance(body, (bytes, bytearray)):
-        raise InvalidType("body", f"must be bytes, not {kind_of(body)}")
+def _tested(kind: Operation, client: int, session: int, number: int) -> tuple[int, int, int]:
+    client = whole("client", client, U128, 1)
+    if kind == Operation.register:
+        return client, whole("session", session, 0), whole("number", number, 0)
+    return client, whole("session", session, U64), whole("number", number, U32, 1)
+
+
+def _test_length(operation: Operation, length: int) -> None:
+    """Refuses a body of so many bytes, where the operation has none such."""
     if operation == Operation.register:
-        if body:
+        if length:
             raise InvalidValue("body", "of a register must be empty")
         return
-    count, rest = divmod(len(body), ITEM_SIZES[operation])
+    count, rest = divmod(length, ITEM_SIZES[operation])
     if rest:
         raise InvalidValue(
-            "body", f"of {len(body)} bytes has no whole items of {ITEM_SIZES[operation]} bytes"
+            "body", f"of {length} bytes has no whole items of {ITEM_SIZES[operation]} bytes"
         )
     if count > ITEMS_MAX:
         raise InvalidValue("body", f"must have at most {ITEMS_MAX} items, not {count}")
@@ -102,7 +107,7 @@ def body_of(operation: Operation, items: Iterable[object]) -> bytes:
                 f"{name}[{at}]",
                 f"must be {'an' if kind is Account else 'a'} {kind.__name__}, not {kind_of(it)}",
             )
-    return b"".join(map(kind.to_bytes, given))
+    return packed(kind, name, given)
 
 
 @dataclasses.dataclass(frozen=True)
@@ -117,15 +122,16 @@ class Request:
 
     @classmethod
     def from_bytes(cls, frame: bytes) -> Request:
-        client, session, number, operation, body = _parts(frame)
+        asked = header_of(frame)
+        operation, body = asked.operation, bytes(frame[HEADER:])
         items: list[Item] = []
         if operation == Operation.create_accounts:
-            items = [*_items(body, RECORD, Account.from_bytes)]
+            items = [*unpacked(Account, body)]
         elif operation == Operation.create_transfers:
-            items = [*_items(body, RECORD, Transfer.from_bytes)]
+            items = [*unpacked(Transfer, body)]
         elif operation != Operation.register:
             items = [*_items(body, ID, lambda data: u128_at(data, 0))]
-        return cls(client, session, number, operation, tuple(items))
+        return dataclasses.replace(asked, items=tuple(items))
 
     def to_bytes(self) -> bytes:
         """The request's frame. Items of another kind than the operation takes are refused."""
@@ -135,28 +141,24 @@ class Request:
         )
 
 
-def _parts(frame: bytes) -> tuple[int, int, int, Operation, bytes]:
-    """The parts of a request's frame, which is whole and has no fault."""
+def header_of(frame: bytes) -> Request:
+    """A request without its items. Bytes that the server would find malformed, and end at, are
+    refused."""
     if not isinstance(frame, (bytes, bytearray)):
         raise InvalidType("frame", f"must be bytes, not {kind_of(frame)}")
     if len(frame) < HEADER:
         raise InvalidValue("frame", f"must have {HEADER} bytes at least, not {len(frame)}")
-    session, number, operation, length = REQUEST.unpack_from(frame, 16)
-    client, body = u128_at(frame, 0), bytes(frame[HEADER:])
-    if length != len(body):
+    client, (session, number, operation, length) = u128_at(frame, 0), REQUEST.unpack_from(frame, 16)
+    if length != len(frame) - HEADER:
         raise InvalidValue(
-            "frame", f"has a body of {len(body)} bytes, and its header says {length}"
+            "frame", f"has a body of {len(frame) - HEADER} bytes, and its header says {length}"
         )
-    if request_frame(client, session, number, operation, body) != frame:
+    kind = operation_of(operation)
+    _tested(kind, client, session, number)
+    _test_length(kind, length)
+    if u128(client) + REQUEST.pack(session, number, kind, length) != frame[:HEADER]:
         raise InvalidValue("frame", "has reserved bytes that are not 0")
-    return client, session, number, Operation(operation), body
-
-
-def header_of(frame: bytes) -> Request:
-    """A request without its items. Bytes that the server would find malformed, and end at, are
-    refused."""
-    client, session, number, operation, _ = _parts(frame)
-    return Request(client, session, number, operation, ())
+    return Request(client, session, number, kind, ())
 
 
 def _header_at(data: object, at: int) -> bytes:
@@ -351,10 +353,11 @@ def said_by(operation: Operation, body: bytes) -> Said:
     """What the body of a reply says: results or records, and nothing of a register."""
     if operation == Operation.register:
         return None
-    if operation == Operation.lookup_accounts:
-        return _items(body, RECORD, Account.from_bytes)
-    if operation == Operation.lookup_transfers:
-        return _items(body, RECORD, Transfer.from_bytes)
+    if operation in (Operation.lookup_accounts, Operation.lookup_transfers):
+        _test_whole(body, RECORD)
+        if operation == Operation.lookup_accounts:
+            return unpacked(Account, body)
+        return unpacked(Transfer, body)
     names: Any = (
         CreateAccountResult if operation == Operation.create_accounts else CreateTransferResult
     )
@@ -397,7 +400,11 @@ def _test_found(ids: Iterator[int], records: Sequence[Union[Account, Transfer]])
             raise BadReply(f"a record with id {it.id} came, which was not looked up there")
 
 
-def _items(body: bytes, size: int, read: Callable[[bytes], T]) -> list[T]:
+def _test_whole(body: bytes, size: int) -> None:
     if len(body) % size:
         raise BadReply(f"a body of {len(body)} bytes has no whole items of {size}")
+
+
+def _items(body: bytes, size: int, read: Callable[[bytes], T]) -> list[T]:
+    _test_whole(body, size)
     return [read(body[at : at + size]) for at in range(0, len(body), size)]

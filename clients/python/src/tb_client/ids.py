@@ -27,21 +27,17 @@ class Ids:
     def __init__(self, now: Callable[[], int] = _now, draw: Callable[[int], bytes] = _draw) -> None:
         self.now, self.draw = now, draw
         self.lock = threading.Lock()
-        self.millisecond = self.random = 0
+        self.last = 0
 
     def next(self) -> int:
         with self.lock:
             now = self.now() // MILLISECOND
-            if now > self.millisecond:
-                self.millisecond, self.random = now, int.from_bytes(
-                    self.draw(RANDOM_BITS // 8), "little"
-                )
+            if now > self.last >> RANDOM_BITS:
+                drawn = int.from_bytes(self.draw(RANDOM_BITS // 8), "little")
+                self.last = now << RANDOM_BITS | drawn
             else:
-                self.random += 1
-            # The random part went past its end: the ids rise into the next millisecond.
-            self.millisecond += self.random >> RANDOM_BITS
-            self.random &= 2**RANDOM_BITS - 1
-            return self.millisecond << RANDOM_BITS | self.random
+                self.last += 1  # past the end of the random part it is the next millisecond
+            return self.last
 
 
 _ids = Ids()

@@ -5,7 +5,7 @@ tools/tables.py --write makes this file from tables/ledger.json.
 from __future__ import annotations
 
 import struct
-from typing import Dict
+from typing import Dict, Tuple
 
 from .names import Operation
 
@@ -27,6 +27,37 @@ REPLY = struct.Struct("<QIBB2xIQ4x")
 RESULT_FORMAT = struct.Struct("<II")
 # what follows the six numbers of 16 bytes that each record begins with
 NARROW = struct.Struct("<QIIIHHQ")
+
+ACCOUNT_PLACES: Dict[str, Tuple[int, int]] = {
+    "id": (0, 16),
+    "debits_pending": (16, 16),
+    "debits_posted": (32, 16),
+    "credits_pending": (48, 16),
+    "credits_posted": (64, 16),
+    "user_data_128": (80, 16),
+    "user_data_64": (96, 8),
+    "user_data_32": (104, 4),
+    "reserved": (108, 4),
+    "ledger": (112, 4),
+    "code": (116, 2),
+    "flags": (118, 2),
+    "timestamp": (120, 8),
+}
+TRANSFER_PLACES: Dict[str, Tuple[int, int]] = {
+    "id": (0, 16),
+    "debit_account_id": (16, 16),
+    "credit_account_id": (32, 16),
+    "amount": (48, 16),
+    "pending_id": (64, 16),
+    "user_data_128": (80, 16),
+    "user_data_64": (96, 8),
+    "user_data_32": (104, 4),
+    "timeout": (108, 4),
+    "ledger": (112, 4),
+    "code": (116, 2),
+    "flags": (118, 2),
+    "timestamp": (120, 8),
+}
 
 ITEM_SIZES: Dict[int, int] = {
     Operation.create_accounts: 128,

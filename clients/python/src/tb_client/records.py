@@ -3,9 +3,9 @@ from __future__ import annotations
 
 import dataclasses
 import enum
-from typing import Any, Type, TypeVar, Union
+from typing import Any, Iterable, Type, TypeVar, Union
 
-from .layout import NARROW, RECORD
+from .layout import ACCOUNT_PLACES, NARROW, RECORD, TRANSFER_PLACES
 from .names import AccountFlags, CreateAccountResult, CreateTransferResult, TransferFlags
 from .errors import InvalidType, InvalidValue
 from .values import U16, U32, U64, U128, kind_of, viewed, whole
@@ -41,8 +41,8 @@ def _settle(record: Any, ranges: dict[str, int], flags: Any) -> None:
         fields["flags"] = _flags(f"{name}.flags", fields["flags"], flags)
 
 
-def _read(kind: Type[Record], data: bytes, flags: Any) -> Record:
-    """The record that the bytes spell. All that they can spell is in range."""
+def _read(kind: Type[Record], data: bytes, flags: Any, places: Iterable[str]) -> Record:
+    """The record that the bytes are. All that they can be is in range."""
     name = f"{kind.__name__}.from_bytes"
     if not isinstance(data, (bytes, bytearray, memoryview)):
         raise InvalidType(name, f"takes bytes, not {kind_of(data)}")
@@ -53,7 +53,7 @@ def _read(kind: Type[Record], data: bytes, flags: Any) -> Record:
     record = object.__new__(kind)
     *narrow, bits, timestamp = NARROW.unpack_from(data, 96)
     values = (*(u128_at(data, at) for at in range(0, 96, 16)), *narrow, flags(bits), timestamp)
-    record.__dict__.update(zip(kind.__dataclass_fields__, values))
+    record.__dict__.update(zip(places, values))
     return record
 
 
@@ -65,9 +65,9 @@ _ACCOUNT = {
 }
 
 
-@dataclasses.dataclass(frozen=True)
+@dataclasses.dataclass
 class Account:
-    id: int
+    id: int = 0
     debits_pending: int = 0
     debits_posted: int = 0
     credits_pending: int = 0
@@ -75,18 +75,17 @@ class Account:
     user_data_128: int = 0
     user_data_64: int = 0
     user_data_32: int = 0
-    reserved: int = 0
     ledger: int = 0
     code: int = 0
-    flags: AccountFlags = AccountFlags(0)
+    flags: AccountFlags = AccountFlags.NONE
     timestamp: int = 0  # nanoseconds
+    reserved: int = 0
 
     def __post_init__(self) -> None:
         _settle(self, _ACCOUNT, AccountFlags)
 
     def to_bytes(self) -> bytes:
-        # again, since Python lets a frozen record be changed by force
-        _settle(self, _ACCOUNT, AccountFlags)
+        _settle(self, _ACCOUNT, AccountFlags)  # again, since it may have been changed
         wide = (
             self.id, self.debits_pending, self.debits_posted, self.credits_pending,
             self.credits_posted, self.user_data_128,
@@ -99,7 +98,7 @@ class Account:
 
     @classmethod
     def from_bytes(cls, data: bytes) -> Account:
-        return _read(cls, data, AccountFlags)
+        return _read(cls, data, AccountFlags, ACCOUNT_PLACES)
 # end of account
 
 
@@ -111,9 +110,9 @@ _TRANSFER = {
 }
 
 
-@dataclasses.dataclass(frozen=True)
+@dataclasses.dataclass
 class Transfer:
-    id: int
+    id: int = 0
     debit_account_id: int = 0
     credit_account_id: int = 0
     amount: int = 0
@@ -124,15 +123,14 @@ class Transfer:
     timeout: int = 0  # seconds
     ledger: int = 0
     code: int = 0
-    flags: TransferFlags = TransferFlags(0)
+    flags: TransferFlags = TransferFlags.NONE
     timestamp: int = 0  # nanoseconds
 
     def __post_init__(self) -> None:
         _settle(self, _TRANSFER, TransferFlags)
 
     def to_bytes(self) -> bytes:
-        # again, since Python lets a frozen record be changed by force
-        _settle(self, _TRANSFER, TransferFlags)
+        _settle(self, _TRANSFER, TransferFlags)  # again, since it may have been changed
         wide = (
             self.id, self.debit_account_id, self.credit_account_id, self.amount, self.pending_id,
             self.user_data_128,
@@ -145,7 +143,7 @@ class Transfer:
 
     @classmethod
     def from_bytes(cls, data: bytes) -> Transfer:
-        return _read(cls, data, TransferFlags)
+        return _read(cls, data, TransferFlags, TRANSFER_PLACES)
 # end of transfer
 
 
