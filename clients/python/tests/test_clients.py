@@ -255,15 +255,29 @@ class Face(unittest.TestCase):
     def test_calls_that_no_server_has(self):
         client = ClientSync(0, "3000")
         self.addCleanup(client.close)
-        for name in (
-            "query_accounts",
-            "query_transfers",
-            "get_account_transfers",
-            "get_account_balances",
+        debits = tb.AccountFilter(account_id=1, limit=10, flags=tb.AccountFilterFlags.DEBITS)
+        newest = tb.QueryFilter(ledger=1, limit=10, flags=tb.QueryFilterFlags.REVERSED)
+        for name, given in (
+            ("query_accounts", newest),
+            ("query_transfers", newest),
+            ("get_account_transfers", debits),
+            ("get_account_balances", debits),
         ):
             with self.assertRaises(tb.NotSupported) as caught:
-                getattr(client, name)(object())
+                getattr(client, name)(given)
             self.assertIn("lookup_", caught.exception.instead)
+
+    def test_names_of_tigerbeetles_errors(self):
+        with self.assertRaises(tb.InitError):
+            ClientSync(0, "a:1:2")
+        client = ClientSync(0, "3000")
+        with self.assertRaises(tb.IntegerOverflowError):
+            client.create_accounts([tb.Account(code=65536)])
+        with self.assertRaises(tb.PacketError):
+            client.lookup_accounts(range(8191))
+        client.close()
+        with self.assertRaises(tb.ClientClosedError):
+            client.lookup_accounts([1])
 
     def test_wrong_arguments(self):
         for more in ({"sessions": 0}, {"sessions": 65}, {"timeout": 0}, {"timeout": "1"}):

@@ -190,3 +190,10 @@ class EventsFailed(ClientError):
         more = len(self.results) - SHOWN
         said = ", ".join(f"event {it.index}: {it.result.name}" for it in self.results[:SHOWN])
         return f"{said}, and {more} more" if more > 0 else said
+
+
+# As TigerBeetle's client in Python calls them
+ClientClosedError = Closed
+InitError = Invalid
+IntegerOverflowError = InvalidValue
+NativeError = PacketError = ClientError
