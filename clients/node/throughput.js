@@ -3,12 +3,13 @@
 
 // Requests and transfers in a second, by this client and by the one in Python.
 //
-//     node throughput.js [SERVER [WORD ..]]
+//     node throughput.js [--before FOLDER] [SERVER [WORD ..]]
 //
 // SERVER is tbd, or another program of its words, behind the listener. Where none is given a
 // program answers each request at once and keeps nothing: the figures are of the clients alone.
-// Each figure is of one run, whose load on the machine is printed with it. In brackets:
-// microseconds of the client's own CPU for each.
+// --before has another clone of this repository, whose clients are measured in the same run. Each
+// figure is of one run, whose load on the machine is printed with it. In brackets: microseconds of
+// the client's own CPU for each.
 
 const { spawn, spawnSync } = require("node:child_process");
 const { mkdtempSync, rmSync } = require("node:fs");
@@ -20,11 +21,11 @@ const { performance } = require("node:perf_hooks");
 const tb = require("./index.js");
 const { HEADER_SIZE, LAYOUTS } = require("./names.js");
 
-const PYTHON = path.join(__dirname, "..", "python", "src");
-const LISTENER = path.join(__dirname, "..", "..", "apps", "host", "tb-listen");
+const TOP = path.join(__dirname, "..", "..");
+const LISTENER = path.join(TOP, "apps", "host", "tb-listen");
 const SINGLES = 4800; // requests of one transfer each
 const CONNECTIONS = 24;
-const BATCHES = 10;
+const BATCHES = 60;
 const ANSWER = "--answer";
 
 const IN_PYTHON = `
@@ -57,22 +58,24 @@ measured(singles, all_at_once)
 measured(batches * tb.ITEMS_MAX, batched)
 `;
 
-function sale() {
+function sale(client) {
   const accounts = { debit_account_id: 1n, credit_account_id: 2n };
-  return { id: tb.id(), ...accounts, amount: 1n, ledger: 700, code: 10 };
+  return { id: client.id(), ...accounts, amount: 1n, ledger: 700, code: 10 };
 }
 
-async function some(place, count) {
-  const session = await tb.Session.register(new tb.Socket(place));
-  for (let at = 0; at < count; at += 1) tb.requireOk(await session.createTransfers([sale()]));
+async function some(client, place, count) {
+  const session = await client.Session.register(new client.Socket(place));
+  for (let at = 0; at < count; at += 1) {
+    client.requireOk(await session.createTransfers([sale(client)]));
+  }
   session.close();
 }
 
-async function batched(place) {
-  const session = await tb.Session.register(new tb.Socket(place, { timeout: 60_000 }));
+async function batched(client, place) {
+  const session = await client.Session.register(new client.Socket(place, { timeout: 60_000 }));
   for (let at = 0; at < BATCHES; at += 1) {
-    const sales = Array.from({ length: tb.ITEMS_MAX }, sale);
-    tb.requireOk(await session.createTransfers(sales));
+    const sales = Array.from({ length: tb.ITEMS_MAX }, () => sale(client));
+    client.requireOk(await session.createTransfers(sales));
   }
   session.close();
 }
@@ -85,20 +88,21 @@ async function measured(count, call) {
   return [Math.round((1000 * count) / (performance.now() - began)), (user + system) / count];
 }
 
-async function here(place) {
-  await some(place, 100);
-  const each = SINGLES / CONNECTIONS;
-  const atOnce = () => Promise.all(Array.from({ length: CONNECTIONS }, () => some(place, each)));
+/** The figures of the client in Node of a clone. */
+async function inNode(top, place) {
+  const client = require(path.join(top, "clients", "node"));
+  await some(client, place, 100);
+  const shared = () => some(client, place, SINGLES / CONNECTIONS);
   return [
-    await measured(SINGLES, () => some(place, SINGLES)),
-    await measured(SINGLES, atOnce),
-    await measured(BATCHES * tb.ITEMS_MAX, () => batched(place)),
+    await measured(SINGLES, () => some(client, place, SINGLES)),
+    await measured(SINGLES, () => Promise.all(Array.from({ length: CONNECTIONS }, shared))),
+    await measured(BATCHES * tb.ITEMS_MAX, () => batched(client, place)),
   ];
 }
 
-function inPython(place) {
+function inPython(top, place) {
   const counts = [SINGLES, CONNECTIONS, BATCHES].map(String);
-  const env = { ...process.env, PYTHONPATH: PYTHON };
+  const env = { ...process.env, PYTHONPATH: path.join(top, "clients", "python", "src") };
   const words = ["-B", "-c", IN_PYTHON, place, ...counts];
   const ran = spawnSync("python3", words, { env, encoding: "utf8" });
   if (ran.status !== 0) throw new Error(ran.stderr);
@@ -136,8 +140,7 @@ function answer(place) {
   net.createServer(serve).listen(place, () => console.error("listens on it"));
 }
 
-async function listening(folder, place) {
-  const server = process.argv.slice(2);
+async function listening(folder, place, server) {
   const listener = ["-B", LISTENER, "--unix", place, "--", ...server];
   const words = server.length
     ? ["python3", ...listener, "run", path.join(folder, "ledger.journal"), "64"]
@@ -162,20 +165,27 @@ function row(name, figures) {
 }
 
 async function main() {
+  const isBoth = process.argv[2] === "--before";
+  const server = process.argv.slice(isBoth ? 4 : 2);
+  const clones = [["", TOP], ...(isBoth ? [[" before", path.resolve(process.argv[3])]] : [])];
   const folder = mkdtempSync(path.join(tmpdir(), "tb-throughput-"));
   const place = path.join(folder, "ledger.sock");
   let listener;
   try {
-    listener = await listening(folder, place);
+    listener = await listening(folder, place, server);
     const session = await tb.Session.register(new tb.Socket(place));
     await session.createAccounts([1n, 2n].map((id) => ({ id, ledger: 700, code: 10 })));
     session.close();
     const of = `load of ${cpus().length} cores`;
     console.log(`| | 1 connection, requests/s | ${CONNECTIONS} connections, requests/s ` +
       `| batches of ${tb.ITEMS_MAX}, transfers/s | ${of} |\n|---|---|---|---|---|`);
-    console.log(row(`Node ${process.versions.node}`, await here(place)));
-    console.log(row("Python", inPython(place)));
-    console.log(row(`Node ${process.versions.node}, again`, await here(place)));
+    for (const again of ["", ", again"]) {
+      for (const [name, top] of clones) {
+        const node = `Node ${process.versions.node}${name}${again}`;
+        console.log(row(node, await inNode(top, place)));
+        console.log(row(`Python${name}${again}`, inPython(top, place)));
+      }
+    }
   } finally {
     listener?.kill();
     rmSync(folder, { recursive: true });

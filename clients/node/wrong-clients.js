@@ -3,12 +3,12 @@
 
 // Sees that the kit catches wrong clients: this client with one thing wrong, each in turn.
 //
-//     node wrong-clients.js [--only PART] [--from N] [--scenarios PATTERN] [--list]
+//     node wrong-clients.js [--only PART] [--from N] [--scenarios PATTERN] [--list] [--texts]
 //
 // Each wrong client is an edit in a copy. The kit has to fail for it; the client as it is has to
 // pass. Prints which scenario caught it, and 'N of M wrong clients are caught'. Status 1 where one
 // is not. --only takes those with this part in their names, --from those from the Nth of all on.
-// --list prints their names, and tries none.
+// --list prints their names, and tries none. --texts sees that each can be made, and tries none.
 
 const { spawnSync } = require("node:child_process");
 const { cpSync, mkdtempSync, readFileSync, rmSync, writeFileSync } = require("node:fs");
@@ -152,8 +152,8 @@ const WRONG = {
   "pauses that do not grow": ["lib/session.js", "Math.min(2 * pause, most)", "pause"],
   "what was never sent stays in doubt": [
     "lib/session.js",
-    "if (why instanceof ClientError && !why.sent && !this.#mayBeSent) {",
-    "if (false) {",
+    "if (why instanceof ClientError && !why.sent && !this.#mayBeSent) this",
+    "if (false) this",
   ],
   "lost, then nobody listens, is told as not sent": [
     "lib/session.js",
@@ -248,13 +248,10 @@ const WRONG = {
     "  if (asked.client !== client) {",
   ],
   "an amount is a double": [
-    "lib/values.js",
-    '  if (typeof value !== "bigint") {\n    throw',
-    '  if (typeof value === "number") return BigInt(Math.round(value));\n' +
-      '  if (typeof value !== "bigint") {\n    throw',
     "lib/records.js",
-    "    wide(name, value, field.most);\n",
-    "    value = wide(name, value, field.most);\n",
+    "    const value = item[field.name];\n",
+    "    let value = item[field.name];\n" +
+      "    if (field.bytes > 7 && typeof value === 'number') value = BigInt(Math.round(value));\n",
   ],
   "what is null is 0": [
     "lib/records.js",
@@ -294,6 +291,24 @@ function edited(folder, edits) {
   }
 }
 
+/** Whether each wrong client can be made: its texts are there once. */
+function texts(chosen) {
+  let gone = 0;
+  for (const [name, edits] of chosen) {
+    const folder = mkdtempSync(path.join(tmpdir(), "tb-wrong-"));
+    try {
+      edited(folder, edits);
+    } catch (fault) {
+      console.log(`FAILED: ${name}: ${fault.message}`);
+      gone += 1;
+    } finally {
+      rmSync(folder, { recursive: true });
+    }
+  }
+  console.log(`${chosen.length - gone} of ${chosen.length} wrong clients can be made`);
+  return gone === 0 ? 0 : 1;
+}
+
 /** The kit's status for an edited client, and the scenario that failed first. */
 function caught(edits, scenarios = "*") {
   const folder = mkdtempSync(path.join(tmpdir(), "tb-wrong-"));
@@ -313,22 +328,24 @@ function caught(edits, scenarios = "*") {
 /** Those that were asked for, by number and name, and whether they are only to be listed. */
 function asked() {
   const text = { type: "string" };
-  const options = { only: text, from: text, scenarios: text, list: { type: "boolean" } };
-  const { only = "", from = "1", scenarios, list } = parseArgs({ options }).values;
+  const truth = { type: "boolean" };
+  const options = { only: text, from: text, scenarios: text, list: truth, texts: truth };
+  const { only = "", from = "1", ...given } = parseArgs({ options }).values;
   const all = Object.entries(WRONG).map(([name, edits], at) => ({ number: at + 1, name, edits }));
   const named = all.filter((it) => it.name.includes(only));
   if (named.length === 0) throw new Error(`no wrong client has such a name: ${only}`);
   const found = named.filter((it) => it.number >= Number(from));
   if (found.length === 0) throw new Error(`no wrong client is there from number ${from} on`);
-  return { scenarios, isList: list, chosen: found.map((it) => [`${it.number} ${it.name}`, it.edits]) };
+  return { ...given, chosen: found.map((it) => [`${it.number} ${it.name}`, it.edits]) };
 }
 
 function main() {
-  const { scenarios, isList, chosen } = asked();
-  if (isList) {
+  const { scenarios, list, texts: isTexts, chosen } = asked();
+  if (list) {
     for (const [name] of chosen) console.log(name);
     return 0;
   }
+  if (isTexts) return texts(chosen);
   const asItIs = caught([], scenarios);
   if (asItIs.status !== 0) {
     console.log(`FAILED: the client as it is: ${asItIs.said}`);

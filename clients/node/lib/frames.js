@@ -17,7 +17,8 @@ const {
   Status,
 } = require("../names.js");
 const { BadReply, InvalidType, InvalidValue } = require("./errors.js");
-const { ACCOUNT, TRANSFER, putRecord, putWide, recordAt, wideAt } = require("./records.js");
+const { ACCOUNT, TRANSFER, putRecord, putWide } = require("./records.js");
+const { recordAt, viewOf, wideAt } = require("./records.js");
 const { U128, kindOf, listed, shown, wide } = require("./values.js");
 
 /** Where the fields of a layout stand, by name. */
@@ -95,11 +96,12 @@ function framed(operation, items) {
   const name = ITEM_NAMES[operation];
   const size = REQUEST_ITEM_SIZES[operation];
   const frame = headed(operation, listed(name, items, ITEMS_MAX).length * size);
+  const view = viewOf(frame);
   for (let index = 0, at = HEADER_SIZE; at < frame.length; index += 1, at += size) {
     if (isCreate(operation)) {
-      putRecord(RECORDS[operation], items[index], `${name}[${index}]`, frame, at);
+      putRecord(RECORDS[operation], items[index], `${name}[${index}]`, view, at);
     } else {
-      putWide(frame, at, wide(`${name}[${index}]`, items[index], U128));
+      putWide(view, at, wide(`${name}[${index}]`, items[index], U128));
     }
   }
   return frame;
@@ -115,7 +117,7 @@ function headed(operation, length) {
 /** Puts the client, the session and the number into a request's frame. */
 function number(frame, client, session, request) {
   frame.fill(0, REQUEST.client, REQUEST.client + ID_SIZE); // which another session may have had
-  putWide(frame, REQUEST.client, client);
+  putWide(viewOf(frame), REQUEST.client, client);
   frame.writeBigUInt64LE(session, REQUEST.session);
   frame.writeUInt32LE(request, REQUEST.request);
 }

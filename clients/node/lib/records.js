@@ -16,9 +16,14 @@ function kindNamed(name, shown) {
 const ACCOUNT = kindNamed("account", "an account");
 const TRANSFER = kindNamed("transfer", "a transfer");
 
-function putWide(data, at, value) {
-  data.writeBigUInt64LE(value & U64, at);
-  if (value > U64) data.writeBigUInt64LE(value >> 64n, at + 8);
+/** What writes numbers into the memory of these bytes. */
+function viewOf(data) {
+  return new DataView(data.buffer, data.byteOffset, data.byteLength);
+}
+
+function putWide(view, at, value) {
+  view.setBigUint64(at, value, true); // of which it takes the lower half
+  if (value > U64) view.setBigUint64(at + 8, value >> 64n, true);
 }
 
 function wideAt(data, at) {
@@ -27,42 +32,38 @@ function wideAt(data, at) {
   return high === 0n ? low : (high << 64n) | low;
 }
 
-function putField(where, field, value, data, at) {
-  const name = `${where}.${field.name}`;
-  if (field.bytes >= 8) {
-    wide(name, value, field.most);
-    if (field.bytes === 16) putWide(data, at, value);
-    else data.writeBigUInt64LE(value, at);
-  } else {
-    data.writeUIntLE(narrow(name, value, field.most), at, field.bytes);
-  }
-}
-
-/** Whether a value is one that a field of a record holds, without a name made for a fault. */
+/** Whether a value is one that a field of a record holds. */
 function holds(field, value) {
   if (field.bytes >= 8) return typeof value === "bigint" && value >= 0n && value <= field.most;
   return Number.isInteger(value) && value >= 0 && value <= field.most;
 }
 
-function putHeld(field, value, data, at) {
-  if (field.bytes === 16) putWide(data, at, value);
-  else if (field.bytes === 8) data.writeBigUInt64LE(value, at);
-  else data.writeUIntLE(value, at, field.bytes);
+/** Throws what is wrong with a value that a field does not hold. */
+function refuse(name, field, value) {
+  if (field.bytes >= 8) wide(name, value, field.most);
+  else narrow(name, value, field.most);
+}
+
+function putField(field, value, view, at) {
+  if (field.bytes === 16) putWide(view, at, value);
+  else if (field.bytes === 8) view.setBigUint64(at, value, true);
+  else if (field.bytes === 4) view.setUint32(at, value, true);
+  else view.setUint16(at, value, true);
 }
 
 /**
  * Puts a record's bytes, over zeros. Fields that are left out are 0. One that is undefined is
  * refused, and so is one that the record does not have: a field misspelt would else be 0.
  */
-function putRecord(kind, item, where, data, at) {
+function putRecord(kind, item, where, view, at) {
   if (typeof item !== "object" || item === null || Array.isArray(item)) {
     throw new InvalidType(where, `must be ${kind.shown}, not ${kindOf(item)}`);
   }
   for (const field of kind.fields) {
     const value = item[field.name];
     if (value === undefined && !(field.name in item)) continue;
-    if (holds(field, value)) putHeld(field, value, data, at + field.at);
-    else putField(where, field, value, data, at + field.at);
+    if (!holds(field, value)) refuse(`${where}.${field.name}`, field, value);
+    putField(field, value, view, at + field.at);
   }
   for (const name in item) {
     if (!kind.names.has(name)) {
@@ -86,7 +87,7 @@ function recordAt(kind, data, at) {
 
 function whole(kind, name, fields) {
   const data = Buffer.alloc(RECORD_SIZE);
-  putRecord(kind, fields, name, data, 0);
+  putRecord(kind, fields, name, viewOf(data), 0);
   return Object.freeze(recordAt(kind, data, 0));
 }
 
@@ -114,5 +115,6 @@ module.exports = {
   putWide,
   recordAt,
   transfer,
+  viewOf,
   wideAt,
 };
