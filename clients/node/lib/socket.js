@@ -1,5 +1,6 @@
 "use strict";
 
+const dns = require("node:dns");
 const net = require("node:net");
 const tls = require("node:tls");
 const { performance } = require("node:perf_hooks");
@@ -98,23 +99,27 @@ class Connection {
    * client, whose ticket it then sends. Node gives up a connection on which a write fails, and with
    * it what came over it. So many milliseconds are left for the request.
    */
-  async welcome(left) {
-    const ticket = this.#ticket(Math.min(TICKET_MAX, left / TICKET_PART)); // it may come at once
+  async welcome(left, signal) {
+    const most = Math.min(TICKET_MAX, left / TICKET_PART);
+    const ticket = this.#ticket(most, signal); // it may come at once
     await news();
     if (!this.isLeft) await ticket;
   }
 
-  async #ticket(ms) {
+  async #ticket(ms, signal) {
     const it = this.#socket;
     if (it.getProtocol?.() !== "TLSv1.3") return;
     await new Promise((resolve) => {
-      const timer = after(ms, resolve);
-      for (const word of ["session", "close"]) {
-        it.once(word, () => {
-          clearTimeout(timer);
-          news().then(resolve); // nothing is written amid the reading of a ticket
-        });
-      }
+      let off = () => {};
+      const end = () => {
+        clearTimeout(timer);
+        off();
+        resolve();
+      };
+      const timer = after(ms, end);
+      off = onAbort(signal, end);
+      // nothing is written amid the reading of a ticket
+      for (const word of ["session", "close"]) it.once(word, () => news().then(end));
     });
   }
 
@@ -205,6 +210,27 @@ class Connection {
   }
 }
 
+const lookups = new Map(); // the callbacks that wait for a host, by host and options
+
+/**
+ * Looks up a host. The system's lookup has no limit, and holds a thread of Node's few: all that ask
+ * for the same host meanwhile share one.
+ */
+function lookUp(host, options, call) {
+  const key = JSON.stringify([host, options]);
+  const waiting = lookups.get(key);
+  if (waiting !== undefined) {
+    waiting.push(call);
+    return;
+  }
+  const calls = [call];
+  lookups.set(key, calls);
+  dns.lookup(host, options, (...said) => {
+    lookups.delete(key);
+    for (const it of calls) it(...said);
+  });
+}
+
 /** Begins to connect: over TLS where there are options for it. */
 function begun(address, secure) {
   if (typeof address === "string") {
@@ -212,7 +238,7 @@ function begun(address, secure) {
     if (Buffer.byteLength(address) > PATH_MAX) throw new Error("the path is too long for a socket");
     return net.connect({ path: address });
   }
-  const place = { ...address, noDelay: true, autoSelectFamily: true };
+  const place = { ...address, lookup: lookUp, noDelay: true, autoSelectFamily: true };
   if (secure === undefined) return net.connect(place);
   const name = net.isIP(address.host) ? {} : { servername: address.host };
   return tls.connect({ rejectUnauthorized: true, ...name, ...secure, ...place });
@@ -428,7 +454,7 @@ class Socket {
           this.#endCall = end;
         };
         const connection = await call(this.address, this.#secure, share, signal, hold);
-        await connection.welcome(deadline - performance.now());
+        await connection.welcome(deadline - performance.now(), signal);
         if (this.#isClosed || this.#isEnding) connection.close();
         this.#testOpen();
         this.#connection = connection;

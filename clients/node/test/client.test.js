@@ -85,7 +85,7 @@ test("sessions have ids of the client's range", async (t) => {
 test("a caller that leaves is told whether its call may be sent, and why it waited", async (t) => {
   const client = clientOf(path.join(tmpdir(), `no-${process.pid}.sock`), { timeout: 20 });
   t.after(() => client.close());
-  const left = client.createTransfers([sale()], { within: 100 });
+  const left = client.createTransfers([sale()], { within: 1000 });
   await assert.rejects(left, (why) => {
     assert.ok(why instanceof tb.Cancelled && !why.sent, why);
     assert.match(why.message, /CannotConnect/);

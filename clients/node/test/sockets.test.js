@@ -2,6 +2,7 @@
 
 const assert = require("node:assert/strict");
 const { execFileSync, spawn, spawnSync } = require("node:child_process");
+const dns = require("node:dns");
 const {
   mkdtempSync,
   promises: fs,
@@ -166,6 +167,39 @@ test("a call that is given up while a ticket is waited for sends nothing", {
   call.catch(() => {}).then(() => socket.close());
   await assert.rejects(call, { name: "Cancelled", sent: false });
   assert.equal(count, 0);
+});
+
+test("a limit that ends while a ticket is waited for ends the call at once", {
+  skip: noOpenssl,
+}, async (t) => {
+  const [place, secure] = await listeningOverTls((it) => answers(it));
+  const { setTimeout } = globalThis;
+  const { once } = tls.TLSSocket.prototype;
+  const limit = new AbortController();
+  t.mock.method(tls.TLSSocket.prototype, "once", function take(word, call) {
+    if (word !== "session") return once.call(this, word, call);
+    setImmediate(() => setImmediate(() => setImmediate(() => limit.abort())));
+    return this; // no ticket comes
+  });
+  t.mock.method(globalThis, "setTimeout", (call, ms) => setTimeout(call, ms === 100 ? 9000 : ms));
+  const began = performance.now();
+  const socket = new tb.Socket(place, { timeout: 60_000, tls: secure });
+  const call = tb.Session.register(socket, { signal: limit.signal });
+  call.catch(() => {}).then(() => socket.close());
+  await assert.rejects(call, { name: "Cancelled", sent: false });
+  assert.ok(performance.now() - began < 9000);
+});
+
+test("who asks for the same host meanwhile shares one lookup of it", async (t) => {
+  const calls = [];
+  t.mock.method(dns, "lookup", (host, options, call) => calls.push(call));
+  const socket = () => new tb.Socket({ host: "ledger.example", port: 3001 }, { timeout: 50 });
+  const register = () => tb.Session.register(socket(), { attempts: 1 });
+  for (const count of [1, 2]) {
+    await Promise.all([1, 2, 3].map(() => assert.rejects(register(), tb.CannotConnect)));
+    assert.equal(calls.length, count);
+    calls[count - 1](new Error("no such host")); // what is asked later is looked up again
+  }
 });
 
 test("a close at any moment of a connecting is told by its name", async (t) => {
