@@ -39,9 +39,9 @@ class Asking(Tables):
 
     def test_names_and_places(self):
         _, out, _ = self.ask("query_transfers", "--names", self.names)
-        for part in ("1,881.25 EUR (188125)", "1.25 EUR (125)", "700 EUR", "10 customer deposit"):
+        parts = ("1,881.25 EUR (188125)", "1.25 EUR    (125)", "700 EUR", "10 customer deposit")
+        for part in (*parts, "1 House"):
             self.assertIn(part, out)
-        self.assertIn("1 House", out)
         _, out, _ = self.ask("query_accounts", "ledger=700", "--names", self.names)
         self.assertIn("1,881.25 EUR (188125)", out)
         self.assertIn("1 House", out)

@@ -243,8 +243,8 @@ def test_a_final_refusal_over_tls(env, tmp_path, paths):
 
 
 MANY = ", ".join(f"id={it}" for it in range(1, 8192))
-AUDIT = "get_account_transfers is no operation here: tbd dump FILE | telovamish audit --account ID"
-BOOKS = "query_transfers is no operation here: the books have them as tables of SQL"
+AUDIT = "get_account_transfers is no operation here: the books answer it: telovamish --books TABLES"
+BOOKS = "query_transfers is no operation here: the books answer it: telovamish --books TABLES"
 TWICE = "id was given before in this event; ',' comes between events"
 TYPED = [
     ("a place is one in the text that was typed", "at=1\nrequest=1\nclient=0 register;", "line 3, column 9: client is not 0"),

@@ -252,8 +252,8 @@ def test_version_and_wrong_words(tmp_path):
     [
         ('{"id":1}', "line 1, column 1: found '{\"id\":1}'"),
         ("register;\n\nclient=0 register;", "line 3, column 9: client is not 0"),
-        ("get_account_transfers id=1;", "line 1, column 1: get_account_transfers is no operation here: tbd dump FILE | telovamish audit --account ID shows them"),
-        ("query_transfers id=1;", "line 1, column 1: query_transfers is no operation here: the books have them"),
+        ("get_account_transfers id=1;", "line 1, column 1: get_account_transfers is no operation here: the books answer it: telovamish --books TABLES"),
+        ("query_transfers id=1;", "line 1, column 1: query_transfers is no operation here: the books answer it: telovamish --books TABLES"),
         ("create_transfers id=1 flags=linked,pending amount=1;", "line 1, column 43: flags are joined by '|': flags=..|pending"),
         ("create_accounts id=1 id=2;", "line 1, column 22: id was given before in this event; ',' comes between events"),
         ("client=1 client=2 register;", "line 1, column 11: client was given before in this statement"),

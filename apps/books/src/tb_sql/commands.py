@@ -253,7 +253,7 @@ def main(arguments: Optional[List[str]] = None) -> int:
         if sys.stdout is not None:
             sys.stdout.flush()
         return status
-    except (Stop, Fault) as stop:
+    except Fault as stop:
         print(f"tb-sql: {stop}", file=sys.stderr)
         return stop.status
     except BrokenPipeError:

@@ -1,10 +1,11 @@
 """What ends a command, each with its exit status."""
 
+from telovamish.faults import Fault
 
 AGAIN = "Load it into a new database, or delete this one and load again: nothing is lost by that."
 
 
-class Stop(Exception):
+class Stop(Fault):
     """Ends a command with a line on standard error, and a status."""
 
     status = 1

@@ -3,13 +3,14 @@ get_account_transfers, get_account_balances, query_accounts and query_transfers.
 
 from __future__ import annotations
 
+import re
 from typing import Any, Callable, Dict, List, Mapping, NamedTuple, Tuple
 
 from telovamish.objects import record_shown
 from telovamish.records import Account, Transfer
 from telovamish.words import ITEMS_MAX, TIME_MAX, U16, U32, U64, U128
 
-from .numbers import HISTORY, PENDING, VOID, held
+from .numbers import HISTORY, PENDING, VOID, held, id_of, time_of
 from .reading import Reading, Row
 from .schema import SUMS
 
@@ -186,16 +187,30 @@ def filter_of(operation: str, words: Mapping[str, str]) -> Dict[str, int]:
 
 
 def number_of(name: str, text: str, fields: Mapping[str, int]) -> int:
-    is_number = text.isascii() and text.isdigit() and len(text) <= 39
-    if not is_number or int(text) > fields[name]:
-        raise ValueError(f"{name} is a number from 0 to {fields[name]}, and not {text[:60]!r}")
-    return int(text)
+    """A number, in digits or in hexadecimal ones after 0x; a timestamp may be a date in UTC, of
+    which the last one has the whole day."""
+    is_time = name.startswith("timestamp") and "-" in text[1:]
+    try:
+        number = moment(text, name == "timestamp_max") if is_time else int(id_of(text))
+    except (ValueError, OverflowError):
+        number = -1
+    if not 0 <= number <= fields[name]:
+        dates = ", or a date in UTC" if "timestamp" in name else ""
+        raise ValueError(
+            f"{name} is a number from 0 to {fields[name]}{dates}, and not {text[:60]!r}"
+        )
+    return number
+
+
+def moment(text: str, is_last: bool) -> int:
+    """The nanoseconds of a date or a time; as the last one of a range that of a day's end."""
+    return time_of(text, is_last) - (is_last and ":" not in text)
 
 
 def flags_of(text: str, names: Mapping[str, int]) -> int:
-    """Flags by their names, with commas between them."""
+    """Flags by their names, with `,` or `|` between them."""
     bits = 0
-    for name in filter(None, text.split(",")):
+    for name in filter(None, re.split("[,|]", text)):
         if name not in names:
             raise ValueError(f"no flag {name[:60]!r}: {', '.join(names)}")
         bits |= names[name]

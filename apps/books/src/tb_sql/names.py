@@ -13,17 +13,28 @@ from __future__ import annotations
 
 import re
 import tomllib
-from typing import Any, Dict, Iterable, List, Optional, Sequence, Tuple
+from typing import Any, Dict, Iterable, Iterator, List, Optional, Sequence, Tuple
 
 from telovamish.words import U16, U32, U128
 
 from .errors import Failed, Refused
 from .numbers import Number, held
+from .schema import SUMS
 
 GREATEST = {"ledger": U32, "code": U16, "account": U128}
 PLACES_MAX = 38
 LENGTH_MAX = 200
+AMOUNTS = ("amount", *SUMS)
+# the fields of records that have names, each with its kind and the field of its name in JSON
+NAMED = {
+    "ledger": ("ledger", "ledger_name"),
+    "code": ("code", "code_name"),
+    "debit_account_id": ("account", "debit_name"),
+    "credit_account_id": ("account", "credit_name"),
+}
+NAMED_ACCOUNT = {**NAMED, "id": ("account", "name")}
 Row = Tuple[str, Number, str, int]  # of the table of names
+Shown = Dict[str, Any]  # an account, a transfer or the balances of one, as telovamish shows it
 
 
 class Names:
@@ -45,6 +56,44 @@ class Names:
         """An amount with its point and unit; nothing for a ledger without a name."""
         found = self._found.get(("ledger", str(ledger)))
         return f"{decimal(value, found[1])} {found[0]}" if found else None
+
+    def _words(self, record: Shown, ledger: Optional[Number]) -> Iterator[Tuple[str, str, str]]:
+        """Each field of a record that has a name, or an amount with a unit: the field, the field
+        that is added to JSON, and the text."""
+        of_ledger = record.get("ledger", ledger)
+        fields = NAMED_ACCOUNT if "debits_posted" in record else NAMED
+        for field, value in record.items():
+            if field in fields and self.name(fields[field][0], value):
+                yield field, fields[field][1], self.name(fields[field][0], value)
+            elif field in AMOUNTS and of_ledger is not None:
+                written = self.amount(int(value), of_ledger)
+                if written is not None:
+                    yield field, f"{field}_written", written
+
+    def for_table(self, records: Sequence[Shown], ledger: Optional[Number] = None) -> List[Shown]:
+        """Records with names, and with amounts as they are written before each exact integer. Where
+        records name no ledger, they are of this one."""
+        widths = {it: max(len(row[it]) for row in records) for it in AMOUNTS if it in records[0]}
+        found: List[Shown] = []
+        for row in records:
+            more = dict(row)
+            for field, _, text in self._words(row, ledger):
+                if field in widths:
+                    more[field] = f"{text} {f'({row[field]})':>{widths[field] + 2}}"
+                else:
+                    more[field] = f"{row[field]} {text}"
+            found.append(more)
+        return found
+
+    def for_json(self, shown: Any) -> Any:
+        """An object in which each record has further fields: names, and amounts as written."""
+        if isinstance(shown, list):
+            return [self.for_json(it) for it in shown]
+        if not isinstance(shown, dict):
+            return shown
+        if "ledger" in shown:
+            return {**shown, **{more: text for _, more, text in self._words(shown, None)}}
+        return {name: self.for_json(it) for name, it in shown.items()}
 
 
 def decimal(value: int, places: int) -> str:

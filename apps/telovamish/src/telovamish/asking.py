@@ -9,6 +9,7 @@ import click
 from tb_client.ids import new_client
 
 from . import ledgers
+from .programs import books as books_of
 from .running import Printer, run_files, run_text
 from .sending import Desk
 from .words import CLIENTS_MAX, U64, U128
@@ -31,6 +32,8 @@ OPTIONS: tuple[tuple[str, str, Any, str], ...] = (
     ("--json", "", None, "Replies as JSON, a line each."),
     ("--quiet", "", None, "Shows only refusals and events that failed."),
     ("--command", "TEXT", str, "Serves these statements, and ends."),
+    ("--books", "TABLES", str, "Tables of tb-sql, which answer questions about the history."),
+    ("--names", "TOML", str, "Names and decimal places of ledgers, codes and accounts."),
 )
 Given = dict[str, Any]
 
@@ -67,6 +70,7 @@ def desk_of(given: Given) -> Iterator[tuple[Desk, Printer]]:
     """A desk and a printer over the ledger that the options name."""
     check_options(given)
     program, numbers = given["program"], (given["clients_max"], given["profile"])
+    books = books_of(given["names"], given["books"])
     if given["connect"]:
         context = ledgers.context_of(given["ca"], given["certificate"], given["key"])
         ledger = ledgers.over(given["connect"], context)
@@ -74,9 +78,9 @@ def desk_of(given: Given) -> Iterator[tuple[Desk, Printer]]:
         with progress(given["file"]) as show:
             ledger = ledgers.of_file(given["file"], program, numbers, show)
     else:
-        ledger = ledgers.in_memory(program, numbers)
+        ledger = books.ledger() if given["books"] else ledgers.in_memory(program, numbers)
     try:
-        yield Desk(ledger, client_of(given)), Printer(given["json"], given["quiet"])
+        yield Desk(ledger, client_of(given)), Printer(given["json"], given["quiet"], books)
     finally:
         ledger.close()
 

@@ -14,7 +14,7 @@ from .forms import read, written
 from .live import Replay, facts
 from .model import RESOLVES, Event, Evicted, Expired, Fact, Ledger
 from .objects import item_shown, line, record_shown
-from .programs import program
+from .programs import books as books_of, program
 from .records import Account, Transfer
 from .streams import Entry, Item, read_dump
 from .words import RESULTS, TIME_MAX, U128
@@ -121,11 +121,11 @@ def time_of(word: str) -> int:
     return int(word) if moment is None else moment
 
 
-def audited(wanted: Wanted, replay: Replay, check: Optional[Check]) -> Iterator[bytes]:
+def audited(wanted: Wanted, replay: Replay, check: Optional[Check], books: Any) -> Iterator[bytes]:
     """The lines of each item of standard input."""
     audit, ledger = Audit(wanted), Ledger(1)
     for item, reply, ledger, found in facts(read("dump", "Head", read_dump), replay):
-        yield "".join(map(line, audit.lines(item, ledger, found))).encode()
+        yield "".join(line(it, books) for it in audit.lines(item, ledger, found)).encode()
         if check:
             check.note(item, reply, ledger, found)
     if wanted.account is not None and wanted.account not in ledger.accounts:
@@ -136,21 +136,20 @@ def audited(wanted: Wanted, replay: Replay, check: Optional[Check]) -> Iterator[
 @click.option("--account", type=click.IntRange(0, U128), metavar="ID", help="Only its lines.")
 @click.option("--after", type=int, default=0, metavar="COMMIT", help="Entries after this one.")
 @click.option("--from", "first", type=time_of, default="0", metavar="TIME", help="From then on.")
-@click.option(
-    "--to", "last", type=time_of, default=str(TIME_MAX), metavar="TIME", help="Until then."
-)
+@click.option("--to", "last", type=time_of, default=f"{TIME_MAX}", metavar="TIME", help="Until it.")
 @click.option("--utc", "is_utc", is_flag=True, help="Each time as a date too.")
 @click.option("--follow", is_flag=True, help="Says that the input may stay open.")
 @click.option("--check", "is_check", is_flag=True, help="Compares all with tbs at the end.")
+@click.option("--names", metavar="TOML", help="Adds names, and amounts with decimal places.")
 @click.option("--tbs", metavar="FILE", help="The program tbs.")
 def command(tbs: Optional[str], is_check: bool, follow: bool, **wanted: Any) -> None:
     """A dump in, what became of each event out: an object a line.
 
     Expiries come before the entry that found them, by time and id. A record is shown as the ledger
     keeps it, with its timestamp and its amount, and what was refused as it was sent."""
-    path = program("tbs", tbs, "--tbs")
+    path, books = program("tbs", tbs, "--tbs"), books_of(wanted.pop("names"))
     with Replay(path) as replay:
         check = Check(path, replay) if is_check else None
-        written(audited(Wanted(**wanted), replay, check))
+        written(audited(Wanted(**wanted), replay, check, books))
         if check:
             click.echo(f"telovamish: as in tbs: {check.compare()}", err=True)

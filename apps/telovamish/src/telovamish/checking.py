@@ -9,7 +9,7 @@ from tb_client import Program, Reply
 
 from .faults import Fault
 from .live import Replay
-from .model import PENDING, POST, RESOLVES, Event, Expired, Fact, Ledger
+from .model import PENDING, POST, RESOLVES, Event, Expired, Fact, Known, Ledger
 from .objects import record_shown
 from .reader import Pair
 from .records import RECORD, Account, Transfer, ids_of, records
@@ -139,10 +139,7 @@ def post_of(pending: int, id: int) -> bytes:
 
 
 def compare_records(
-    kind: type[Account] | type[Transfer],
-    known: Mapping[int, Account] | Mapping[int, Transfer],
-    ids: bytes,
-    found: bytes,
+    kind: type[Known], known: Mapping[int, Known], ids: bytes, found: bytes
 ) -> None:
     """Compares the records of a lookup with what the model has of them."""
     wanted = (record_shown(known[it]) for it in ids_of(ids) if it in known)

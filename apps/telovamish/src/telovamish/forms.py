@@ -2,13 +2,14 @@
 from __future__ import annotations
 
 import sys
-from typing import IO, Callable, Iterable, Iterator, TypeVar
+from typing import IO, Callable, Iterable, Iterator, Optional, TypeVar
 
 import click
 
 from .faults import Fault, devices
 from .filling import Known
 from .kinds import FIRST_BYTES, WORDS, kind_of
+from .programs import books as books_of
 from .texts import pairs as pairs_of, pieces
 
 T = TypeVar("T")
@@ -49,12 +50,14 @@ def requests() -> None:
 
 
 @click.command()
-def replies() -> None:
+@click.option("--names", metavar="TOML", help="Adds names, and amounts with decimal places.")
+def replies(names: Optional[str]) -> None:
     """The replies of `tbs run` or `tbs replay` in, an object for each out."""
     from .objects import line, reply_shown
     from .streams import read_replies
 
-    written(line(reply_shown(it)).encode() for it in read("replies", "no frames", read_replies))
+    books, found = books_of(names), read("replies", "no frames", read_replies)
+    written(line(reply_shown(it), books).encode() for it in found)
 
 
 @click.command()

@@ -27,11 +27,8 @@ def is_text(first: bytes) -> bool:
 
 def is_reply(first: bytes) -> bool:
     """The first reply of a history is of a register, and its session is its commit."""
-    return (
-        len(first) >= 48
-        and first[24:30] == bytes(4) + bytes([OPERATIONS["register"], 0])
-        and first[16:24] == first[36:44] != bytes(8)
-    )
+    is_register = first[24:30] == bytes(4) + bytes([OPERATIONS["register"], 0])
+    return len(first) >= 48 and is_register and first[16:24] == first[36:44] != bytes(8)
 
 
 def kind_of(first: bytes) -> str:

@@ -82,11 +82,10 @@ def of_file(
     file: str, option: Optional[str], numbers: Numbers, show: Callable[[str], None]
 ) -> Ledger:
     """A ledger in a file, which a `tbd` of its own serves. While it is read, how far is shown."""
-    path, (clients_max, profile) = program("tbd", option), head_of(file)
+    path, head = program("tbd", option), head_of(file)
+    clients_max, profile = numbers[0] or head[0], numbers[1] or head[1]
     with started(file):
-        it = Program(
-            path, numbers[0] or clients_max, numbers[1] or profile, file=file, restarts=True
-        )
+        it = Program(path, clients_max, profile, file=file, restarts=True)
         while not it.wait(PATIENCE):
             show(it.told[-1].removeprefix("tbd: ") if it.told else f"starting {path}")
     ready = next(filter(None, map(READY.match, it.told)), None)
@@ -112,9 +111,8 @@ def held_by(file: str, fault: str) -> str:
             if fault.startswith("Locked") and "->" not in words and words[5].endswith(place):
                 path = pathlib.Path(f"/proc/{words[4]}/cmdline")
                 command = path.read_bytes().replace(b"\0", b" ") if path.exists() else b""
-                holders.append(
-                    f"process {words[4]} ({command.decode(errors='replace').strip():.200})"
-                )
+                shown = command.decode(errors="replace").strip()
+                holders.append(f"process {words[4]} ({shown:.200})")
     return f": {', '.join(holders)} has it" if holders else ""
 
 

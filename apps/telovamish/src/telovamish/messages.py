@@ -19,10 +19,10 @@ MARKS = {"=": "'='", "|": "'|'", ",": "','", ";": "';'"}
 LARGEST = {U16: "65535", U32: "4294967295", U64: "18446744073709551615", U128: "2^128 - 1"}
 BYTES = {" ": "a space", "\t": "a tab", "\n": "the end of the line", "\r": "the end of the line"}
 # operations of other ledgers of this kind, and what has their results here
-AUDIT = "tbd dump FILE | telovamish audit --account ID shows them (docs/use/READING.md)"
-BOOKS = "the books have them as tables of SQL (docs/use/READING.md)"
-ELSEWHERE = {"get_account_transfers": AUDIT, "get_account_balances": AUDIT}
-ELSEWHERE |= {"query_accounts": BOOKS, "query_transfers": BOOKS, "get_change_events": BOOKS}
+BOOKS = "the books answer it: telovamish --books TABLES, tb-sql ask (docs/use/READING.md)"
+ELSEWHERE = {it: BOOKS for it in ("get_account_transfers", "get_account_balances")}
+ELSEWHERE |= {"query_accounts": BOOKS, "query_transfers": BOOKS}
+ELSEWHERE["get_change_events"] = "tbd dump FILE | telovamish audit has them (docs/use/READING.md)"
 
 
 def nearest(written: str, names: list[str]) -> str:

@@ -1,11 +1,5 @@
 """What a ledger holds after each entry, from the entries and the replies to them: a reply says
-which events were refused, and this model says the rest. It judges no event.
-
-    ledger = Ledger(head.clients_max)
-    for entry, reply in ..:  # as live.Replay gives them
-        for fact in ledger.enter(entry, reply):
-            ..  # expiries, an eviction, what became of each event, in this order
-    ledger.accounts[1].debits_posted
+which events were refused, and this model says the rest. It judges no event. live.facts uses it.
 
 docs/use/RULES.md has the rules. `telovamish audit --check` compares all of it with the proved
 program.
@@ -86,7 +80,8 @@ class Ledger:
         self._due: list[tuple[int, int]] = []  # when pending transfers expire, and their ids
 
     def enter(self, entry: Entry, reply: Reply) -> Iterator[Fact]:
-        """Enters the next entry, as its facts are taken: all of them have to be."""
+        """Enters the next entry, as its facts are taken: all of them have to be. Expiries come
+        first, then an eviction, then what became of each event."""
         yield from self._expire(entry.time)
         yield from self._enter_session(entry)
         operation = entry.request.operation

@@ -15,7 +15,9 @@ NARROW = {"user_data_32", "reserved", "timeout", "ledger", "code"}
 TYPES: dict[str, type[Record]] = {"account": Account, "transfer": Transfer}
 
 
-def line(shown: dict[str, Any]) -> str:
+def line(shown: dict[str, Any], books: Any = None) -> str:
+    """An object as a line, to which books add names."""
+    shown = books.names.for_json(shown) if books else shown
     return json.dumps(shown, separators=(",", ":")) + "\n"
 
 

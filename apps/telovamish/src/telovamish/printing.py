@@ -18,9 +18,8 @@ def event_text(operation: str, record: bytes) -> str:
 
 
 def statement_text(pair: Pair) -> str:
-    header = " ".join(
-        f"{name}={getattr(pair, name)}" for name in HEADER if name == "at" or getattr(pair, name)
-    )
+    numbers = {it: getattr(pair, it) for it in HEADER}
+    header = " ".join(f"{it}={number}" for it, number in numbers.items() if number or it == "at")
     size = 16 if len(FIELDS[pair.operation]) == 1 else 128
     events = (pair.body[at : at + size] for at in range(0, len(pair.body), size))
     shown = ", ".join(event_text(pair.operation, it) for it in events)

@@ -1,10 +1,11 @@
-"""Finds the proved programs: by an option, an environment variable, PATH, in the repository."""
+"""Finds tb-sql and the proved programs: by an option, an environment variable, PATH, in a clone."""
 from __future__ import annotations
 
+import importlib
 import os
 import pathlib
 import shutil
-from typing import Optional
+from typing import Any, Optional
 
 from .faults import Device
 
@@ -32,3 +33,13 @@ def program(name: str, option: Optional[str] = None, flag: str = "--program") ->
         f"{missing}: install its package, build it by `rt run -- --version` in crates/{name}, "
         f"or name it by {flag} or {name.upper()}=FILE"
     )
+
+
+def books(names: Optional[str], tables: Optional[str] = None) -> Any:
+    """What tb-sql adds by the options --names and --books; None without them."""
+    if not (names or tables):
+        return None
+    try:
+        return importlib.import_module("tb_sql.terminal").Books(names, tables)
+    except ImportError as why:
+        raise Device(f"--names and --books need tb-sql: install telovamish-books ({why})") from None

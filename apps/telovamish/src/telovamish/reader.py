@@ -8,8 +8,7 @@ from os.path import commonprefix
 from typing import Callable, NamedTuple, Optional
 
 from .dates import moment_of, right_part
-from .words import AMOUNT_MAX, FIELDS, FLAGS, HEADER, ITEMS_MAX
-from .words import MAXIMA, OPERATIONS, POSITIVE
+from .words import AMOUNT_MAX, FIELDS, FLAGS, HEADER, ITEMS_MAX, MAXIMA, OPERATIONS, POSITIVE
 
 TOKEN = re.compile(
     r"(?:[ \t\r\n]+|\#[^\n]*(?:\n|\Z))*"
@@ -124,11 +123,8 @@ class Scan:
                 digits = token[2]
                 if part == WANTED and digits.isdigit() and len(digits) < DIGITS_MAX:
                     number = int(digits)
-                    if (
-                        number <= maxima[field]
-                        and token.end() < end
-                        and (number or field not in POSITIVE)
-                    ):
+                    is_right = number <= maxima[field] and (number or field not in POSITIVE)
+                    if is_right and token.end() < end:
                         given[field] = given.get(field, 0) | number
                         part = GIVEN
                         continue
@@ -236,9 +232,8 @@ class Scan:
         if part in FIELD_STARTS:
             found += [it for it in self.maxima if it not in self.given]
         if part in (HEAD, GIVEN) and not operation:
-            found += [
-                it for it in OPERATIONS if suits(it, {**self.given, **self.fill(self.given, it)})
-            ]
+            given, fill = self.given, self.fill
+            found += [it for it in OPERATIONS if suits(it, {**given, **fill(given, it)})]
         if part == WANTED and self.field == "flags":
             found += FLAGS[operation]
         if part == WANTED and self.field == "amount":

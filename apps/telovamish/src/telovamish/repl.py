@@ -9,7 +9,7 @@ from .help import HELP, help_on
 from .running import Printer
 from .sending import IN_DOUBT, Desk, Late
 from .terminal import Terminal
-from .texts import Text, Wrong
+from .texts import Text, Wrong, statements
 
 COMMAND = re.compile(r"\s*(exit|quit|sessions|json|table|help(?:\s+([a-zA-Z0-9_]+))?)\s*;?\s*\Z")
 NO_CLIENT = "no client is registered yet; the first statement registers one"
@@ -22,6 +22,8 @@ class Repl:
         self.desk, self.printer = desk, printer
         self.printer.has_pager = True
         self.terminal = Terminal(desk.live, COMMAND.match)
+        if printer.books:
+            self.terminal.session.completer = printer.books.completer(desk.live)
         self.was_asked = False
 
     def run(self) -> None:
@@ -73,14 +75,13 @@ class Repl:
     def _serve(self, text: str) -> None:
         """Serves the statements that were typed, until one is not served."""
         read, is_shown, is_wrong = Text(self.desk.live), False, False
-        read.feed(text.encode("utf-8", "surrogateescape") + b"\n")
+        parts = iter([text.encode("utf-8", "surrogateescape") + b"\n"])
         try:
-            while statement := read.next():
+            for statement in statements(self.printer.asked(parts, self.desk), read):
                 for served in self.desk.serve(statement):
                     is_shown = True
                     self.printer.show(served)
                 is_shown = False
-            read.end()
             return
         except Late as why:
             report(f"{why}: no entry has a later time than 2262-04-11, and nothing was sent")

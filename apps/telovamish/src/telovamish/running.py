@@ -5,7 +5,7 @@ import contextlib
 import os
 import shutil
 import sys
-from typing import Iterable, Iterator
+from typing import Any, Iterable, Iterator
 
 import click
 
@@ -17,22 +17,26 @@ from .texts import Text, pieces, statements
 
 
 class Printer:
-    """Shows replies as tables or as JSON."""
+    """Shows replies as tables or as JSON, with the names of books."""
 
-    def __init__(self, as_json: bool, is_quiet: bool = False, has_pager: bool = False) -> None:
-        self.as_json, self.is_quiet, self.has_pager = as_json, is_quiet, has_pager
+    def __init__(self, as_json: bool, is_quiet: bool = False, books: Any = None) -> None:
+        self.as_json, self.is_quiet, self.books, self.has_pager = as_json, is_quiet, books, False
+        self.named = books.names.for_table if books else None
         if shutil.which("less"):
             os.environ.setdefault("PAGER", "less -FRSX")
 
     def show(self, served: Served) -> None:
-        size = shutil.get_terminal_size((100, 24))
         if self.as_json:
             mark = {"repeat": True} if served.is_repeat else {}
-            lines = [line({**reply_shown(served.reply), **mark}).rstrip("\n")]
+            lines = [line({**reply_shown(served.reply), **mark}, self.books).rstrip("\n")]
             lines = [] if self.is_quiet and served.reply.status == 0 else lines
         else:
-            lines = list(reply_lines(served, size.columns, self.is_quiet))
-        text = "".join(f"{it}\n" for it in lines)
+            width = shutil.get_terminal_size((100, 24)).columns
+            lines = list(reply_lines(served, width, self.is_quiet, self.named))
+        self.write(lines)
+
+    def write(self, lines: list[str]) -> None:
+        size, text = shutil.get_terminal_size((100, 24)), "".join(f"{it}\n" for it in lines)
         with devices("standard output"):
             if self.has_pager and len(lines) > size.lines - 2:
                 with contextlib.suppress(BrokenPipeError):  # it was left before its end
@@ -41,11 +45,16 @@ class Printer:
                 sys.stdout.write(text)
                 sys.stdout.flush()
 
+    def asked(self, parts: Iterator[bytes], desk: Desk) -> Iterator[bytes]:
+        """The parts of a text. Books answer the questions among its statements, in their places."""
+        parts = self.books.answered(parts, self, desk) if self.books else parts
+        return parts
+
 
 def run_text(desk: Desk, printer: Printer, parts: Iterator[bytes], name: str = "") -> None:
     """Serves the statements of a text, each as soon as it is whole."""
     text = Text(desk.live, name)
-    for statement in statements(parts, text):
+    for statement in statements(printer.asked(parts, desk), text):
         try:
             for served in desk.serve(statement):
                 printer.show(served)

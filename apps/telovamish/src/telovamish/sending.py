@@ -28,6 +28,7 @@ SESSION_NOT_KNOWN = """has a session that is not known here: write session=N and
   before the operation, or name another client"""
 OTHER_CONTENT = """was executed before, with other content, and this statement was not. Typed again
   it is the next request"""
+EXECUTED = ("Nothing was", "An earlier sending of it may have been")
 NO_SESSION_LEFT = "has no session any more; its next statement registers it"
 
 
@@ -124,12 +125,8 @@ class Desk:
             except tb.ClientError as why:
                 final = self._final(why)
                 if final:
-                    before = (
-                        "An earlier sending of it may have been" if may_be_sent else "Nothing was"
-                    )
-                    raise NotServed(
-                        f"{final}. {before} executed, and it is not sent again"
-                    ) from None
+                    what = EXECUTED[may_be_sent]
+                    raise NotServed(f"{final}. {what} executed, and it is not sent again") from None
                 may_be_sent |= isinstance(why, tb.ReplyLost) and not isinstance(why, tb.Busy)
                 is_there = self._is_reached or may_be_sent or "Starting" in str(why)
                 is_away = isinstance(why, tb.CannotConnect) and not is_there

@@ -9,9 +9,7 @@ from .reader import Pair
 from .sending import Served
 from .words import STATUSES
 
-ALWAYS = frozenset(
-    "id debits_posted credits_posted debit_account_id credit_account_id amount ledger code".split()
-)
+ALWAYS = "id debits_posted credits_posted debit_account_id credit_account_id amount ledger code"
 EMPTY: tuple[Any, ...] = ("0", 0, [])
 # what to do after a refusal
 ADVICE = {
@@ -35,13 +33,13 @@ def shown(field: str, value: Any) -> str:
 def columns_of(records: Sequence[Row]) -> list[str]:
     """The fields that say something of one of the records, in the order of the layout."""
     full = [{it for it, value in record.items() if value not in EMPTY} for record in records]
-    return [it for it in records[0] if it in ALWAYS.union(*full)]
+    return [it for it in records[0] if it in {*ALWAYS.split()}.union(*full)]
 
 
 def aligned(head: Sequence[str], rows: Sequence[Sequence[str]]) -> list[str]:
-    """A table with a line under its head; numbers are at the right."""
+    """A table with a line under its head; numbers and amounts are at the right."""
     widths = [max(map(len, column)) for column in zip(head, *rows)]
-    right = [all(it.isdigit() for it in column) for column in zip(*rows)]
+    right = [all(it.isdigit() or it.endswith(")") for it in column) for column in zip(*rows)]
 
     def line(cells: Sequence[str]) -> str:
         fitted = (
@@ -53,9 +51,10 @@ def aligned(head: Sequence[str], rows: Sequence[Sequence[str]]) -> list[str]:
     return [line(head), "  ".join("-" * it for it in widths), *map(line, rows)]
 
 
-def records_shown(records: Sequence[Row], width: int) -> Iterator[str]:
-    """A table if it fits, else a block of lines for each record."""
+def records_shown(records: Sequence[Row], width: int, named: Any = None) -> Iterator[str]:
+    """A table if it fits, else a block of lines for each record. Names may be added to them."""
     columns = columns_of(records)
+    records = named(records) if named else records
     rows = [[shown(it, record[it]) for it in columns] for record in records]
     table = aligned(columns, rows)
     if max(map(len, table)) <= width:
@@ -65,7 +64,9 @@ def records_shown(records: Sequence[Row], width: int) -> Iterator[str]:
     for number, row in enumerate(rows):
         if number:
             yield ""
-        yield from (f"{name.ljust(longest)}  {cell}" for name, cell in zip(columns, row))
+        yield from (
+            f"{it.ljust(longest)}  {' '.join(cell.split())}" for it, cell in zip(columns, row)
+        )
 
 
 def results_shown(pair: Pair, results: Sequence[Row]) -> Iterator[str]:
@@ -78,7 +79,9 @@ def results_shown(pair: Pair, results: Sequence[Row]) -> Iterator[str]:
         yield from aligned(("index", "id", "result"), cells)
 
 
-def reply_lines(served: Served, width: int, is_quiet: bool = False) -> Iterator[str]:
+def reply_lines(
+    served: Served, width: int, quiet: bool = False, named: Any = None
+) -> Iterator[str]:
     """The lines that show the reply to a request; of a quiet one only failures."""
     pair, reply, is_repeat = served
     if reply.status:
@@ -89,12 +92,12 @@ def reply_lines(served: Served, width: int, is_quiet: bool = False) -> Iterator[
     is_create = pair.operation.startswith("create_")
     if is_create:
         yield from results_shown(pair, results)
-    if is_quiet:
+    if quiet:
         return
     if pair.operation == "register":
         yield f"client {reply.client} has session {reply.session}"
     elif not is_create:
-        yield from records_shown(results, width) if results else ()
+        yield from records_shown(results, width, named) if results else ()
         if count > len(results):
             yield f"{count - len(results)} of {count} not found"
     if is_repeat:

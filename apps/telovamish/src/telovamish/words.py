@@ -7,9 +7,8 @@ import pathlib
 from typing import Any
 
 # which tools/tables.py generates from tables/ledger.json
-TABLE: dict[str, Any] = json.loads(
-    pathlib.Path(__file__).with_name("words.json").read_text(encoding="utf-8")
-)
+FILE = pathlib.Path(__file__).with_name("words.json")
+TABLE: dict[str, Any] = json.loads(FILE.read_text(encoding="utf-8"))
 LIMITS: dict[str, int] = TABLE["limits"]
 ITEMS_MAX, CLIENTS_MAX = LIMITS["items_max"], LIMITS["clients_max"]
 TIME_MAX, AMOUNT_MAX = LIMITS["time_max"], LIMITS["amount_max"]
