@@ -8,7 +8,8 @@ from pathlib import Path
 
 import jsonschema
 import pytest
-from shipping import bill, completion, debs, ecosystems, manuals, notes, table, units, versions
+from shipping import bill, completion, debs, ecosystems, library, manuals, notes, table
+from shipping import units, versions
 from shipping.programs import Record
 from shipping.table import ROOT
 from trying import watching
@@ -147,6 +148,15 @@ def test_a_relation_of_what_is_not_listed_is_refused(tmp_path: Path) -> None:
     document["packages"] = [it for it in document["packages"] if it["name"] != "crate-tb_ledger"]
     with pytest.raises(ValueError, match="not listed"):
         bill.check(document)
+
+
+def test_the_library_is_built_over_what_ci_left() -> None:
+    words = [str(it) for it in library.words(Path("/kit"), Path("/out.a"))]
+    left = ROOT / "crates"
+    assert f"tb_machine={left}/tb_machine/out/rlib/tb_machine.rlib" in words
+    assert "core=/kit/rlibs/core.rlib" in words and words[-1] == "/out.a"
+    assert f"dependency={left}/avl_tree/out/rlib" in words
+    assert not any(it.startswith("avl_tree=") for it in words)
 
 
 def test_release_notes_are_of_the_changelog(tmp_path: Path) -> None:
