@@ -434,7 +434,6 @@ def layout(table):
         ("ITEMS_MAX", "int", most["items_max"]),
         ("CLIENTS_MAX", "int", most["clients_max"]),
         ("NUMBER_MAX", "long", f"{most['number_max']}L"),
-        ("TIME_MAX", "long", f"{most['time_max']}L"),
     ]
     lines = [
         HEAD,

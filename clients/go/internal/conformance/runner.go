@@ -102,24 +102,23 @@ func text(given any) string {
 	return value
 }
 
-func (r *runner) session(line object) (*tbclient.Session, error) {
+// named is what has the name that this field of a line gives.
+func named[T any](r *runner, all map[string]T, line object, field string) (T, error) {
 	r.mu.Lock()
 	defer r.mu.Unlock()
-	session, isThere := r.sessions[text(line["session"])]
+	found, isThere := all[text(line[field])]
 	if !isThere {
-		return nil, unsupported(fmt.Sprintf("no session %v", line["session"]))
+		return found, unsupported(fmt.Sprintf("no %s %v", field, line[field]))
 	}
-	return session, nil
+	return found, nil
+}
+
+func (r *runner) session(line object) (*tbclient.Session, error) {
+	return named(r, r.sessions, line, "session")
 }
 
 func (r *runner) transport(line object) (*tbclient.Socket, error) {
-	r.mu.Lock()
-	defer r.mu.Unlock()
-	transport, isThere := r.transports[text(line["transport"])]
-	if !isThere {
-		return nil, unsupported(fmt.Sprintf("no transport %v", line["transport"]))
-	}
-	return transport, nil
+	return named(r, r.transports, line, "transport")
 }
 
 func (r *runner) keep(line object, session *tbclient.Session) {

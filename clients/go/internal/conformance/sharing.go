@@ -14,13 +14,7 @@ type begunCall struct {
 }
 
 func (r *runner) client(line object) (*tbclient.Client, error) {
-	r.mu.Lock()
-	defer r.mu.Unlock()
-	client, isThere := r.shared[text(line["shared"])]
-	if !isThere {
-		return nil, unsupported(fmt.Sprintf("no shared client %v", line["shared"]))
-	}
-	return client, nil
+	return named(r, r.shared, line, "shared")
 }
 
 func (r *runner) share(line object) (any, error) {
@@ -83,13 +77,7 @@ func (r *runner) begin(line object) (any, error) {
 }
 
 func (r *runner) call(line object) (*begunCall, error) {
-	r.mu.Lock()
-	defer r.mu.Unlock()
-	call, isThere := r.begun[text(line["call"])]
-	if !isThere {
-		return nil, unsupported(fmt.Sprintf("no call %v", line["call"]))
-	}
-	return call, nil
+	return named(r, r.begun, line, "call")
 }
 
 // endedCall is the answer of a call that was begun.

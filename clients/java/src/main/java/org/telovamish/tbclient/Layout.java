@@ -11,7 +11,6 @@ final class Layout {
     static final int ITEMS_MAX = 8190;
     static final int CLIENTS_MAX = 64;
     static final long NUMBER_MAX = 4294967295L;
-    static final long TIME_MAX = 9223372036854775807L;
 
     static final int ACCOUNT_ID = 0; // u128
     static final int ACCOUNT_DEBITS_PENDING = 16; // u128
