@@ -8,7 +8,7 @@ what the clients' pages show.
 The parts are one for each language that has a clients/*/conformance.json (its build, its tests,
 the kit, and the money), wrong (the wrong clients of each language, which the kit has to catch),
 scenarios (those that are there are those that are made), types, examples (on the built tbs) and
-pages (what the page and the README show). A language that is not installed is passed over by name.
+pages (what the page shows). A language that is not installed is passed over by name.
 Prints a line for each case, and 'N passed, M failed'. PROGRAM names another tbs, TBD another tbd.
 Where no tbd is built, clients/python/tests/stand_in_tbd.py is in its place. Where mypy is not
 there, no types are checked.
@@ -24,7 +24,6 @@ import signal
 import subprocess
 import sys
 import tempfile
-import textwrap
 import threading
 
 sys.path.append(os.path.join(os.path.dirname(os.path.abspath(__file__)), "..", "tools"))
@@ -43,7 +42,7 @@ SECONDS = 3600  # that one command may take, also on a busy computer
 STARTED = 60 * tried.LONGER  # that a listener may take to say that it listens
 INTERRUPTED = 10  # seconds that one may take to end after Ctrl-C
 KEEPER = shlex.join(
-    [TBD] if os.access(TBD, os.X_OK) else [sys.executable, "-SE", f"{CLIENT}/stand_in_tbd.py"]
+    [TBD] if os.access(TBD, os.X_OK) else [sys.executable, "-SE", f"{CLIENT}/tests/stand_in_tbd.py"]
 )
 EXAMPLE = """accounts 1 and 2 are created
 a transfer of 100 was sent, and no reply came
@@ -82,7 +81,7 @@ def ran(words, folder=TOP, **more):
 
 
 def python(*words, folder=CLIENT):
-    return ran([sys.executable, "-B", *words], folder, PYTHONPATH=CLIENT)
+    return ran([sys.executable, "-B", *words], folder, PYTHONPATH=f"{CLIENT}/src:{EMBED}")
 
 
 def tests(name, folder):
@@ -127,50 +126,8 @@ def page():
         return it.read()
 
 
-def shown_python():
-    """The Python of the client's README, block by block."""
-    with open(f"{CLIENT}/README.md", encoding="utf-8") as it:
-        return re.findall(r"```python\n(.*?)```", it.read(), re.S)
-
-
-def survival():
-    """The README's way that survives a crash: a sale, a crash before its reply came, a lookup in
-    each of two lives, and an eviction while a sale is in doubt."""
-    sale, crash, lookup, eviction = shown_python()[2:6]
-    sale_again = "Transfer(id(), 1, 2, 10, ledger=700, code=10)"
-    sent = f"session.prepare(Operation.create_transfers, [{sale_again}])\n"
-    sent += "session.save('session.json')\n"
-    whole = f"""
-import os, tempfile
-from tb_client import *
-from tb_client import id
-os.chdir(tempfile.mkdtemp())
-transport = Program({PROGRAM!r}, 2)
-first = Session.register(transport)
-require_ok(first.create_accounts([Account(it, ledger=700, code=10) for it in (1, 2)]))
-{sale}
-{sent}
-{crash}
-{lookup}
-print(sales.credits_posted)
-require_ok(first.create_transfers([Transfer(id(), 1, 2, 5, ledger=700, code=10)]))
-{crash}
-{lookup}
-print(sales.credits_posted)
-{sent}
-for _ in range(2):
-    Session.register(transport)
-{eviction}
-print(session.lookup_accounts([2])[0].credits_posted)
-transport.close()
-"""
-    output = script("the README's crash and eviction", CLIENT, "-c", textwrap.dedent(whole))
-    case("what it moves", output == "110\n115\n125\n", output.strip())
-
-
 def sockets():
-    """The page's listener and its client over a Unix socket, and the README's client with the face
-    of TigerBeetle's."""
+    """The page's listener and its client over a Unix socket."""
     (shown,) = re.findall(r"```python\n(.*?)```", page(), re.S)
     command = re.search(r"```sh\n(apps/host/tb-listen .*?)\n```", page())[1].replace(
         "crates/tbd/out/tbd", KEEPER
@@ -201,26 +158,11 @@ def sockets():
                 f"import os\nos.chdir({folder!r})\n{shown}",
             )
             case("what it finds", output == "[]\n", output.strip())
-            shown = shown_python()[1].replace('"3001"', f'"{folder}/ledger.sock"')
-            output = script("the README's ClientSync", CLIENT, "-c", shown)
-            case("what that moves", output == "[10]\n", output.strip())
         finally:
             listener.terminate()
             status, told = listener.wait(SECONDS), listener.stderr.read()
-        case("the listener's end", (status, told) == (0, ""), f"{status} {told}")
-
-
-def readme():
-    """The first program of the client's README."""
-    shown = shown_python()[0].replace("../../crates/tbs/out/tbs", PROGRAM)
-    output = script(
-        "the Python of the client's README",
-        CLIENT,
-        "-c",
-        f"import os, tempfile\nos.chdir(tempfile.mkdtemp())\n{shown}",
-    )
-    holds = output.count("posted=100") == 2
-    case("what that shows", holds, "" if holds else output)
+        wanted = "tb_listen: has stopped: Stopping; 2 requests were answered on 1 connections\n"
+        case("the listener's end", (status, told) == (0, wanted), f"{status} {told}")
 
 
 def statuses():
@@ -249,11 +191,11 @@ def told():
         for names in re.findall(r"^\| ([A-Z][A-Za-z, ]+) \|", rows, re.M)
         for name in names.split(", ")
     } - {"Name"}
-    with open(f"{CLIENT}/tb_client/frames.py", encoding="utf-8") as frames:
+    with open(f"{CLIENT}/src/tb_client/frames.py", encoding="utf-8") as frames:
         tests = frames.read().split("def request_fault")[1].split("\ndef ")[0]
     code = ""
-    for name in ("access", "command", "connections", "lines", "process", "serving"):
-        with open(f"{CLIENT}/tb_host/{name}.py", encoding="utf-8") as part:
+    for name in ("access", "command", "connections", "lines", "process", "serving", "shares"):
+        with open(f"{TOP}/apps/host/src/tb_host/{name}.py", encoding="utf-8") as part:
             code += part.read()
     wanted = set(re.findall(r'\("(\w+)", ', tests)) | set(
         re.findall(r'(?:Told\(|given\.(?:idle|slow), |stop\(|return |else )"([A-Z]\w+)"', code)
@@ -406,7 +348,7 @@ def scenarios():
 def examples():
     tried.built(PROGRAM)
     tests("the tests of the embedded server's module", EMBED)
-    output = script("the example of the client in Python", CLIENT, "example.py", PROGRAM)
+    output = script("the example of the client in Python", CLIENT, "examples/program.py", PROGRAM)
     case("what the example says", output == EXAMPLE, "" if output == EXAMPLE else output)
     output = script("the example over sockets", CLIENT, "examples/sockets.py", KEEPER)
     case("what that says", output == OVER_SOCKETS, "" if output == OVER_SOCKETS else output)
@@ -414,8 +356,6 @@ def examples():
 
 def pages():
     tried.built(PROGRAM)
-    readme()
-    survival()
     sockets()
     told()
     exits()
