@@ -95,8 +95,9 @@ class Machine:
         if host is self.host and not self.world.is_closed:
             self.start()
 
-    def crash(self) -> None:
-        """Ends this life at once. What was not synced is torn."""
+    def crash(self, away: float = 3.0) -> None:
+        """Ends this life at once, and starts the next one at most so many seconds later. What was
+        not synced is torn."""
         if self.host is None or not self.host.is_up:
             return
         self.host.is_up = False
@@ -109,7 +110,8 @@ class Machine:
             wire.cut()
             self.world.wires.pop(wire, None)
         self.world.tear(self)
-        self.world.loop.call_later(self.world.drawn.uniform(0.1, 3.0), self._again, self.host)
+        pause = self.world.drawn.uniform(0.1, away)
+        self.world.loop.call_later(pause, self._again, self.host)
 
 
 class World:
@@ -192,7 +194,7 @@ class World:
             is_right = ended.name in MAY_END and (ended.name == "NoLog" or wanted in self.injected)
             self.see(is_right, f"{machine.name} ended by {ended}")
         else:
-            self.see(self.is_over or "kill" in self.injected, f"{machine.name} ended by {ended}")
+            self.see(self.is_over, f"{machine.name} ended by {ended}")
 
     # the programs
 
@@ -281,11 +283,14 @@ class World:
             self.engine.rots_next = True
 
     def _clock(self) -> None:
-        machine = self.drawn.choice(self.machines)
+        machine = self.machines[0]  # two wrong clocks that agree would be right for the others
         machine.ahead = int(self.drawn.uniform(-100, 100) * 1e9)
-        # a clock that steps is one of its next start: of it alone, or after an outage of all
-        for it in [machine] if self.drawn.random() < 0.5 else self.machines:
-            it.crash()
+        # a clock that steps is one of its next start: of it alone, or after an outage of all, in
+        # which it may be the first that is back
+        machine.crash()
+        if self.drawn.random() < 0.5:
+            for it in self.machines:
+                it.crash(30.0)
 
     # the run
 
@@ -319,8 +324,11 @@ class World:
         self.engine.rots_next = False
         self._back()
         for it in self.machines:
-            if it.ahead:
-                it.ahead = 0
+            is_away = it.host is not None and not it.host.is_up
+            was_ahead, it.ahead = bool(it.ahead), 0
+            if is_away:
+                it.start()
+            elif was_ahead:
                 it.crash()
         self.engine.lag = dict.fromkeys(NODES, 0.0)
 
