@@ -98,6 +98,11 @@ class Books(Pages):
                     self.assertIn(f">{state}</span>", self.get(address))
                 for address in ("/pending", "/", "/account/1"):
                     self.assertEqual("overdue</span>" in self.get(address), state == "overdue")
+        (before,) = self.row("SELECT expires_at FROM transfers WHERE id = 13")
+        for expires_at, overdue in ((1, 1), (2**62, 0), (None, 0), (before, None)):
+            self.change("UPDATE transfers SET expires_at = ? WHERE id = 13", expires_at)
+            if overdue is not None:
+                self.assertEqual(self.rows("SELECT overdue FROM pending_transfers"), [(overdue,)])
         self.load(books().later(3601 * SECOND).lookup(1))
         self.assertIn("Expired", self.words("/transfer/13"))
         self.assertIn("State expired", self.words("/transfer/13"))
@@ -108,12 +113,20 @@ class Books(Pages):
         said = self.words("/account/1/2026-09")
         for part in (
             "Opening balance 0 Debits 145 Credits 500 Closing balance 355 credit",
+            "2026-09-01 to 2026-09-30, UTC. Ledger 700, code 10. After commit 7 of 2026-10-11",
             "Postings 1 to 3, the oldest first",
-            "is the closing balance.",
+            "Opening balance 0 2026-09-21 14:13:20 2 10 500 500 credit 11",
+            "Closing balance 145 500 355 credit",
+            "0 + 500 credits − 145 debits = 355, a credit balance: the lines add up.",
         ):
             self.assertIn(part, said)
+        said = self.words("/account/2/2026-09")
+        self.assertIn("0 + 500 debits − 145 credits = 355, a debit balance: the lines add", said)
         said = self.words("/account/1/2026-10")
+        self.assertIn("2026-10-11 14:13:20: the month is not over.", said)
+        self.assertIn("355 + 0 credits − 7 debits = 348, a credit balance", said)
         self.assertIn("Opening balance 355 credit Debits 7 Credits 0 Closing balance 348", said)
+        self.assertIn("Closing balance 348 credit 2026-09 The account", said)
         self.assertIn("no postings in this month", self.words("/account/1/2026-11"))
         self.assertIn("Opening balance 348 credit", self.words("/account/1/2026-11"))
         with unittest.mock.patch.object(views, "MONTH_ROWS", 2):

@@ -3,6 +3,7 @@
 With TB_SQL_PICTURES=FOLDER it writes the pictures of docs/use/READING.md there.
 """
 
+import base64
 import os
 import pathlib
 import signal
@@ -83,6 +84,15 @@ for (const it of arguments[0] ? document.querySelectorAll("tbody td[data-label]"
 }
 return found;
 """
+# tables that are wider than what is around them, and short amounts on several lines
+BROKEN = """
+return [...document.querySelectorAll("table"), ...document.querySelectorAll("main .number")]
+  .filter((it) => it.tagName === "TABLE"
+    ? it.getBoundingClientRect().width > it.parentElement.getBoundingClientRect().width + 1
+    : !it.classList.contains("long") && it.getClientRects().length > 1)
+  .map((it) => it.outerHTML.slice(0, 200));
+"""
+A4 = 702  # pixels between the margins
 CARDS = 896  # pixels, up to which the rows of tables are cards
 OVERFLOW = "return document.documentElement.scrollWidth - document.documentElement.clientWidth"
 
@@ -210,6 +220,29 @@ class Browser(unittest.TestCase):
                     self.open(address)
                     self.assertLessEqual(self.driver.execute_script(OVERFLOW), 0)
                     self.assertEqual(self.driver.execute_script(HIDDEN, width <= CARDS), [])
+
+    def test_print(self):
+        """On A4 nothing is wider than the page, no amount is broken, and links are left out."""
+        for address, words in (
+            (f"/account/{SALES}/2026-10", "Closing balance"),
+            (f"/account/{GREAT}/2026-09", "the lines add up"),
+            (f"/account/{SALES}", "Balance before"),
+            ("/trial-balance", "After the last entry"),
+        ):
+            with self.subTest(address):
+                self.size(A4)
+                self.driver.execute_cdp_cmd("Emulation.setEmulatedMedia", {"media": "print"})
+                self.open(address)
+                self.assertIn(words, self.text())
+                self.assertNotIn("Search", self.text())
+                self.assertLessEqual(self.driver.execute_script(OVERFLOW), 0)
+                self.assertEqual(self.driver.execute_script(BROKEN), [])
+                printed = self.driver.execute_cdp_cmd(
+                    "Page.printToPDF", {"preferCSSPageSize": True}
+                )
+                pdf = base64.b64decode(printed["data"])
+                self.assertIn(b"/MediaBox [0 0 594.95996 841.91998]", pdf)
+        self.driver.execute_cdp_cmd("Emulation.setEmulatedMedia", {"media": ""})
 
     def test_controls_are_labelled(self):
         for address, _ in self.PAGES:

@@ -8,7 +8,7 @@ from __future__ import annotations
 
 from typing import Callable, Dict, List
 
-SCHEMA = 2  # the number of these tables; another one is made again from the history
+SCHEMA = 3  # the number of these tables; another one is made again from the history
 
 # Each table: its columns, with their kinds, and what follows them.
 TABLES: Dict[str, List[str]] = {
@@ -166,7 +166,8 @@ FROM postings AS p"""
 PENDING_TRANSFERS = """
 CREATE VIEW pending_transfers AS
 SELECT t.id, {expiry} AS expires, t.debit_account_id, t.credit_account_id, t.amount, t.ledger,
-    t.code, {time} AS time, t.expires_at, t.timestamp
+    t.code, {time} AS time, coalesce(t.expires_at <= {now}, 1 = 0) AS overdue, t.expires_at,
+    t.timestamp
 FROM transfers AS t WHERE t.state = 'pending'
 ORDER BY t.expires_at IS NULL, t.expires_at, t.timestamp"""
 
@@ -215,6 +216,8 @@ def _postgres_time(column: str) -> str:
     )
 
 
+SQLITE_NOW = "CAST(strftime('%s', 'now') AS INTEGER) * 1000000000"
+POSTGRES_NOW = "floor(extract(epoch FROM now()))::bigint * 1000000000"
 LIMB = 10_000_000_000  # a part of a number: ten decimal digits
 
 
@@ -357,9 +360,10 @@ NAMED_VIEWS = [
     _named(
         "named_statement",
         "p.account_id, n.name, p.number, p.timestamp, p.counterparty_id, o.name AS"
-        " counterparty_name, p.transfer_id",
+        " counterparty_name, p.transfer_id, t.code, c.name AS code_name",
         ["p.debit", "p.credit", "p.balance"],
         "FROM postings AS p JOIN accounts AS a ON a.id = p.account_id"
+        f" JOIN transfers AS t ON t.timestamp = p.timestamp {_join('code', 'c', 't.code')}"
         f" {_join('account', 'n', 'p.account_id')} {_join('account', 'o', 'p.counterparty_id')}"
         f" {_join('ledger', 'l', 'a.ledger')}",
     ),
@@ -372,11 +376,11 @@ NAMED_VIEWS = [
 ]
 
 
-def _plain_views(shown: Callable[[str], str]) -> List[str]:
-    """The views that both have, by what shows a time."""
+def _plain_views(shown: Callable[[str], str], now: str) -> List[str]:
+    """The views that both have, by what shows a time, and what the time is now."""
     return [
         STATEMENT.format(time=shown("p.timestamp")),
-        PENDING_TRANSFERS.format(time=shown("t.timestamp"), expiry=shown("t.expires_at")),
+        PENDING_TRANSFERS.format(time=shown("t.timestamp"), expiry=shown("t.expires_at"), now=now),
         REFUSALS,
         RETRIES.format(time=shown("e.time")),
         SESSION_LIST.format(
@@ -394,14 +398,26 @@ def sqlite_schema() -> List[str]:
         for it in (*TABLES, "names")
     ]
     named = [it(True) for it in NAMED_VIEWS]
-    return [*tables, *INDEXES, _sqlite_trial_balance(), *_plain_views(_sqlite_time), *named]
+    return [
+        *tables,
+        *INDEXES,
+        _sqlite_trial_balance(),
+        *_plain_views(_sqlite_time, SQLITE_NOW),
+        *named,
+    ]
 
 
 def postgres_schema() -> List[str]:
     """The statements that make the tables and views in PostgreSQL."""
     tables = [_table(it, POSTGRES_KINDS) for it in (*TABLES, "names")]
     named = [it(False) for it in NAMED_VIEWS]
-    return [*tables, *INDEXES, POSTGRES_TRIAL_BALANCE, *_plain_views(_postgres_time), *named]
+    return [
+        *tables,
+        *INDEXES,
+        POSTGRES_TRIAL_BALANCE,
+        *_plain_views(_postgres_time, POSTGRES_NOW),
+        *named,
+    ]
 
 
 VIEWS = (

@@ -55,7 +55,7 @@ class Summary(NamedTuple):
 
 
 POSTINGS = (
-    "SELECT p.*, t.pending_id, h.amount AS was_pending FROM postings AS p"
+    "SELECT p.*, t.code, t.pending_id, h.amount AS was_pending FROM postings AS p"
     " LEFT JOIN transfers AS t ON t.timestamp = p.timestamp"
     " LEFT JOIN transfers AS h ON h.id = t.pending_id AND t.pending_id <> 0"
     " WHERE p.account_id = ? AND {}"

@@ -44,6 +44,7 @@ def make_app(site: Site) -> Flask:
     app.jinja_env.trim_blocks = app.jinja_env.lstrip_blocks = True
     app.jinja_env.filters.update(
         number=texts.shown_number,
+        amount=texts.plain_amount,
         balance=texts.shown_balance,
         id=texts.shown_id,
         kind=texts.shown_kind,

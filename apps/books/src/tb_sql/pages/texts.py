@@ -28,16 +28,24 @@ def names() -> Names:
 
 def shown_number(value: Number, ledger: Optional[Number] = None) -> Markup:
     """An amount: with point and unit where the ledger has a name, and then the exact integer next
-    to it; otherwise with commas. A long one may be broken after each."""
+    to it; otherwise with commas."""
     written = names().amount(int(value), ledger) if ledger is not None else None
-    if written is not None:
-        return Markup('<span class="number">{}</span> <span class="exact">{}</span>').format(
-            written, value
-        )
-    text = charts.grouped(int(value))
+    number = broken(charts.grouped(int(value)) if written is None else written)
+    exact = Markup(' <span class="exact">{}</span>').format(value)
+    return number if written is None else number + exact
+
+
+def broken(text: str) -> Markup:
+    """A number; a long one may be broken after each comma."""
     if len(text) <= 26:
-        return Markup(f'<span class="number">{text}</span>')
-    return Markup('<span class="number long">' + text.replace(",", ",<wbr>") + "</span>")
+        return Markup('<span class="number">{}</span>').format(text)
+    parts = Markup(",<wbr>").join(text.split(","))
+    return Markup('<span class="number long">{}</span>').format(parts)
+
+
+def plain_amount(value: Number, ledger: Number) -> str:
+    """An amount alone, in a sentence."""
+    return names().amount(int(value), ledger) or charts.grouped(int(value))
 
 
 def shown_balance(value: Number, ledger: Optional[Number] = None) -> Markup:

@@ -126,10 +126,15 @@ def month(site: Site, id: str, month: str) -> str:
     shown = lines[:MONTH_ROWS]
     debits, credits = (sum(int(it[side]) for it in shown) for side in ("debit", "credit"))
     closing = summary.closing if summary else opening
+    position = tables.position()
     return render_template(
         "month.html",
         account=row,
         month=month,
+        first=f"{month}-01",
+        last=time_text(range.end)[:10],
+        earlier=time_text(range.start - 1)[:7] if range.start > row["timestamp"] else None,
+        later=time_text(range.end + 1)[:7],
         lines=shown,
         is_whole=len(lines) <= MONTH_ROWS,
         opening=opening,
@@ -137,7 +142,8 @@ def month(site: Site, id: str, month: str) -> str:
         debits=debits,
         credits=credits,
         adds_up=opening + debits - credits == closing,
-        last=range.end,
+        position=position,
+        is_over=position["time"] > range.end,
     )
 
 
