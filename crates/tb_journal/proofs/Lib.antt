@@ -17,6 +17,7 @@ pub mod Opened
 pub mod FirstWrite
 pub mod Blanks
 pub mod ScanSteps
+pub mod Sought
 pub mod Filling
 pub mod Fronts
 pub mod Scanning

@@ -10,6 +10,7 @@ pub mod Shown
 pub mod Memory
 pub mod Opening
 pub mod Scans
+pub mod Seeking
 pub mod Creating
 pub mod Reading
 pub mod Real

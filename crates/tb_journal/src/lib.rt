@@ -18,6 +18,7 @@
 //! - `snapshots`: `Snapshot`, such a file as it was at one moment, as a device.
 //! - `laws`: what holds of every file that grows.
 //! - `scans`: `Scan`, a file read record by record, ahead in pieces of 64 KiB or one whole block; `read_journal`, to its end.
+//! - `seeking`: `Seek`, a record sought at any offset of a file by its checksum, as behind damage.
 //! - `opening`: `create`, a journal in an empty file; `Journal::open` and `recover`, which cut off what follows the records.
 //!
 //! specs/Contents is what a file's bytes represent, specs/Device what each call of a device does, specs/Scans what was read of
@@ -37,6 +38,7 @@ mod posix;
 mod reading;
 mod real;
 mod scans;
+mod seeking;
 mod snapshots;
 mod systems;
 mod tables;
@@ -52,6 +54,7 @@ pub use posix::Posix;
 pub use reading::{Extent, Refusal};
 pub use real::{FileFault, HostFile, Real, sync_folder};
 pub use scans::{Scan, read_journal};
+pub use seeking::Seek;
 pub use snapshots::Snapshot;
 pub use systems::System;
 pub use written::Written;

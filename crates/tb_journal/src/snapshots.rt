@@ -1,5 +1,5 @@
 //! A growing file as it was at one moment.
-ghost use Rattle.std.specs.Prelude.{◌≡◌, ◌≤◌, ◌<◌, ◌+◌, ◌^◌, take, drop, List, ℕ, length, Ok, IfOk, OnOk, OnErr, IfErr};
+ghost use Rattle.std.specs.Prelude.{◌≡◌, ◌≤◌, ◌<◌, ◌+◌, ◌^◌, false, take, drop, List, ℕ, length, Ok, IfOk, OnOk, OnErr, IfErr};
 ghost use Rattle.tb_journal.specs.Device.{IsOfCall, AnswersLength};
 ghost use Rattle.tb_journal.specs.Real.{untold};
 ghost use Rattle.tb_journal.specs.declared.hops.Hop.TheVariants as variants;
@@ -89,6 +89,14 @@ impl<G: Growing + Drop> Snapshot<G> {
             }
             Err(fault) => Err(fault),
         }
+    }
+
+    /// From now on a read gives the bytes of the file as they are, those behind the closed latch too.
+    pub fn look_behind(&mut self)
+        ensures file { self.new.file ≡ self.old.file }
+        ensures whole { self.new.closed ≡ false }
+    {
+        self.found = WHOLE;
     }
 
     /// The number of bytes of the file now, those behind the end of the snapshot too.

@@ -1,0 +1,45 @@
+-- A record that is sought at any offset of a file, as behind damage.
+-- Cited by public contracts of: seeking.
+use Rattle.std.specs.Prelude.{◌≡◌, ℕ, ◌+◌, ◌≤◌, Bool, true, false, List, [], ◌∷◌, ◌++◌, length, take, drop, codes, refl, Result, Ok, Err}
+use Rattle.std.specs.Int.{w32, from_le_bytes}
+use Rattle.tb_journal.specs.declared.faults.JournalFault.{JournalFault}
+use Rattle.tb_journal.specs.Checksum.{checksum, byte_on, bit_on}
+use Rattle.tb_journal.specs.Contents.{size_bytes, block, latch_closed, journal_of}
+use Rattle.tb_journal.specs.Scans.{IsAhead}
+
+-- bytes begin with the checksum of a record's block, and the record is behind it
+pub record IsSummed (record_bytes bytes : List ℕ) : Type 0 where
+  pub sum : from_le_bytes w32 (take 4 bytes) ≡ checksum (size_bytes record_bytes ++ record_bytes)
+  pub is : take (length record_bytes) (drop 4 bytes) ≡ record_bytes
+
+-- a record stands at an offset of a file: its checksum, and its bytes. The latch and the length that a block has before them may have any
+-- values
+abbrev pub StandsAt : ℕ → List ℕ → List ℕ → Type 0
+StandsAt at record_bytes file = IsSummed record_bytes (drop at file)
+
+-- how far a file was looked through, and the bytes read ahead from there on
+pub record SeekState : Type 0 where
+  pub at : ℕ
+  pub ahead : List ℕ
+
+-- these bytes are those of the file, as far as they go
+abbrev pub IsSeeking : List ℕ → SeekState → Type 0
+IsSeeking file seek = IsAhead seek.at file seek.ahead
+
+-- the record of so many bytes stands at the place of a seek, and is ahead; or none stands there
+abbrev pub Stands : Result Bool JournalFault → ℕ → List ℕ → SeekState → Type 0
+Stands (Ok true) len file seek = StandsAt seek.at (take len (drop 4 seek.ahead)) file × (4 + len ≤ length seek.ahead)
+Stands (Ok false) len file seek = (bytes : List ℕ) → length bytes ≡ len → StandsAt seek.at bytes file → ⊥
+Stands (Err fault) len file seek = Unit {0}
+
+-- rows
+
+-- in a whole block the record stands behind the latch and the length
+pub stands_in_a_block : StandsAt 15 (codes "ab") (journal_of (codes "ab" ∷ []))
+unfolding byte_on bit_on
+stands_in_a_block = record { sum = refl; is = refl }
+
+-- and where they have rotted
+pub stands_behind_rot : StandsAt 7 (codes "ab") (latch_closed ++ drop 4 (0 ∷ 0 ∷ 0 ∷ 0 ∷ 9 ∷ 9 ∷ 9 ∷ drop 7 (block (codes "ab"))))
+unfolding byte_on bit_on
+stands_behind_rot = record { sum = refl; is = refl }
