@@ -11,6 +11,7 @@ pub mod Causes
 pub mod Entered
 pub mod Dumping
 pub mod Taking
+pub mod Beyond
 pub mod Salvages
 pub mod TakenRecords
 pub mod Longest

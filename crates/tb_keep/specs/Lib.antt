@@ -5,6 +5,7 @@ pub mod Creating
 pub mod Reading
 pub mod Following
 pub mod Salvaging
+pub mod ReadingOn
 pub mod Rounds
 pub mod Moments
 pub mod Again

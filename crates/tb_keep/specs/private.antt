@@ -3,5 +3,6 @@ pub mod Sources
 pub mod Entering
 pub mod Sending
 pub mod Taking
+pub mod Behind
 pub mod Headed
 pub mod Steps

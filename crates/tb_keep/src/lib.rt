@@ -11,6 +11,7 @@
 //! - `rounds`: `keep`, pairs served, entries committed, and then replies sent.
 //! - `dumps`: the rules, the history, the dump and the later entries of a file, read without a write.
 //! - `salvaging`: the entries of a file taken over into a new one.
+//! - `reading_on`: the entries that stand in a file behind its damage, taken over too.
 //! - `laws`: what holds of every kept ledger: functions that do nothing.
 //! - `worked_rows`: small files, and what the definitions make of them.
 //!
@@ -24,6 +25,7 @@ mod dumps;
 mod faults;
 mod keepers;
 pub mod laws;
+mod reading_on;
 mod recovering;
 mod replies;
 mod rounds;
@@ -34,6 +36,7 @@ pub use creating::{NotKept, create};
 pub use dumps::{read_history, read_rules, write_dump, write_entries};
 pub use faults::{DumpFault, KeepFault, SalvageFault, StartFault};
 pub use keepers::Keeper;
+pub use reading_on::{ReadOn, read_on};
 pub use recovering::{Rules, read_head, restored, write_head};
 pub use rounds::{BATCH_BYTES_MAX, HELD_BYTES_MAX, keep};
 pub use salvaging::{NotSalvaged, Salvaged, backup, salvage};

@@ -86,7 +86,7 @@ fn append_short<N: Device>(journal: &mut Journal<N>, bytes: &[u8]) -> Result<(),
 /// Enters the entry of a record that is behind those of a keeper, and lets it wait for the next commit. Where it is none of the
 /// next entry, nothing has changed.
 #[tactic(auto, using(crate::proofs::Taking::takes_not))]
-fn take_record<N: Device>(
+pub(crate) fn take_record<N: Device>(
     global: Global,
     keeper: &mut Keeper<N>,
     bytes: &[u8],
@@ -158,7 +158,7 @@ fn take_all<D: Device, N: Device>(
 }
 
 /// The fault for which a start refuses a file each time: where it is damaged, or a record is none of the next entry. None of any other.
-fn stop_of(fault: SalvageFault) -> Option<StartFault>
+pub(crate) fn stop_of(fault: SalvageFault) -> Option<StartFault>
     ensures { result ≡ stop_of fault }
 {
     match fault {
@@ -208,7 +208,7 @@ fn commit_waiting<N: Device>(journal: &mut Journal<N>) -> Result<(), JournalFaul
 
 /// Commits what waits in the journal of a new file.
 #[tactic(auto, using(crate::proofs::Taking::commits_not))]
-fn commit_taken<N: Device>(keeper: &mut Keeper<N>) -> Result<(), SalvageFault>
+pub(crate) fn commit_taken<N: Device>(keeper: &mut Keeper<N>) -> Result<(), SalvageFault>
     requires usable { keeper.old.journal.usable ≡ true }
     requires ready { N.tells → IsReady N.disk keeper.old.journal }
     ensures commits { CommitsTaken N.disk N.tells result keeper.old keeper.new }
