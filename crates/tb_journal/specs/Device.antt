@@ -153,6 +153,10 @@ pub record Cuts (n : ℕ) (result : Result (Unit {0}) JournalFault) (before afte
   pub sound : after.sound ≡ before.sound
   pub cause : HasCause result before after
 
+-- what is cut off a file that is cut to a length was set aside before
+abbrev pub SetsAside : (ℕ → List ℕ → Type 0) → ℕ → List ℕ → Type 0
+SetsAside saved len file = len < length file → saved len (drop len file)
+
 -- a sync, before the end of which a crash may leave what it might have left, or what a read returns. Behind one that has failed
 -- none keeps anything, whatever it answers
 pub record Syncs (result : Result (Unit {0}) JournalFault) (before after : Disk) : Type 0 where

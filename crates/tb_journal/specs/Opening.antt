@@ -9,7 +9,7 @@ use Rattle.tb_journal.specs.declared.reading.Refusal.TheVariants as refusals
 use Rattle.tb_journal.specs.declared.opening.OpenFault.{OpenFault}
 use Rattle.tb_journal.specs.declared.opening.OpenFault.TheVariants as open_faults
 use Rattle.tb_journal.specs.declared.opening.NotOpened.{NotOpened}
-use Rattle.tb_journal.specs.Device.{Disk, IsSettled, LeavesOnly, FailsNone, HasCause, IsCause}
+use Rattle.tb_journal.specs.Device.{Disk, IsSettled, LeavesOnly, FailsNone, HasCause, IsCause, SetsAside}
 use Rattle.tb_journal.specs.Contents.{Contents, NotAJournal, Damaged, Records, contents, recorded, records_end}
 use Rattle.tb_journal.specs.Steps.{IsWhole}
 use Rattle.tb_journal.specs.Ready.{Kept, IsReady}
@@ -95,6 +95,10 @@ abbrev pub Recovers : {D : Type 0} → Result (Kept D) (NotOpened D) → List �
 Recovers (Ok journal) file =
     (contents file ≡ Records (recorded file)) × IsOfExtent (record { end = records_end (recorded file); count = length (recorded file) }) journal
 Recovers (Err failed) file = RefusesFile failed.fault file
+
+-- where a journal is opened, what followed the closed latch behind its records was set aside
+abbrev pub IsAsideBehind : {D : Type 0} → (ℕ → List ℕ → Type 0) → Result (Kept D) (NotOpened D) → List ℕ → Type 0
+IsAsideBehind saved result file = IfOk result (λ journal. SetsAside saved (journal.end + 4) file)
 
 -- what follows the closed latch behind the records is cut off
 pub record Repairs (result : Result (Unit {0}) JournalFault) (before after : Disk) : Type 0 where

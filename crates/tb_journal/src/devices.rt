@@ -1,6 +1,6 @@
 //! A file as the journal sees it: what a read returns, and what a crash may leave.
-ghost use Rattle.std.specs.Prelude.{◌≤◌, ℕ, List, length, IfOk, IfErr};
-ghost use Rattle.tb_journal.specs.Device.{Disk, Looks, GivesBytes, AnswersLength, Writes, Cuts, Syncs, IsOfCall, IsOfSync};
+ghost use Rattle.std.specs.Prelude.{◌≤◌, ℕ, List, length, IfOk, IfErr, OnOk};
+ghost use Rattle.tb_journal.specs.Device.{Disk, Looks, GivesBytes, AnswersLength, Writes, Cuts, SetsAside, Syncs, IsOfCall, IsOfSync};
 
 use crate::faults::JournalFault;
 
@@ -15,6 +15,10 @@ pub trait Device {
 
     /// The reads of a device are those of this file. Of none, where a device does not say which.
     ghost holds: { Self → List ℕ → Type 0 } = { λ device file. ⊥ };
+
+    /// These bytes, which were in the file from this offset on, were set aside before they were cut off. Anything, where a device
+    /// does not say it.
+    ghost aside: { ℕ → List ℕ → Type 0 } = { λ at bytes. Unit {0} };
 
     /// Some of the bytes from an offset on: as many as fit, or all that are left.
     fn read_at(&mut self, at: usize, into: &mut [u8]) -> Result<usize, JournalFault>
@@ -43,6 +47,8 @@ pub trait Device {
     fn cut(&mut self, len: usize) -> Result<(), JournalFault>
         requires { tells → len ≤ length (disk self.old).seen }
         ensures names { IfErr result IsOfCall }
+        // Of any device.
+        ensures aside { (file : List ℕ) → holds self.old file → OnOk result (SetsAside aside len file) }
         ensures cuts { tells → Cuts len result (disk self.old) (disk self.new) };
 
     /// After it, a crash leaves what a read returns, as long as no sync has failed.

@@ -51,7 +51,7 @@ pub use journals::{FILE_BYTES_MAX, Journal, RECORD_BYTES_MAX};
 pub use memory::Memory;
 pub use opening::{NotOpened, OpenFault, create, recover};
 pub use posix::Posix;
-pub use reading::{Extent, Refusal};
+pub use reading::{Extent, Refusal, checksum_of};
 pub use real::{FileFault, HostFile, Real, sync_folder};
 pub use scans::{Scan, read_journal};
 pub use seeking::Seek;

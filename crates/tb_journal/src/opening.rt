@@ -1,11 +1,11 @@
 //! A journal is created, or opened from a file that a crash may have left.
-ghost use Rattle.std.specs.Prelude.{◌≡◌, ◌≤◌, ◌<◌, ◌^◌, true, List, ℕ, length, Ok, IfOk, IfErr, [], OnOk};
-ghost use Rattle.tb_journal.specs.Device.{IsOnDisk, LeavesOnly, IsSettled, HasCause, GivesBytes, LeavesIfSound, OfHeld};
+ghost use Rattle.std.specs.Prelude.{◌≡◌, ◌≤◌, ◌<◌, ◌+◌, ◌^◌, true, List, ℕ, length, Ok, IfOk, IfErr, [], OnOk};
+ghost use Rattle.tb_journal.specs.Device.{IsOnDisk, LeavesOnly, IsSettled, HasCause, GivesBytes, LeavesIfSound, OfHeld, SetsAside};
 ghost use Rattle.tb_journal.specs.Contents.{contents, recorded, records_end, IsJournal};
 ghost use Rattle.tb_journal.specs.Steps.{Shortens};
 ghost use Rattle.tb_journal.specs.Reading.{extent_of, LooksKept};
 ghost use Rattle.tb_journal.specs.Ready.{IsOver};
-ghost use Rattle.tb_journal.specs.Opening.{IsOfExtent, Recovers, StandsForTheSame, IsOfDevice, HasOpenCause, IsUntouched, Repairs, device_left, LeavesSameRecords, CausedBy, GivesBack, OpensIfSound};
+ghost use Rattle.tb_journal.specs.Opening.{IsOfExtent, Recovers, StandsForTheSame, IsOfDevice, HasOpenCause, IsUntouched, Repairs, device_left, LeavesSameRecords, CausedBy, GivesBack, OpensIfSound, IsAsideBehind};
 ghost use Rattle.tb_journal.specs.Creating.{is_torn_from, is_blank, MayBeCreated, IsLeft, HasCreateCause, CreatesIn, IsNew, IsUnborn, FindsBlank, WritesFirst};
 
 use crate::batches::{Batch, LATCH_BYTES};
@@ -47,7 +47,8 @@ impl<D: Device> NotOpened<D> {
 // Cuts, and syncs.
 fn cut_kept<D: Device>(device: &mut D, len: usize) -> Result<(), JournalFault>
     requires within { D.tells → len ≤ length (D.disk device.old).seen }
-    ensures { D.tells → Shortens len result (D.disk device.old) (D.disk device.new) }
+    ensures aside { OfHeld (D.holds device.old) (λ file. OnOk result (SetsAside D.aside len file)) }
+    ensures cuts { D.tells → Shortens len result (D.disk device.old) (D.disk device.new) }
 {
     match device.cut(len) {
         Ok(()) => device.sync(),
@@ -60,7 +61,8 @@ fn repair<D: Device>(device: &mut D, end: usize) -> Result<(), JournalFault>
     requires short { end < 2 ^ 63 }
     requires reads { D.tells → IsJournal (D.disk device.old).seen }
     requires ends { D.tells → end ≡ records_end (recorded (D.disk device.old).seen) }
-    ensures { D.tells → Repairs result (D.disk device.old) (D.disk device.new) }
+    ensures aside { OfHeld (D.holds device.old) (λ file. OnOk result (SetsAside D.aside (end + 4) file)) }
+    ensures repairs { D.tells → Repairs result (D.disk device.old) (D.disk device.new) }
 {
     cut_kept(device, end + LATCH_BYTES)
 }
@@ -81,6 +83,8 @@ impl<D: Device> Journal<D> {
         ensures usable { IfOk result (λ journal. journal.usable ≡ true) }
         ensures numbers { IfOk result (IsOfExtent extent) }
         ensures of_device { IfErr result (λ failed. IsOfDevice failed.fault) }
+        // What was cut off was set aside before.
+        ensures aside { OfHeld (D.holds device) (IsAsideBehind D.aside result) }
         ensures cause { D.tells → CausedBy D.disk device result HasOpenCause }
     {
         let Extent { end, count } = extent;
@@ -116,6 +120,8 @@ pub fn recover<D: Device>(alloc: Global, device: D) -> Result<Journal<D>, NotOpe
     ensures usable { IfOk result (λ journal. journal.usable ≡ true) }
     // The records are those of the file that its reads are of.
     ensures handed { (file : List ℕ) → D.holds device file → Recovers result file }
+    // What was cut off was set aside before.
+    ensures aside { OfHeld (D.holds device) (IsAsideBehind D.aside result) }
     // A file that is no journal, or is damaged, stays as it was.
     ensures untouched { D.tells → GivesBack D.disk device result IsUntouched }
     ensures cause { D.tells → CausedBy D.disk device result HasOpenCause }

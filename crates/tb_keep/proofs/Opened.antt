@@ -1,9 +1,11 @@
 -- Why a file is not opened.
-use Rattle.std.proofs.Common.{arith, ◌≡◌, inl, inr, ℕ, ◌<◌, ◌≤◌, ◌^◌, false, List, Result, Ok, Err, IfOk, IfErr, MatchResult, sym, ap, ◌∙◌, subst}
+use Rattle.std.proofs.Common.{arith, ◌≡◌, inl, inr, ℕ, ◌+◌, ◌<◌, ◌≤◌, ◌^◌, false, List, Result, Ok, Err, IfOk, IfErr, MatchResult, sym, ap, ◌∙◌, subst}
 use Rattle.std.proofs.lemmas.Grind.{common_steps}
 use Rattle.tb_records.specs.declared.limits.Profile.{Profile}
-use Rattle.tb_journal.specs.Device.{Disk, LeavesOnly}
-use Rattle.tb_journal.specs.Contents.{Records, contents, recorded}
+use Rattle.std.specs.Prelude.{drop}
+use Rattle.tb_journal.specs.Device.{Disk, LeavesOnly, SetsAside}
+use Rattle.tb_journal.specs.Reading.{extent_of}
+use Rattle.tb_journal.specs.Contents.{Records, contents, recorded, records_end}
 use Rattle.tb_journal.specs.Creating.{is_blank}
 use Rattle.tb_journal.specs.Opening.{IsAsBefore}
 use Rattle.tb_journal.specs.declared.reading.Extent.{Extent}
@@ -16,7 +18,7 @@ use Rattle.tb_keep.specs.declared.faults.StartFault.{StartFault}
 use Rattle.tb_keep.specs.declared.faults.StartFault.TheVariants as start
 use Rattle.tb_keep.specs.declared.creating.NotKept.{NotKept}
 use Rattle.tb_keep.specs.Keeping.{Keeping}
-use Rattle.tb_keep.specs.Recovering.{IsRestored, IsRestoredFrom, IsNotOfFile, IsTornTooLong, StopsOpening, torn_bytes}
+use Rattle.tb_keep.specs.Recovering.{IsRestored, IsRestoredFrom, IsNotOfFile, IsTornTooLong, StopsOpening, AreAside, torn_bytes}
 use Rattle.tb_keep.specs.Creating.{OpensFile, StartsFile, IsOpened, IsStarted, IsUntouched, MayBeOpened, MayBeStarted, IsRefused, IsStartRefused}
 
 abbrev pub Counts : Disk → Type 0
@@ -103,6 +105,21 @@ module _ (profile : Profile) (clients_max : ℕ) (file : List ℕ) where
   too_long machine extent at bytes found place torn many =
       let told = is_told (contents file) extent found.extent_is in
       record { reads = told.reads; place = place ∙ told.end; torn = torn; many = many }
+
+-- what a start cut off
+
+pub aside_behind : (saved : ℕ → List ℕ → Type 0) (file : List ℕ) (extent : Extent) (cut : ℕ) → extent_of (contents file) ≡ Ok extent → cut ≡ torn_bytes file
+    → SetsAside saved (extent.end + 4) file → AreAside saved cut file
+aside_behind saved file extent cut read torn aside some =
+    let end = (is_told (contents file) extent read).end in
+    subst (λ (n : ℕ). saved (n + 4) (drop (n + 4) file)) end (aside (omega (arith, some, torn, end)))
+
+pub were_aside : {D : Type 0} (saved : ℕ → List ℕ → Type 0) (file : List ℕ) (machine : State) (extent : Extent) (cut : ℕ) → extent_of (contents file) ≡ Ok extent → cut ≡ torn_bytes file
+    → (result : Result (Keeping D) (NotKept D))
+    → MatchResult result (λ keeper. (keeper.state ≡ machine) × (keeper.cut ≡ cut)) (λ failed. IsNotOfFile failed.fault)
+    → IfOk result (λ keeper. SetsAside saved (extent.end + 4) file) → IfOk result (λ keeper. AreAside saved keeper.cut file)
+were_aside saved file machine extent cut read torn (Ok keeper) (state, same) aside = aside_behind saved file extent keeper.cut read (same ∙ torn) aside
+were_aside saved file machine extent cut read torn (Err failed) outside aside = tt
 
 -- a start
 

@@ -1,12 +1,12 @@
 //! The file of a kept log is created, or opened after a crash.
-ghost use Rattle.std.specs.Prelude.{◌≡◌, ◌≤◌, Ok, IfOk, IfErr};
-ghost use Rattle.tb_journal.specs.Device.{HasCause, IsOfCall};
+ghost use Rattle.std.specs.Prelude.{◌≡◌, ◌≤◌, ◌+◌, Ok, IfOk, IfErr};
+ghost use Rattle.tb_journal.specs.Device.{HasCause, IsOfCall, SetsAside};
 ghost use Rattle.tb_journal.specs.Contents.{contents};
 ghost use Rattle.tb_journal.specs.Creating.{MayBeCreated};
 ghost use Rattle.tb_journal.specs.Reading.{extent_of};
 ghost use Rattle.tb_journal.specs.Ready.{IsReady};
 ghost use Rattle.tb_keep.specs.private.Entering.{StaysKept};
-ghost use Rattle.tb_keep.specs.Recovering.{torn_bytes};
+ghost use Rattle.tb_keep.specs.Recovering.{AreAside, torn_bytes};
 ghost use Rattle.tb_keep_log.specs.Keeping.{By, IfSound, IsUsable, OfHeld};
 ghost use Rattle.tb_keep_log.specs.Rereading.{HasLogCause, IsRestored};
 ghost use Rattle.tb_keep_log.specs.Beginning.{CausedBy, HasStartCause, IsOpened, IsRefused, IsStartRefused, IsStarted, LeavesIfSound, MayBeOpened, MayBeStarted, OpensFile, Refuses, StartsFile, device_left};
@@ -73,6 +73,7 @@ fn open_read<D: Device, A: Allocator + Clone>(
     ensures cause { D.tells → CausedBy D.disk device result HasLogCause }
     ensures usable { IfOk result IsUsable }
     ensures any_device { OpensAs result rules follower cut }
+    ensures aside { OfHeld (D.holds device) (λ file. IfOk result (λ _. SetsAside D.aside (extent.end + 4) file)) }
 {
     match Journal::open(global, device, extent) {
         Ok(journal) => Ok(LogKeeper::new(rules, journal, follower, cut)),
@@ -97,6 +98,7 @@ fn open_short<D: Device, A: Allocator + Clone>(
     ensures cause { D.tells → CausedBy D.disk device result HasLogCause }
     ensures usable { IfOk result (IsUsableBy rules) }
     ensures handed { OfHeld (D.holds device) (λ file. By rules IsRestored file follower extent → By rules (OpensFile result) file) }
+    ensures aside { OfHeld (D.holds device) (λ file. extent_of (contents file) ≡ Ok extent → IfOk result (λ keeper. AreAside D.aside keeper.cut file)) }
 {
     let mut device = device;
     match torn_behind(&mut device, extent) {
@@ -143,6 +145,8 @@ impl<D: Device, A: Allocator + Copy> LogKeeper<D, A> {
         ensures cause { D.tells → CausedBy D.disk device result HasLogCause }
         // Of any device, by the file that its reads are of.
         ensures handed { OfHeld (D.holds device) (By rules (OpensFile result)) }
+        // What was cut off was set aside before.
+        ensures aside { OfHeld (D.holds device) (λ file. IfOk result (λ keeper. AreAside D.aside keeper.cut file)) }
     {
         let mut device = device;
         let same = rules;
@@ -199,6 +203,8 @@ impl<D: Device, A: Allocator + Copy> LogKeeper<D, A> {
         ensures cause { D.tells → CausedBy D.disk device result HasStartCause }
         // Of any device, by the file that its reads are of.
         ensures handed { OfHeld (D.holds device) (By rules (StartsFile result)) }
+        // What was cut off was set aside before.
+        ensures aside { OfHeld (D.holds device) (λ file. IfOk result (λ keeper. AreAside D.aside keeper.cut file)) }
     {
         let same = rules;
         match LogKeeper::create(global, alloc, device, same) {

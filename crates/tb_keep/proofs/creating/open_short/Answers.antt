@@ -1,5 +1,5 @@
 use Rattle.std.proofs.Common.{arith, refl}
-use Rattle.tb_keep.proofs.Opened.{opens_file, too_long}
+use Rattle.tb_keep.proofs.Opened.{opens_file, too_long, were_aside}
 use Rattle.tb_keep.proofs.creating.open_short.Goals as goal
 
 pub returns-then-torn-clause-refused : goal.returns-then-torn-clause-refused
@@ -20,3 +20,8 @@ pub returns-else-torn-clause-handed : goal.returns-else-torn-clause-handed
 returns-else-torn-clause-handed g c file holds found =
     opens_file c.args.rules.profile c.args.rules.clients_max file c.args.machine c.args.extent c.in-Ok.torn found
     (c.in-Ok.ensures.torn file holds found.extent_is) (omega arith) c.open_restored.result c.open_restored.ensures.any_device
+
+pub returns-else-torn-clause-aside : goal.returns-else-torn-clause-aside
+returns-else-torn-clause-aside g c file holds read =
+    were_aside g.D.Device.aside file c.args.machine c.args.extent c.in-Ok.torn read (c.in-Ok.ensures.torn file holds read)
+    c.open_restored.result c.open_restored.ensures.any_device (c.open_restored.ensures.aside file (c.in-Ok.ensures.same file holds))

@@ -1,5 +1,5 @@
 use Rattle.std.proofs.Common.{arith, refl}
-use Rattle.tb_keep_log.proofs.Opened.{opens_file, too_long}
+use Rattle.tb_keep_log.proofs.Opened.{opens_file, too_long, were_aside}
 use Rattle.tb_keep_log.proofs.beginning.open_short.Goals as goal
 
 pub returns-then-torn-gt-TORN_BYTES_MAX-clause-refused : goal.returns-then-torn-gt-TORN_BYTES_MAX-clause-refused
@@ -20,3 +20,8 @@ pub returns-else-torn-gt-TORN_BYTES_MAX-clause-handed : goal.returns-else-torn-g
 returns-else-torn-gt-TORN_BYTES_MAX-clause-handed g c file holds found =
     opens_file c.args.rules.profile c.args.rules.clients_max c.args.rules file c.args.follower c.args.extent c.in-Ok.torn c.open_read.result found
     (c.in-Ok.ensures.torn file holds found.extent_is) (omega arith) c.open_read.ensures.any_device
+
+pub returns-else-torn-gt-TORN_BYTES_MAX-clause-aside : goal.returns-else-torn-gt-TORN_BYTES_MAX-clause-aside
+returns-else-torn-gt-TORN_BYTES_MAX-clause-aside g c file holds read =
+    were_aside g.D.Device.aside file c.args.rules c.args.follower c.args.extent c.in-Ok.torn read (c.in-Ok.ensures.torn file holds read)
+    c.open_read.result c.open_read.ensures.any_device (c.open_read.ensures.aside file (c.in-Ok.ensures.same file holds))

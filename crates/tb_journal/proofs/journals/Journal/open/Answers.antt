@@ -7,7 +7,7 @@ use Rattle.tb_journal.proofs.journals.Journal.open.Goals as goal
 pub returns-in-Ok-repair-clause-opened : goal.returns-in-Ok-repair-clause-opened
 returns-in-Ok-repair-clause-opened g c t sound =
     opens g.D.Device.disk (g.D.Device.disk c.args.device) c.repair.new.device c.args.extent c.in-Ok-repair.field-0 c.in-Ok.batch
-    (c.requires.read t) (c.in-Ok-repair.ensures t) (record { kept = c.requires.kept t sound; sound = sound }) c.in-Ok.ensures
+    (c.requires.read t) (c.in-Ok-repair.ensures.repairs t) (record { kept = c.requires.kept t sound; sound = sound }) c.in-Ok.ensures
 
 pub returns-then-end-clause-cause : goal.returns-then-end-clause-cause
 returns-then-end-clause-cause g c t =
