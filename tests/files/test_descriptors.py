@@ -32,7 +32,7 @@ FORMS = {
     "follow": (["follow", "log", "2"], "question", True),
     "dump": (["dump", "ledger"], None, True),
     "dump, later entries": (["dump", "ledger", "--after", "1"], None, True),
-    "dump, a log": (["dump", "log", "2"], None, True),
+    "dump, a log": (["dump", "log"], None, True),
     "check": (["check", "ledger"], None, True),
     "salvage": (["salvage", "torn", "new"], None, True),
     "backup": (["backup", "ledger", "new"], None, True),
@@ -81,7 +81,7 @@ def fixture_made(program, tmp_path_factory):
 def is_whole(tbd, folder, name):
     """Whether a file is a ledger or a log to its end."""
     words = [tbd, "check", name] if b"TBK1" in (folder / name).read_bytes()[:32] else None
-    return ran(words or [tbd, "dump", name, "2"], folder)[0] == 0
+    return ran(words or [tbd, "dump", name], folder)[0] == 0
 
 
 def tried(tbd, made, folder, form, closed):

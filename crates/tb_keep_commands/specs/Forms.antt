@@ -207,7 +207,7 @@ wrong_follow words = if nat_lt 5 (length words) then so_wrong (take 1 words) (co
 
 -- what is wrong behind a word and its file
 abbrev pub wrong_behind : List ℕ → List ℕ
-wrong_behind word = if is_dump word then codes "only --after COMMIT, --follow, or CLIENTS_MAX and PROFILE may follow FILE" else codes "too many words"
+wrong_behind word = if is_dump word then codes "only --after COMMIT and --follow may follow FILE" else codes "too many words"
 
 -- words that begin with one that takes a file, of which the second may name one
 abbrev pub wrong_count : List (List ℕ) → Wrong

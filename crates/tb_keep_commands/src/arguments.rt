@@ -415,7 +415,7 @@ fn wrong_behind(word: &str) -> &'static str
     ensures { result.now ≡ wrong_behind word.now }
 {
     if word == "dump" {
-        return "only --after COMMIT, --follow, or CLIENTS_MAX and PROFILE may follow FILE";
+        return "only --after COMMIT and --follow may follow FILE";
     }
     "too many words"
 }

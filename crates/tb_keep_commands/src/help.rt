@@ -18,12 +18,12 @@ Keeps a ledger in a file: what was answered is in the file, whenever the program
   dump FILE [--after COMMIT] [--follow]
                                   writes the history of FILE, as tbs dump does. With --after only
                                   entries above that commit number, without a head. With --follow
-                                  it waits for more, until a write fails or SIGTERM comes
+                                  it waits for more, until a write fails or SIGTERM comes. Of a
+                                  log FILE it writes the entries without positions
   follow FILE CLIENTS_MAX [PROFILE] [--existing]
                                   serves a log of entries with positions as tb_follow does; each
                                   reply goes out when its entry is on the disk. Its start says
                                   up to which position FILE has the log
-  dump FILE CLIENTS_MAX [PROFILE] writes the history of such a FILE, without positions
   check FILE                      reads all of FILE and prints what is in it, or the damage
   salvage FILE NEW                copies what is whole before the first damage into NEW, and
                                   prints what is lost and where. NEW must not exist

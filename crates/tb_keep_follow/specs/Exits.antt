@@ -35,8 +35,9 @@ module _ {O D E : Type 0} (its : KnownFiles O D E) (before : O) (name : List ℕ
   Performs (form.Follow clients_max profile existing) outcome first last start written quiet told =
       FollowsOver its.file (made_by its existing before name) (its.opener.gone left) left outcome (rules_of profile clients_max) name
       first last start written quiet told
-  Performs (form.Dump clients_max profile) outcome first last start written quiet told =
-      (last ≡ first) × (told ≡ quiet) × DumpsOver its.reading (its.opener.opens before name) left outcome (rules_of profile clients_max) start written
+  Performs (form.Dump from follows) outcome first last start written quiet told =
+      (last ≡ first) × (told ≡ quiet)
+      × DumpsOver its.reading (its.opener.opens before name) left (its.opener.ended left) from follows outcome start written
 
   -- a form was done, or not to its end; what it wrote went out; and the exit status and the line are those of the outcome
   pub record Exits (gone : Type 0) (form : Form) (exit_status : ℕ) (first last : Input) (start written quiet told : Output) : Type 0 where

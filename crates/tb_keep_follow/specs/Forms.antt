@@ -5,6 +5,9 @@ use Rattle.std.specs.Cmp.Lexicographic.{pointwise}
 use Rattle.tb_records.specs.declared.limits.Profile.{Profile}
 use Rattle.tb_records.specs.declared.limits.Profile.TheVariants.{One, Two}
 use Rattle.tb_commands.specs.Forms.{clients_of, profile_of}
+use Rattle.tb_keep_commands.specs.declared.arguments.Form.{Form as LedgerForm}
+use Rattle.tb_keep_commands.specs.declared.arguments.Form.TheVariants as form
+use Rattle.tb_keep_commands.specs.Forms as commands
 use Rattle.tb_keep_commands.specs.Forms.{file_word, is_existing, is_no_file}
 use Rattle.tb_keep_follow.specs.declared.arguments.Form.{Form}
 use Rattle.tb_keep_follow.specs.declared.arguments.Form.TheVariants.{Follow, Dump}
@@ -13,22 +16,12 @@ abbrev pub follow_by : Option ℕ → Profile → Option Form
 follow_by None profile = None
 follow_by (Some clients) profile = Some (Follow clients profile false)
 
-abbrev pub dump_by : Option ℕ → Profile → Option Form
-dump_by None profile = None
-dump_by (Some clients) profile = Some (Dump clients profile)
-
 abbrev pub is_follow : List ℕ → Bool
 is_follow word = pointwise nat_eq word (codes "follow")
 
-abbrev pub is_dump : List ℕ → Bool
-is_dump word = pointwise nat_eq word (codes "dump")
-
--- `follow FILE CLIENTS_MAX` or `dump FILE CLIENTS_MAX`, by a profile
+-- `follow FILE CLIENTS_MAX`, by a profile
 abbrev pub form_with : List ℕ → List ℕ → Profile → Option Form
-form_with word clients profile =
-    if is_follow word then follow_by (clients_of clients) profile
-    else if is_dump word then dump_by (clients_of clients) profile
-    else None
+form_with word clients profile = if is_follow word then follow_by (clients_of clients) profile else None
 
 abbrev pub existing_by : Option ℕ → Option Profile → Option Form
 existing_by None profile = None
@@ -60,6 +53,19 @@ form_by (word ∷ file ∷ clients ∷ profile ∷ last ∷ more ∷ rest) = Non
 abbrev pub form_of : List (List ℕ) → Option Form
 form_of words = if is_no_file (file_word words) then None else form_by words
 
+-- a form over a ledger that there is over a log too
+abbrev pub log_form : LedgerForm → Option Form
+log_form (form.Dump after follows) = Some (Dump after follows)
+log_form asked = None
+
+abbrev pub log_form_if : Option LedgerForm → Option Form
+log_form_if None = None
+log_form_if (Some asked) = log_form asked
+
+-- what the words ask for if the file is a log's
+abbrev pub log_form_of : List (List ℕ) → Option Form
+log_form_of words = log_form_if (commands.form_of words)
+
 -- rows
 
 pub profile_one_is_the_default : form_of (codes "follow" ∷ codes "log" ∷ codes "64" ∷ []) ≡ Some (Follow 64 One false)
@@ -71,11 +77,11 @@ no_log_is_made = refl
 pub no_log_of_profile_two_is_made : form_of (codes "follow" ∷ codes "log" ∷ codes "64" ∷ codes "2" ∷ codes "--existing" ∷ []) ≡ Some (Follow 64 Two true)
 no_log_of_profile_two_is_made = refl
 
-pub a_dump_has_a_profile : form_of (codes "dump" ∷ codes "log" ∷ codes "8" ∷ codes "2" ∷ []) ≡ Some (Dump 8 Two)
-a_dump_has_a_profile = refl
+pub later_entries_of_a_log : log_form_of (codes "dump" ∷ codes "log" ∷ codes "--after" ∷ codes "7" ∷ []) ≡ Some (Dump (Some 7) false)
+later_entries_of_a_log = refl
 
-pub a_dump_without_clients_is_another : form_of (codes "dump" ∷ codes "log" ∷ []) ≡ None
-a_dump_without_clients_is_another = refl
+pub a_dump_is_no_form_of_every_file : form_of (codes "dump" ∷ codes "log" ∷ []) ≡ None
+a_dump_is_no_form_of_every_file = refl
 
 pub a_number_is_no_file : form_of (codes "follow" ∷ codes "64" ∷ codes "8" ∷ []) ≡ None
 a_number_is_no_file = refl

@@ -1,6 +1,6 @@
 -- What a form over a log does between a std reader and a std writer, each behind a buffer.
 -- Cited by public contracts of: host.
-use Rattle.std.specs.Prelude.{ℕ, ◌≡◌, ◌⊎◌, ◌^◌, List, [], Option, Some, None, map, string_bytes}
+use Rattle.std.specs.Prelude.{ℕ, Bool, true, false, ◌≡◌, ◌⊎◌, ◌^◌, List, [], Option, Some, None, Result, map, string_bytes}
 use Rattle.std.specs.Io.Buffered.{reader_buffer, reader_capacity, reader_inner, writer_buffer, writer_capacity, writer_inner}
 use Rattle.std.specs.declared.io.buffered.BufReader.{BufReader}
 use Rattle.std.specs.declared.io.buffered.BufWriter.{BufWriter}
@@ -9,6 +9,7 @@ use Rattle.std.specs.declared.string.String.{String}
 use Rattle.tb_records.specs.Transport.{Output}
 use Rattle.tb_records.specs.declared.devices.Sink as sinks
 use Rattle.tb_keep_commands.specs.declared.commands.Terminals.{Terminals}
+use Rattle.tb_keep_commands.specs.declared.openers.OpeningFault.{OpeningFault}
 use Rattle.tb_keep_commands.specs.Ends.{KnownFiles}
 use Rattle.tb_keep_commands.specs.Forms.{file_word}
 use Rattle.tb_keep_commands.specs.Hosts as commands
@@ -17,17 +18,18 @@ use Rattle.tb_keep_commands.specs.Outlets.{Watched, outgoing}
 use Rattle.tb_keep_follow.specs.declared.arguments.Form.{Form}
 use Rattle.tb_keep_follow.specs.declared.arguments.Form.TheVariants as form
 use Rattle.tb_keep_follow.specs.Exits.{Exits}
-use Rattle.tb_keep_follow.specs.Forms.{form_of}
+use Rattle.tb_keep_follow.specs.Forms.{form_of, log_form_of}
+use Rattle.tb_keep_follow.specs.Heads.{LooksLikeLog}
 
 -- the bytes of input that a form holds at a time; a dump reads none
 abbrev pub input_size : Form → ℕ
 input_size (form.Follow clients_max profile existing) = 2 ^ 20
-input_size (form.Dump clients_max profile) = 0
+input_size (form.Dump from follows) = 0
 
 -- the bytes of output that a form holds at a time; of replies none, so that each goes out when it is written
 abbrev pub output_size : Form → ℕ
 output_size (form.Follow clients_max profile existing) = 0
-output_size (form.Dump clients_max profile) = 2 ^ 16
+output_size (form.Dump from follows) = 2 ^ 16
 
 module _ {O D E : Type 0} (its : KnownFiles O D E) (before left : O) {R W : Type 0} (remaining : R → Option (List ℕ)) (contents : W → Option (List ℕ)) where
   -- a form was done, or not to its end; where it was done the buffer of the output is empty at its end
@@ -50,17 +52,34 @@ module _ {O D E : Type 0} (its : KnownFiles O D E) (before left : O) {R W : Type
     pub holds_output : writer_capacity writer ≡ output_size form
     pub hosted : Hosted form name exit_status reader writer quiet told
 
-module _ {O D E : Type 0} (its : KnownFiles O D E) (ends : Terminals) (before left : O) {R W : Type 0} (remaining : R → Option (List ℕ))
-    (contents : W → Option (List ℕ)) where
-  -- the form over a log that words ask for was done, or not to its end; or, where they ask for none, what they ask for over a ledger; or there
-  -- is no memory for the buffers
-  abbrev pub ServesWords : Option Form → List (List ℕ) → ℕ → R → W → Output → Output → Type 0
-  ServesWords (Some form) words exit_status input output quiet told =
-      Serves its before left remaining contents form (file_word words) exit_status input output quiet told
-      ⊎ WantsMemory before left exit_status quiet told
-  ServesWords None words exit_status input output quiet told =
-      commands.Serves its ends before left remaining contents words exit_status input output quiet told
-      ⊎ WantsMemory before left exit_status quiet told
+module _ {O D E : Type 0} (its : KnownFiles O D E) (looks : O → List ℕ → Result ℕ OpeningFault → List ℕ → O → Type 0) (ends : Terminals)
+    (words : List (List ℕ)) (left : O) {R W : Type 0} (remaining : R → Option (List ℕ)) (contents : W → Option (List ℕ))
+    (exit_status : ℕ) (input : R) (output : W) (quiet told : Output) where
+  -- this form over a log was done, or not to its end
+  abbrev pub ServesLog : Form → O → Type 0
+  ServesLog form before = Serves its before left remaining contents form (file_word words) exit_status input output quiet told
+
+  -- what the words ask for over a ledger was done, or not to its end
+  abbrev pub ServesLedger : O → Type 0
+  ServesLedger before = commands.Serves its ends before left remaining contents words exit_status input output quiet told
+
+  -- the one over a log's file, and the other over any other; or there is no memory for the buffers
+  abbrev pub ServesEither : Bool → Form → O → Type 0
+  ServesEither true form before = ServesLog form before ⊎ WantsMemory before left exit_status quiet told
+  ServesEither false form before = ServesLedger before ⊎ WantsMemory before left exit_status quiet told
+
+  -- of a form that there is over both, the file was looked at before
+  pub record ServesLooked (form : Form) (before : O) : Type 0 where
+    pub is_log : Bool
+    pub between : O
+    pub looked : LooksLikeLog looks (file_word words) is_log before between
+    pub serves : ServesEither is_log form between
+
+  -- the form over a log that words ask for, whatever the file is; that over a log, or over a ledger, by the file; or one over a ledger
+  abbrev pub ServesWords : Option Form → Option Form → O → Type 0
+  ServesWords (Some form) by_file before = ServesEither true form before
+  ServesWords None (Some form) before = ServesLooked form before
+  ServesWords None None before = ServesLedger before ⊎ WantsMemory before left exit_status quiet told
 
 module _ {O D E : Type 0} (its : KnownFiles O D E) {R W L : Type 0} (remaining : R → Option (List ℕ)) (contents : W → Option (List ℕ))
     (lines : sinks.Ghosts L) where
@@ -71,13 +90,17 @@ module _ {O D E : Type 0} (its : KnownFiles O D E) {R W L : Type 0} (remaining :
       ⊎ WantsMemory before left exit_status (lines.output quiet) (lines.output told)
 
   -- what the words ask for
-  abbrev pub WordsOn : Terminals → List (String Global) → O → O → ℕ → R → W → L → L → Type 0
-  WordsOn ends words before left exit_status input output quiet told =
-      ServesWords its ends before left remaining contents (form_of (map string_bytes words)) (map string_bytes words) exit_status input output
-      (lines.output quiet) (lines.output told)
+  abbrev pub WordsOn : (O → List ℕ → Result ℕ OpeningFault → List ℕ → O → Type 0) → Terminals → List (String Global) → O → O → ℕ → R → W → L → L → Type 0
+  WordsOn looks ends words before left exit_status input output quiet told =
+      ServesWords its looks ends (map string_bytes words) left remaining contents exit_status input output (lines.output quiet) (lines.output told)
+      (form_of (map string_bytes words)) (log_form_of (map string_bytes words)) before
 
   -- what private functions alone cite
 
   abbrev pub HostedOn : Form → List ℕ → O → O → ℕ → BufReader R Global → BufWriter W Global → L → L → Type 0
   HostedOn form name before left exit_status input output quiet told =
       Hosted its before left remaining contents form name exit_status input output (lines.output quiet) (lines.output told)
+
+  abbrev pub LookedOn : (O → List ℕ → Result ℕ OpeningFault → List ℕ → O → Type 0) → Terminals → List (String Global) → Form → O → O → ℕ → R → W → L → L → Type 0
+  LookedOn looks ends words form before left exit_status input output quiet told =
+      ServesLooked its looks ends (map string_bytes words) left remaining contents exit_status input output (lines.output quiet) (lines.output told) form before

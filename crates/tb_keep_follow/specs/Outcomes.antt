@@ -1,6 +1,6 @@
 -- What each form over a log does, and its outcome.
 -- Public contracts reach it through: Exits.
-use Rattle.std.specs.Prelude.{ℕ, Bool, true, ◌≡◌, ◌-◌, List, Result, Ok, Err, MatchResult}
+use Rattle.std.specs.Prelude.{ℕ, Bool, true, false, ◌≡◌, ◌-◌, List, Option, Some, None, Result, Ok, Err, OnOk, MatchResult}
 use Rattle.tb_records.specs.Transport.{Input, Output}
 use Rattle.tb_journal.specs.declared.devices.Device as devices
 use Rattle.tb_journal.specs.declared.faults.JournalFault.{JournalFault}
@@ -19,7 +19,8 @@ use Rattle.tb_keep_log.specs.Beginning.{HasStartCause, IsStartRefused, IsStarted
 use Rattle.tb_keep_log.specs.Rereading.{HasLogCause, IsRestored, StopsReading}
 use Rattle.tb_keep_log.specs.Items.{Served, point}
 use Rattle.tb_keep_commands.specs.declared.faults.Failed.{Failed}
-use Rattle.tb_keep_commands.specs.declared.faults.KeepCommandFault.TheVariants.{Opening, Gone}
+use Rattle.tb_keep_commands.specs.declared.faults.KeepCommandFault.TheVariants.{Opening, Gone, NotAJournal}
+use Rattle.tb_keep_commands.specs.declared.kinds.Kind.TheVariants as kind
 use Rattle.tb_keep_commands.specs.declared.openers.OpeningFault.{OpeningFault}
 use Rattle.tb_keep_commands.specs.Ends.{KnownEnds, On}
 use Rattle.tb_keep_commands.specs.Exits.{made_by}
@@ -27,7 +28,10 @@ use Rattle.tb_keep_commands.specs.Outcomes.{IsAsked}
 use Rattle.tb_keep_commands.specs.ExitStatuses.{SaysLine, TellsCut, TellsMade, disk_fault, failed_pipe}
 use Rattle.tb_keep_follow.specs.declared.faults.FollowFault.{FollowFault}
 use Rattle.tb_keep_follow.specs.declared.faults.FollowFault.TheVariants.{Kept}
+use Rattle.tb_keep_follow.specs.declared.parts.Part.{Part}
 use Rattle.tb_keep_follow.specs.Faults.{started_fault, kept_fault, dumped_fault, wanted_line}
+use Rattle.tb_keep_follow.specs.Heads.{FindsRules}
+use Rattle.tb_keep_follow.specs.Parts.{WritesPart}
 
 -- done, or not to its end
 abbrev pub Outcome : Type 0
@@ -80,6 +84,36 @@ module _ {D : Type 0} (its : devices.Ghosts D) where
     pub whole : IsReadWhole read rules device between
     pub dumps : MatchResult read (λ done. DumpsRead outcome rules between after start written)
         (λ fault. (outcome ≡ Err (started_fault fault)) × (after ≡ between) × (written ≡ start))
+
+  -- the part of a log's history that was asked for was written, of a log of these rules. Where that is done nobody waits for more
+  pub record IsWritten (Ended : Type 0) (from : Option ℕ) (follows : Bool) (outcome : Outcome) (rules : Rules) (device after : D) (start written : Output) : Type 0 where
+    pub writes : OfFile device (λ file. WritesPart (its.holds after) outcome follows from rules file start written)
+    pub ends : follows ≡ true → OnOk outcome Ended
+
+  -- a file was read to its end before a byte of a part of its dump was written: of one that is refused nothing was
+  pub record DumpsLater (Ended : Type 0) (from : Option ℕ) (follows : Bool) (outcome : Outcome) (rules : Rules) (device after : D) (start written : Output) : Type 0 where
+    pub read : Result (Unit {0}) LogStartFault
+    pub between : D
+    pub whole : IsReadWhole read rules device between
+    pub writes : MatchResult read (λ done. IsWritten Ended from follows outcome rules between after start written)
+        (λ fault. (outcome ≡ Err (started_fault fault)) × (after ≡ between) × (written ≡ start))
+
+  -- a dump, or a part of one
+  abbrev pub DumpsPart : Type 0 → Option ℕ → Bool → Outcome → Rules → D → D → Output → Output → Type 0
+  DumpsPart Ended None false outcome rules device after start written = DumpsFile outcome rules device after start written
+  DumpsPart Ended from follows outcome rules device after start written = DumpsLater Ended from follows outcome rules device after start written
+
+  -- of a log, by the rules that its first bytes name; nothing of any other file
+  abbrev pub DumpsNamed : Type 0 → Option ℕ → Bool → Outcome → Option Rules → D → D → Output → Output → Type 0
+  DumpsNamed Ended from follows outcome (Some rules) device after start written = DumpsPart Ended from follows outcome rules device after start written
+  DumpsNamed Ended from follows outcome None device after start written =
+      (outcome ≡ Err (Kept (NotAJournal kind.Other))) × (after ≡ device) × (written ≡ start)
+
+  pub record DumpsFound (Ended : Type 0) (from : Option ℕ) (follows : Bool) (outcome : Outcome) (device after : D) (start written : Output) : Type 0 where
+    pub found : Option Rules
+    pub between : D
+    pub finds : FindsRules its found device between
+    pub dumps : DumpsNamed Ended from follows outcome found between after start written
 
   -- that its start made a file where there were no bytes was reported, and what it cut off behind the records of one of so many bytes, and from
   -- which position the log is wanted; then a log was kept
@@ -157,9 +191,9 @@ module _ {D : Type 0} (its : devices.Ghosts D) {O : Type 0} (may : Result D Open
     pub follows : FollowsOpened its may left followed rules path first last start written quiet told
 
 module _ {D : Type 0} (its : devices.Ghosts D) {O : Type 0} (may : Result D OpeningFault → O → Type 0) (left : O) where
-  abbrev pub DumpsOver : Outcome → Rules → Output → Output → Type 0
-  DumpsOver outcome rules start written =
-      Opens may left outcome (written ≡ start) (λ device. (after : D) × DumpsFile its outcome rules device after start written)
+  abbrev pub DumpsOver : Type 0 → Option ℕ → Bool → Outcome → Output → Output → Type 0
+  DumpsOver Ended from follows outcome start written =
+      Opens may left outcome (written ≡ start) (λ device. (after : D) × DumpsFound its Ended from follows outcome device after start written)
 
 -- what private functions alone cite
 
@@ -170,6 +204,16 @@ module _ {D : Type 0} (its : devices.Ghosts D) {W : Type 0} (output : W → Outp
 
   abbrev pub DumpsFileOn : Outcome → Rules → D → D → W → W → Type 0
   DumpsFileOn outcome rules device after writer later = DumpsFile its outcome rules device after (output writer) (output later)
+
+  module _ (Ended : Type 0) (part : Part) (outcome : Outcome) where
+    abbrev pub DumpsLaterOn : Rules → D → D → W → W → Type 0
+    DumpsLaterOn rules device after writer later = DumpsLater its Ended part.after part.follows outcome rules device after (output writer) (output later)
+
+    abbrev pub DumpsPartOn : Rules → D → D → W → W → Type 0
+    DumpsPartOn rules device after writer later = DumpsPart its Ended part.after part.follows outcome rules device after (output writer) (output later)
+
+    abbrev pub DumpsFoundOn : D → D → W → W → Type 0
+    DumpsFoundOn device after writer later = DumpsFound its Ended part.after part.follows outcome device after (output writer) (output later)
 
 -- a log of these rules was followed over the file of a name, between the ends of a command
 abbrev pub FollowsOn : {O D E R W L : Type 0} → KnownEnds O D E R W L → Bool → Rules → List ℕ → O → O → Outcome → R → R → W → W → L → L → Type 0

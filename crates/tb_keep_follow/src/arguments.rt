@@ -1,18 +1,20 @@
 //! What the words of the command line ask for.
 ghost use Rattle.std.specs.Prelude.{◌≡◌, map, string_bytes};
-ghost use Rattle.tb_keep_follow.specs.Forms.{form_by, form_existing, form_four, form_of, form_with};
+ghost use Rattle.tb_keep_follow.specs.Forms.{form_by, form_existing, form_four, form_of, form_with, log_form, log_form_of};
 
 use tb_commands::{read_clients_max, read_profile};
 use tb_keep_commands::{file_word, is_existing, is_no_file};
 use tb_records::{ClientsMax, Profile};
 
-/// What the program is asked to do over a log, in the file that the second word names, for so many clients and by a profile.
+/// What the program is asked to do over a log, in the file that the second word names.
 #[derive(Clone, Copy)]
 pub enum Form {
-    /// Follow a log. The file is made where there is none, unless the flag wants one that is there.
+    /// Follow a log, for so many clients and by a profile. The file is made where there is none, unless the flag wants one that is
+    /// there.
     Follow(ClientsMax, Profile, bool),
-    /// Write the history of a log as a dump.
-    Dump(ClientsMax, Profile),
+    /// Write the history of a log as a dump: all of it, or the entries above a commit number, without a head. The flag has more
+    /// waited for.
+    Dump(Option<u64>, bool),
 }
 
 /// What a word with the number of clients asks for, by a profile.
@@ -22,7 +24,6 @@ fn form_with(word: &str, clients_max: &str, profile: Profile) -> Option<Form>
     let clients_max = read_clients_max(clients_max.as_bytes())?;
     match word {
         "follow" => Some(Form::Follow(clients_max, profile, false)),
-        "dump" => Some(Form::Dump(clients_max, profile)),
         _ => None,
     }
 }
@@ -79,8 +80,8 @@ fn form_by(words: &[String]) -> Option<Form>
     }
 }
 
-/// What the words ask for, None where they are no form over a log. The second word is the file: it may be no number, and not begin
-/// with `-`.
+/// What the words ask for over a log, whatever is in the file; None where they ask for no such form. The second word is the file: it may
+/// be no number, and not begin with `-`.
 pub fn read_form(words: &[String]) -> Option<Form>
     ensures { result ≡ form_of (map string_bytes words.now) }
 {
@@ -88,4 +89,21 @@ pub fn read_form(words: &[String]) -> Option<Form>
         return None;
     }
     form_by(words)
+}
+
+/// The form over a log that is asked for as this one is over a ledger, if there is one.
+fn log_form(form: tb_keep_commands::Form) -> Option<Form>
+    ensures { result ≡ log_form form }
+{
+    match form {
+        tb_keep_commands::Form::Dump(after, follows) => Some(Form::Dump(after, follows)),
+        _ => None,
+    }
+}
+
+/// What the words ask for if the file is a log's; None where they ask for the same over any file.
+pub fn read_log_form(words: &[String]) -> Option<Form>
+    ensures { result ≡ log_form_of (map string_bytes words.now) }
+{
+    log_form(tb_keep_commands::read_form(words)?)
 }

@@ -4,10 +4,11 @@ ghost use Rattle.tb_keep_follow.specs.Exits.{ExitsOn, Finishes, PerformsOn};
 ghost use Rattle.tb_keep_follow.specs.Outcomes.{DumpsOver, FollowsOn, FollowsOpenedOn, unless_gone};
 
 use crate::arguments::Form;
-use crate::dumping::dump;
+use crate::dumping::dump_found;
 use crate::faults::FollowFault;
 use crate::following::follow;
 use crate::lines::tell_fault;
+use crate::parts::Part;
 use std::alloc::Global;
 use tb_keep::Rules;
 use tb_keep_commands::{Ends, Failed, KeepCommandFault, Opener, Outlet, made_by};
@@ -62,21 +63,22 @@ fn follow_over<O: Opener, R: Source, W: Outlet, E: Sink>(
     unless_gone(gone, followed)
 }
 
-/// Writes the dump of the device of a path.
-fn dump_over<O: Opener, W: Sink>(
+/// Writes the dump of the device of a path, or the part of one that was asked for.
+fn dump_over<O: Opener, W: Outlet>(
     alloc: Global,
     opener: &mut O,
-    rules: Rules,
     path: &str,
     writer: &mut W,
+    part: Part,
 ) -> Result<(), FollowFault>
-    ensures { DumpsOver O.Reading.Device (O.opens opener.old path.now) opener.new result rules
+    ensures { DumpsOver O.Reading.Device (O.opens opener.old path.now) opener.new (O.ended opener.new) part.after part.follows result
         (W.output writer.old) (W.output writer.new) }
 {
-    match opener.open(path) {
+    let opened = opener.open(path);
+    match opened {
         Ok(device) => {
             let mut device = device;
-            let dumped = dump(alloc, rules, &mut device, writer);
+            let dumped = dump_found(alloc, opener, &mut device, writer, part);
             drop(device);
             dumped
         }
@@ -105,12 +107,8 @@ fn perform<O: Opener, R: Source, W: Outlet, E: Sink>(
             };
             follow_over(alloc, opener, rules, path, existing, reader, writer, faults)
         }
-        Form::Dump(clients_max, profile) => {
-            let rules = Rules {
-                profile,
-                clients_max,
-            };
-            dump_over(alloc, opener, rules, path, writer)
+        Form::Dump(after, follows) => {
+            dump_over(alloc, opener, path, writer, Part { after, follows })
         }
     }
 }

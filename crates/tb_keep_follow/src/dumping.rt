@@ -2,12 +2,15 @@
 ghost use Rattle.std.specs.Prelude.{◌≡◌, ℕ, List};
 ghost use Rattle.tb_keep.specs.Creating.{IsUntouched};
 ghost use Rattle.tb_keep_log.specs.Rereading.{HasLogCause};
-ghost use Rattle.tb_keep_follow.specs.Outcomes.{ReadsLog, DumpsReadOn, DumpsFileOn, dumped_outcome};
+ghost use Rattle.tb_keep_follow.specs.Outcomes.{ReadsLog, DumpsReadOn, DumpsFileOn, DumpsLaterOn, DumpsPartOn, DumpsFoundOn, dumped_outcome};
 
 use crate::faults::{FollowFault, dumped_fault, started_fault};
+use crate::heads::find_rules;
+use crate::parts::{Part, write_part};
 use std::alloc::Global;
 use tb_journal::Device;
 use tb_keep::Rules;
+use tb_keep_commands::{KeepCommandFault, Kind, Opener, Outlet};
 use tb_keep_log::{DumpLogFault, LogStartFault, read_log, write_log_dump};
 use tb_records::Sink;
 
@@ -50,7 +53,7 @@ fn dump_read<D: Device, W: Sink>(
 }
 
 /// Writes the history of a log as a dump, without positions. The file is read twice: before anything is written all of it was read.
-pub(crate) fn dump<D: Device, W: Sink>(
+fn dump<D: Device, W: Sink>(
     alloc: Global,
     rules: Rules,
     device: &mut D,
@@ -62,5 +65,56 @@ pub(crate) fn dump<D: Device, W: Sink>(
     match read_whole(alloc, same, device) {
         Ok(()) => dump_read(alloc, rules, device, writer),
         Err(fault) => Err(started_fault(fault)),
+    }
+}
+
+/// Writes the part of a log's history that was asked for. Before anything is written all of the file was read.
+fn dump_later<O: Opener, W: Outlet>(
+    alloc: Global,
+    opener: &O,
+    rules: Rules,
+    device: &mut O::Reading,
+    writer: &mut W,
+    part: Part,
+) -> Result<(), FollowFault>
+    ensures { DumpsLaterOn O.Reading.Device W.output (O.ended opener.now) part result rules device.old device.new writer.old writer.new }
+{
+    let same = rules;
+    match read_whole(alloc, same, device) {
+        Ok(()) => write_part(alloc, opener, rules, device, writer, part),
+        Err(why) => Err(started_fault(why)),
+    }
+}
+
+/// Writes a dump of a log of these rules, or the part of one that was asked for.
+fn dump_part<O: Opener, W: Outlet>(
+    alloc: Global,
+    opener: &O,
+    rules: Rules,
+    device: &mut O::Reading,
+    writer: &mut W,
+    part: Part,
+) -> Result<(), FollowFault>
+    ensures { DumpsPartOn O.Reading.Device W.output (O.ended opener.now) part result rules device.old device.new writer.old writer.new }
+{
+    match (part.after, part.follows) {
+        (None, false) => dump(alloc, rules, device, writer),
+        _ => dump_later(alloc, opener, rules, device, writer, part),
+    }
+}
+
+/// Writes a dump of a log, or the part of one that was asked for. Its rules are those that its first bytes name.
+pub(crate) fn dump_found<O: Opener, W: Outlet>(
+    alloc: Global,
+    opener: &O,
+    device: &mut O::Reading,
+    writer: &mut W,
+    part: Part,
+) -> Result<(), FollowFault>
+    ensures { DumpsFoundOn O.Reading.Device W.output (O.ended opener.now) part result device.old device.new writer.old writer.new }
+{
+    match find_rules(device) {
+        Some(rules) => dump_part(alloc, opener, rules, device, writer, part),
+        None => Err(FollowFault::Kept(KeepCommandFault::NotAJournal(Kind::Other))),
     }
 }

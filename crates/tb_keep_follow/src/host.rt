@@ -1,9 +1,10 @@
 //! The way from a program's arguments, input and output to its commands.
 ghost use Rattle.std.specs.Prelude.{◌≡◌};
-ghost use Rattle.tb_keep_follow.specs.Hosts.{input_size, output_size, HostedOn, ServesOn, WordsOn};
+ghost use Rattle.tb_keep_follow.specs.Hosts.{input_size, output_size, HostedOn, LookedOn, ServesOn, WordsOn};
 
-use crate::arguments::{Form, read_form};
+use crate::arguments::{Form, read_form, read_log_form};
 use crate::commands::command;
+use crate::heads::{Looker, is_log};
 use std::alloc::Global;
 use std::io::{BufReader, BufWriter, Read, Write};
 use tb_keep_commands::{Files, KeepCommandFault, Opener, Outgoing, Terminals, file_word, refuse};
@@ -67,8 +68,31 @@ pub fn serve<O: Opener, R: Read + Drop, W: Write + Drop, E: Sink>(
     between(alloc, opener, form, path, input, output, faults)
 }
 
-/// Serves the form over a log that the words ask for, or else what they ask for over a ledger, and returns the exit status.
-pub fn serve_words<O: Opener, R: Read + Drop, W: Write + Drop, E: Sink>(
+/// Serves a form that there is over a log and over a ledger: by the file's first bytes.
+fn serve_looked<O: Looker, R: Read + Drop, W: Write + Drop, E: Sink>(
+    alloc: Global,
+    opener: &mut O,
+    words: &[String],
+    form: Form,
+    terminals: Terminals,
+    input: R,
+    output: W,
+    faults: &mut E,
+) -> u8
+    ensures { LookedOn ⟦<O as Files>⟧.its R.remaining W.contents E.Sink O.looks terminals words.now form
+        opener.old opener.new result input output faults.old faults.new }
+{
+    let path = file_word(words);
+    if is_log(opener, path) {
+        serve(alloc, opener, form, path, input, output, faults)
+    } else {
+        tb_keep_commands::serve(alloc, opener, words, terminals, input, output, faults)
+    }
+}
+
+/// Serves what the words ask for, over a log or over a ledger, and returns the exit status. A form that there is over both is served by
+/// the file's first bytes.
+pub fn serve_words<O: Looker, R: Read + Drop, W: Write + Drop, E: Sink>(
     alloc: Global,
     opener: &mut O,
     words: &[String],
@@ -77,14 +101,15 @@ pub fn serve_words<O: Opener, R: Read + Drop, W: Write + Drop, E: Sink>(
     output: W,
     faults: &mut E,
 ) -> u8
-    ensures { WordsOn ⟦<O as Files>⟧.its R.remaining W.contents E.Sink terminals words.now
+    ensures { WordsOn ⟦<O as Files>⟧.its R.remaining W.contents E.Sink O.looks terminals words.now
         opener.old opener.new result input output faults.old faults.new }
 {
-    match read_form(words) {
-        Some(form) => {
-            let path = file_word(words);
-            serve(alloc, opener, form, path, input, output, faults)
-        }
+    if let Some(form) = read_form(words) {
+        let path = file_word(words);
+        return serve(alloc, opener, form, path, input, output, faults);
+    }
+    match read_log_form(words) {
+        Some(form) => serve_looked(alloc, opener, words, form, terminals, input, output, faults),
         None => tb_keep_commands::serve(alloc, opener, words, terminals, input, output, faults),
     }
 }

@@ -4,5 +4,6 @@ pub mod Rereading
 pub mod Beginning
 pub mod Items
 pub mod Dumping
+pub mod Parts
 pub mod Laws
 pub mod private

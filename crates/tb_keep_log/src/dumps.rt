@@ -6,7 +6,8 @@ ghost use Rattle.tb_machine.specs.Runs.{is_new_in};
 ghost use Rattle.tb_keep.specs.private.Entering.{StaysKept};
 ghost use Rattle.tb_keep.specs.Creating.{IsUntouched};
 ghost use Rattle.tb_keep_log.specs.Dumping.{DumpsBy, HasDumpCause, no_pair};
-ghost use Rattle.tb_keep_log.specs.private.DumpSteps.{DumpsOne, DumpsPairsOf, DumpsRecord, ReadCause, DumpsNextOver, DumpsAllOver};
+ghost use Rattle.tb_keep_log.specs.Parts.{DumpsAllOver, ReadCause, is_wanted};
+ghost use Rattle.tb_keep_log.specs.private.DumpSteps.{SendsOver, DumpsOne, DumpsPairsOf, DumpsRecordOver, DumpsNextOver};
 ghost use Rattle.tb_keep_log.specs.Keeping.{By, OfEachRead, OfHeld, OfUnread};
 
 use crate::faults::{DumpLogFault, LogStartFault};
@@ -15,56 +16,87 @@ use crate::rereading::read_record;
 use std::alloc::Global;
 use tb_journal::{Device, Scan};
 use tb_keep::Rules;
-use tb_machine::{Machine, write_entry};
+use tb_machine::{Entry, Machine, write_entry};
 use tb_records::dumps::send_head;
 use tb_records::streams::read_timed_from;
 use tb_records::{Counting, DumpHead, FrameFault, Request, Sink, put_all};
 use tb_sessions::Class;
 
-/// Writes the entry of a new pair, and enters it.
+/// Says that the entry of this commit number is written: one above a number, or each.
+fn is_wanted(commit: u64, above: Option<u64>) -> bool
+    ensures { result ≡ is_wanted above commit }
+{
+    match above {
+        Some(above) => commit > above,
+        None => true,
+    }
+}
+
+/// Writes an entry, if it is wanted.
+fn send_entry<W: Sink>(
+    global: Global,
+    entry: &Entry,
+    above: Option<u64>,
+    writer: &mut W,
+) -> Result<(), DumpLogFault>
+    ensures { SendsOver above W.output result entry.now writer.old writer.new }
+{
+    if !is_wanted(entry.commit, above) {
+        return Ok(());
+    }
+    let mut bytes = Vec::new(global);
+    if write_entry(entry, &mut bytes).is_err() {
+        drop(bytes);
+        return Err(DumpLogFault::NoMemory);
+    }
+    let put = put_all(writer, &bytes);
+    drop(bytes);
+    match put {
+        Ok(()) => Ok(()),
+        Err(_) => Err(DumpLogFault::Writer),
+    }
+}
+
+/// Writes the entry of a new pair, if it is wanted, and enters it.
 fn dump_new<W: Sink>(
     global: Global,
     machine: &mut Machine<Global>,
+    above: Option<u64>,
     writer: &mut W,
     moment: u64,
     request: Request,
 ) -> Result<(), DumpLogFault>
     requires { is_new_in machine.old (moment, request) ≡ true }
-    ensures { DumpsOne W.output result machine.old machine.new (moment, request) writer.old writer.new }
+    ensures { DumpsOne above W.output result machine.old machine.new (moment, request) writer.old writer.new }
 {
     let Some(entry) = machine.next_entry(request, moment) else {
         return Err(DumpLogFault::TimeExhausted);
     };
-    let mut bytes = Vec::new(global);
-    if write_entry(&entry, &mut bytes).is_err() {
-        drop(bytes);
-        drop(entry);
-        return Err(DumpLogFault::NoMemory);
-    }
-    let put = put_all(writer, &bytes);
-    drop(bytes);
-    if put.is_err() {
-        drop(entry);
-        return Err(DumpLogFault::Writer);
-    }
-    match machine.enter(entry) {
-        Ok(()) => Ok(()),
-        Err(_) => Err(DumpLogFault::NoMemory),
+    match send_entry(global, &entry, above, writer) {
+        Ok(()) => match machine.enter(entry) {
+            Ok(()) => Ok(()),
+            Err(_) => Err(DumpLogFault::NoMemory),
+        },
+        Err(fault) => {
+            drop(entry);
+            Err(fault)
+        }
     }
 }
 
-/// Writes the entry of a pair that is new, and enters it. Of any other pair nothing is written.
+/// Writes the entry of a pair that is new, if it is wanted, and enters it. Of any other pair nothing is written.
 fn dump_pair<W: Sink>(
     global: Global,
     machine: &mut Machine<Global>,
+    above: Option<u64>,
     writer: &mut W,
     moment: u64,
     request: Request,
 ) -> Result<(), DumpLogFault>
-    ensures { DumpsOne W.output result machine.old machine.new (moment, request) writer.old writer.new }
+    ensures { DumpsOne above W.output result machine.old machine.new (moment, request) writer.old writer.new }
 {
     match machine.class(&request) {
-        Class::New => dump_new(global, machine, writer, moment, request),
+        Class::New => dump_new(global, machine, above, writer, moment, request),
         _ => Ok(()),
     }
 }
@@ -83,17 +115,18 @@ fn no_pair(cause: FrameFault) -> DumpLogFault
 fn dump_content<W: Sink>(
     global: Global,
     machine: &mut Machine<Global>,
+    above: Option<u64>,
     content: &[u8],
     writer: &mut W,
 ) -> Result<(), DumpLogFault>
     requires { length content.now ≤ content_max }
-    ensures { DumpsPairsOf W.output result machine.old machine.new content.now writer.old writer.new }
+    ensures { DumpsPairsOf above W.output result machine.old machine.new content.now writer.old writer.new }
 {
     let mut source = Counting::new(content);
     for index in 0..0x100_0000u32 {
         match read_timed_from(global, &mut source) {
             Ok(Some((moment, request))) => match dump_pair(
-                global, machine, writer, moment, request,
+                global, machine, above, writer, moment, request,
             ) {
                 Ok(()) => {}
                 Err(fault) => return Err(fault),
@@ -110,14 +143,15 @@ fn dump_record<W: Sink>(
     global: Global,
     rules: Rules,
     machine: &mut Machine<Global>,
+    above: Option<u64>,
     last: u64,
     bytes: &[u8],
     writer: &mut W,
 ) -> Result<(), DumpLogFault>
-    ensures { By rules (DumpsRecord result) last machine.old machine.new bytes.now (W.output writer.old) (W.output writer.new) }
+    ensures { DumpsRecordOver above W.output rules result last machine.old machine.new bytes.now writer.old writer.new }
 {
     match check_mark(bytes, rules, last) {
-        Ok(_) => dump_content(global, machine, &bytes[FIXED_BYTES..], writer),
+        Ok(_) => dump_content(global, machine, above, &bytes[FIXED_BYTES..], writer),
         Err(fault) => Err(DumpLogFault::Start(fault)),
     }
 }
@@ -127,11 +161,12 @@ fn dump_next<D: Device, W: Sink>(
     global: Global,
     rules: Rules,
     machine: &mut Machine<Global>,
+    above: Option<u64>,
     scan: &mut Scan,
     device: &mut D,
     writer: &mut W,
 ) -> Result<bool, DumpLogFault>
-    ensures dumps { OfEachRead (D.holds device.old) scan.old (DumpsNextOver rules W.output result scan.new machine.old machine.new writer.old writer.new) }
+    ensures dumps { OfEachRead (D.holds device.old) scan.old (DumpsNextOver above W.output rules result scan.new machine.old machine.new writer.old writer.new) }
     ensures same { OfHeld (D.holds device.old) (D.holds device.new) }
     ensures stays { D.tells → StaysKept (D.disk device.old) (D.disk device.new) }
     ensures cause { D.tells → ReadCause result scan.old (D.disk device.old) (D.disk device.new) }
@@ -139,32 +174,38 @@ fn dump_next<D: Device, W: Sink>(
 {
     let last = scan.extent().count as u64;
     match read_record(scan, device) {
-        Ok(true) => match dump_record(global, rules, machine, last, scan.record(), writer) {
-            Ok(()) => Ok(true),
-            Err(fault) => Err(fault),
-        },
+        Ok(true) => {
+            let bytes = scan.record();
+            match dump_record(global, rules, machine, above, last, bytes, writer) {
+                Ok(()) => Ok(true),
+                Err(fault) => Err(fault),
+            }
+        }
         Ok(false) => Ok(false),
         Err(fault) => Err(DumpLogFault::Start(LogStartFault::Journal(fault))),
     }
 }
 
-/// Writes the entries of the pairs of the records that are left.
-fn dump_all<D: Device, W: Sink>(
+/// Writes the entries of the pairs of the records of a log that were not read yet, those above a commit number, or all: one behind
+/// another and without a head, as a dump has them. The machine is the one behind the pairs of the records before; a new one where none was
+/// read. A scan that came to the end goes on where the file has more records. The faults are those of `write_log_dump`.
+pub fn write_log_entries<D: Device, W: Sink>(
     global: Global,
     rules: Rules,
     machine: &mut Machine<Global>,
+    above: Option<u64>,
     scan: &mut Scan,
     device: &mut D,
     writer: &mut W,
 ) -> Result<(), DumpLogFault>
-    ensures dumps { OfEachRead (D.holds device.old) scan.old (DumpsAllOver rules W.output result machine.old writer.old writer.new) }
+    ensures dumps { OfEachRead (D.holds device.old) scan.old (DumpsAllOver above rules W.output result scan.new machine.old machine.new writer.old writer.new) }
     ensures same { OfHeld (D.holds device.old) (D.holds device.new) }
     ensures stays { D.tells → StaysKept (D.disk device.old) (D.disk device.new) }
     ensures cause { D.tells → ReadCause result scan.old (D.disk device.old) (D.disk device.new) }
 {
     loop {
         let same = rules;
-        match dump_next(global, same, machine, scan, device, writer) {
+        match dump_next(global, same, machine, above, scan, device, writer) {
             Ok(true) => {}
             Ok(false) => return Ok(()),
             Err(fault) => return Err(fault),
@@ -195,7 +236,7 @@ fn dump_by<D: Device, W: Sink>(
     };
     match send_head(writer, head) {
         Ok(()) => {
-            let dumped = dump_all(global, rules, &mut machine, scan, device, writer);
+            let dumped = write_log_entries(global, rules, &mut machine, None, scan, device, writer);
             drop(machine);
             dumped
         }

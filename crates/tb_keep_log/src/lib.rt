@@ -10,7 +10,7 @@
 //! - `rereading`: `read_log`, a follower behind all records of a file.
 //! - `beginning`: `LogKeeper::open` and `LogKeeper::start`.
 //! - `items`: `keep_log`, items read, entries committed, and then answers sent.
-//! - `dumps`: `write_log_dump`, the history of a kept log without positions.
+//! - `dumps`: `write_log_dump`, the history of a kept log without positions, and `write_log_entries`, a part of it.
 //! - `laws`: what holds of every kept log: functions that do nothing.
 #![tactic(auto)]
 
@@ -25,7 +25,7 @@ mod marks;
 mod rereading;
 
 pub use beginning::NotStarted;
-pub use dumps::write_log_dump;
+pub use dumps::{write_log_dump, write_log_entries};
 pub use faults::{DumpLogFault, KeepLogFault, LogStartFault};
 pub use items::keep_log;
 pub use keepers::LogKeeper;

@@ -8,6 +8,7 @@ use std::thread;
 use std::time::Duration;
 use tb_journal::{Device, Real, Snapshot};
 use tb_keep_commands::{Named, Opener, OpeningFault, Reported, opening_fault, unread_fault};
+use tb_keep_follow::Looker;
 use tb_records::Counting;
 
 /// The files of the system.
@@ -117,6 +118,18 @@ impl<'a> Opener for SystemFiles<'a> {
     fn pause(&self) -> bool {
         thread::sleep(self.rt, Duration::from_millis(PAUSE_MS));
         true
+    }
+}
+
+impl<'a> Looker for SystemFiles<'a> {
+    fn look(&mut self, name: &str, into: &mut [u8]) -> Result<usize, OpeningFault> {
+        match Real::look(&HighFiles::new(self.rt), name) {
+            Ok(real) => {
+                let mut real = real;
+                real.read_at(0, into).map_err(|fault| unread_fault(fault))
+            }
+            Err(fault) => Err(opening_fault(&fault)),
+        }
     }
 }
 

@@ -93,23 +93,23 @@ const WRONG: &[Row] = &[
     wrong!(&["dump"], "tbd: Usage: dump: FILE is missing\n"),
     wrong!(
         &["dump", "ledger", "--after"],
-        "tbd: Usage: dump: only --after COMMIT, --follow, or CLIENTS_MAX and PROFILE may follow FILE\n",
+        "tbd: Usage: dump: only --after COMMIT and --follow may follow FILE\n",
     ),
     wrong!(
         &["dump", "ledger", "--after", "9223372036854775808"],
-        "tbd: Usage: dump: only --after COMMIT, --follow, or CLIENTS_MAX and PROFILE may follow FILE\n",
+        "tbd: Usage: dump: only --after COMMIT and --follow may follow FILE\n",
     ),
     wrong!(
         &["dump", "ledger", "--follow", "--after", "x"],
-        "tbd: Usage: dump: only --after COMMIT, --follow, or CLIENTS_MAX and PROFILE may follow FILE\n",
+        "tbd: Usage: dump: only --after COMMIT and --follow may follow FILE\n",
     ),
     wrong!(
         &["dump", "ledger", "--follow", "1", "--after"],
-        "tbd: Usage: dump: only --after COMMIT, --follow, or CLIENTS_MAX and PROFILE may follow FILE\n",
+        "tbd: Usage: dump: only --after COMMIT and --follow may follow FILE\n",
     ),
     wrong!(
         &["dump", "ledger", "--after", "--follow", "1"],
-        "tbd: Usage: dump: only --after COMMIT, --follow, or CLIENTS_MAX and PROFILE may follow FILE\n",
+        "tbd: Usage: dump: only --after COMMIT and --follow may follow FILE\n",
     ),
     wrong!(
         &["salvage"],

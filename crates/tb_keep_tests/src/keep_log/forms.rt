@@ -11,9 +11,9 @@ use crate::keep_log::logs::{answers, log, part};
 use crate::steps::{copy_of, expect, expect_equal, expect_given, rot, same, sure};
 use std::alloc::Global;
 use std::process::Abort;
-use tb_journal::Memory;
+use tb_journal::{Device, Memory};
 use tb_keep_commands::{Opener, OpeningFault};
-use tb_keep_follow::serve_words;
+use tb_keep_follow::{Looker, serve_words};
 use tb_records::Counting;
 
 /// One file, or none: the next process finds what the last one left.
@@ -111,6 +111,16 @@ impl Opener for OneFile {
     }
 }
 
+impl Looker for OneFile {
+    fn look(&mut self, name: &str, into: &mut [u8]) -> Result<usize, OpeningFault> {
+        let mut file = self.open(name)?;
+        match file.read_at(0, into) {
+            Ok(count) => Ok(count),
+            Err(_) => Err(OpeningFault::Unread),
+        }
+    }
+}
+
 /// Does what words ask for, over a log or else over a ledger, as `tbd` does.
 fn served(
     rt: &impl Abort,
@@ -179,7 +189,7 @@ const ROOM: usize = 65536;
 
 const FOLLOW: &[&str] = &["follow", "ledger", "2"];
 
-const DUMP: &[&str] = &["dump", "ledger", "2"];
+const DUMP: &[&str] = &["dump", "ledger"];
 
 const MADE: &str = "tbd: made ledger\ntbd: has the log up to position 0\n";
 
@@ -205,8 +215,23 @@ fn followed_and_started_again(rt: HostRuntime) {
     expect_out(&rt, &mut file, words, &[], (0, AT_THREE), &[]);
     let dumped = dump_of_pairs(&rt, alloc);
     expect_out(&rt, &mut file, DUMP, &[], (0, ""), &dumped);
+    let follow = &["dump", "ledger", "--follow"];
+    expect_out(&rt, &mut file, follow, &[], (0, ""), &dumped);
+    expect_later(&rt, &mut file, &dumped);
     drop(dumped);
     drop(file);
+}
+
+/// Where the second entry of the dump begins: behind its head and an entry that registers a client.
+const SECOND_ENTRY: usize = 16 + 16 + 48;
+
+/// Expects the later entries of a log, without a head: those behind the first one, then those behind the fourth and last.
+fn expect_later(rt: &impl Abort, file: &mut OneFile, dumped: &[u8]) {
+    let later = &["dump", "ledger", "--after", "1"];
+    let rest = part(dumped, SECOND_ENTRY, dumped.len());
+    expect_out(rt, file, later, &[], (0, ""), rest);
+    let last = &["dump", "ledger", "--after", "4", "--follow"];
+    expect_out(rt, file, last, &[], (0, ""), &[]);
 }
 
 const PLAIN: &str = "tbd: Plain: ledger is a ledger without positions; tbd run serves it\n";
@@ -243,11 +268,10 @@ fn all_refused(rt: &impl Abort, alloc: Global, bytes: &[u8], rows: &[Refusal]) {
 }
 
 /// Forms that want no plain ledger, and forms that want no log.
-const NO_LEDGERS: &[Refusal] = &[refusal!(FOLLOW, 5, PLAIN), refusal!(DUMP, 5, PLAIN)];
+const NO_LEDGERS: &[Refusal] = &[refusal!(FOLLOW, 5, PLAIN)];
 
 const NO_LOGS: &[Refusal] = &[
     refusal!(&["run", "ledger", "2"], 5, NO_HEAD),
-    refusal!(&["dump", "ledger"], 5, NO_HEAD),
     refusal!(&["check", "ledger"], 5, NO_HEAD),
 ];
 
@@ -282,10 +306,13 @@ const NONE: &str = "tbd: NotAJournal: ledger does not begin as a ledger's file\n
 /// Forms over a log of other rules, over a text, and over a log of which a byte turned.
 const OTHERS: &[Refusal] = &[
     refusal!(&["follow", "ledger", "3"], 7, OTHER_RULES),
-    refusal!(&["dump", "ledger", "2", "2"], 7, OTHER_RULES),
+    refusal!(&["follow", "ledger", "2", "2"], 7, OTHER_RULES),
 ];
 
-const TEXTS: &[Refusal] = &[refusal!(FOLLOW, 5, NONE), refusal!(DUMP, 5, NONE)];
+const TEXT: &str =
+    "tbd: NotAJournal: ledger is a text; telovamish script makes request frames of statements\n";
+
+const TEXTS: &[Refusal] = &[refusal!(FOLLOW, 5, NONE), refusal!(DUMP, 5, TEXT)];
 
 const ROT: &str =
     "tbd: Damaged: ledger: the block at byte 740 is not what was written; tbd salvage makes a new file of the entries before it\n";
@@ -413,7 +440,7 @@ const WRONG: &[Refusal] = &[
     refusal!(
         &["dump", "ledger", "65"],
         2,
-        "tbd: Usage: dump: only --after COMMIT, --follow, or CLIENTS_MAX and PROFILE may follow FILE\n",
+        "tbd: Usage: dump: only --after COMMIT and --follow may follow FILE\n",
     ),
 ];
 

@@ -8,19 +8,19 @@ use Rattle.tb_keep_log.proofs.dumps.dump_next.Goals as goal
 pub returns-in-Ok-false-clause-dumps : goal.returns-in-Ok-false-clause-dumps
 returns-in-Ok-false-clause-dumps g c file read holds has =
     let next = (rw c.in-Ok-false.field-0-test at c.in-Ok-false.ensures.reads) file read holds has in
-    (next.reads.0, refl, refl)
+    (next.reads.0, next.reads.1, refl, refl)
 
 pub returns-in-Ok-clause-dumps : goal.returns-in-Ok-clause-dumps
 returns-in-Ok-clause-dumps g c file read holds has =
     let next = (rw c.in-Ok-true.field-0-test at c.in-Ok-true.ensures.reads) file read holds has in
-    (c.read_record.new.scan.last, next.reads, rw c.record.ensures at c.in-Ok.ensures)
+    (c.read_record.new.scan.last, next.reads, rw c.record-bytes.ensures at c.in-Ok.ensures)
 
 pub returns-in-Err-dump_record-clause-dumps : goal.returns-in-Err-dump_record-clause-dumps
 returns-in-Err-dump_record-clause-dumps g c file read holds has =
     let new = c.read_record.new.scan in
     let next = (rw c.in-Ok-true.field-0-test at c.in-Ok-true.ensures.reads) file read holds has in
-    next_halts c.args.rules.profile c.args.rules.clients_max read new.last file next.reads.begins c.in-Err-dump_record.fault c.extent-last.result.count new c.args.machine.now c.dump_record.new.machine
-    (g.W.Sink.output c.args.writer.now) (g.W.Sink.output c.dump_record.new.writer) (c.extent-last.ensures.count ∙ has.count) (rw c.record.ensures at c.in-Err-dump_record.ensures)
+    next_halts c.args.above c.args.rules.profile c.args.rules.clients_max read new.last file next.reads.begins c.in-Err-dump_record.fault c.extent-last.result.count new c.args.machine.now c.dump_record.new.machine
+    (g.W.Sink.output c.args.writer.now) (g.W.Sink.output c.dump_record.new.writer) (c.extent-last.ensures.count ∙ has.count) (rw c.record-bytes.ensures at c.in-Err-dump_record.ensures)
 
 pub returns-in-Err-clause-dumps : goal.returns-in-Err-clause-dumps
 returns-in-Err-clause-dumps g c file read holds has =
@@ -33,5 +33,5 @@ pub returns-in-Err-dump_record-clause-cause : goal.returns-in-Err-dump_record-cl
 returns-in-Err-dump_record-clause-cause g c t read has = record {
   ok = tt;
   cause = dump_cause (g.D.Device.disk c.args.device.now) (g.D.Device.disk c.read_record.new.device) c.in-Err-dump_record.fault c.args.rules.profile c.args.rules.clients_max c.extent-last.result.count
-      c.record.result.now c.in-Err-dump_record.ensures.0 (c.in-Ok-true.ensures.cause t read has).ok;
+      c.record-bytes.result.now c.in-Err-dump_record.ensures.0 (c.in-Ok-true.ensures.cause t read has).ok;
 }

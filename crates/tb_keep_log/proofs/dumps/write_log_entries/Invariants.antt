@@ -2,8 +2,8 @@ use Rattle.std.proofs.Common.{ℕ, List, ◌-◌, ◌^◌}
 use Rattle.tb_journal.specs.Device.{FailsNone}
 use Rattle.tb_journal.specs.Scans.{HasRead}
 use Rattle.tb_keep.specs.private.Entering.{StaysKept}
-use Rattle.tb_keep_log.specs.private.DumpSteps.{Dumped}
-use Rattle.tb_keep_log.proofs.dumps.dump_all.Given as goal
+use Rattle.tb_keep_log.specs.Parts.{Dumped}
+use Rattle.tb_keep_log.proofs.dumps.write_log_entries.Given as goal
 
 -- the records so far were dumped, and no call has failed
 abbrev pub invariant-loop-fault : goal.invariant-loop-fault
@@ -12,7 +12,7 @@ invariant-loop-fault g l = record {
   stays : g.D.Device.tells → StaysKept (g.D.Device.disk l.fn.device) (g.D.Device.disk l.device);
   none : g.D.Device.tells → (read : List (List ℕ)) → HasRead read (g.D.Device.disk l.fn.device).seen l.fn.scan → FailsNone (g.D.Device.disk l.fn.device) (g.D.Device.disk l.device);
   dumped : (file : List ℕ) (read : List (List ℕ)) → g.D.Device.holds l.fn.device file → HasRead read file l.fn.scan
-      → Dumped l.fn.rules.profile l.fn.rules.clients_max read file l.scan l.fn.machine l.machine (g.W.Sink.output l.fn.writer) (g.W.Sink.output l.writer);
+      → Dumped l.fn.above l.fn.rules.profile l.fn.rules.clients_max read file l.scan l.fn.machine l.machine (g.W.Sink.output l.fn.writer) (g.W.Sink.output l.writer);
 }
 
 abbrev pub decreases-loop-fault : goal.decreases-loop-fault

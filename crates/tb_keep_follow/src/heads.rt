@@ -1,0 +1,106 @@
+//! Which log a file is of, by its first bytes.
+ghost use Rattle.std.specs.Prelude.{◌≡◌, ◌≤◌, ℕ, List, Result, length, IfOk};
+ghost use Rattle.tb_keep_commands.specs.declared.openers.OpeningFault.{OpeningFault};
+ghost use Rattle.tb_keep_follow.specs.Heads.{FindsRules, LooksLikeLog, profile_numbered, rules_behind, rules_by, rules_in, rules_of_mark};
+
+use tb_journal::Device;
+use tb_keep::Rules;
+use tb_keep_commands::{Opener, OpeningFault};
+use tb_records::{ClientsMax, Profile};
+
+/// The bytes before the first record of a file: the text of a journal, a latch, a length and a checksum.
+const BEFORE_BYTES: usize = 19;
+
+/// The first bytes of a file that are looked at: up to the mark of its first record.
+pub const FIRST_BYTES: usize = 25;
+
+/// What opens devices, and looks at their first bytes before.
+pub trait Looker: Opener {
+    /// A look at the first bytes of a device may answer this. Anything, where a looker does not say it.
+    ghost looks: { Self → List ℕ → Result ℕ OpeningFault → List ℕ → Self → Type 0 } = { λ before name answer bytes after. Unit {0} };
+
+    /// Reads the first bytes of the device of this name, which is there: as many as fit, or all of them.
+    fn look(&mut self, name: &str, into: &mut [u8]) -> Result<usize, OpeningFault>
+        ensures within { IfOk result (λ count. count ≤ length into.new) }
+        ensures looked { looks self.old name.now result into.new self.new };
+}
+
+/// The profile of this number.
+fn profile_numbered(number: u8) -> Option<Profile>
+    ensures { result ≡ profile_numbered number }
+{
+    match number {
+        1 => Some(Profile::One),
+        2 => Some(Profile::Two),
+        _ => None,
+    }
+}
+
+/// The rules of a profile and of so many clients, if there can be such.
+fn rules_by(profile_given: Option<Profile>, clients_max: u8) -> Option<Rules>
+    ensures { result ≡ rules_by profile_given clients_max }
+{
+    let profile = profile_given?;
+    let clients_max = ClientsMax::new(clients_max as u32)?;
+    Some(Rules {
+        profile,
+        clients_max,
+    })
+}
+
+/// The rules that a record names behind its text.
+#[tactic(auto, using(crate::proofs::Lengths::few_no_rules))]
+fn rules_behind(mark: &[u8]) -> Option<Rules>
+    ensures { result ≡ rules_behind mark.now }
+{
+    match mark {
+        [_, _, _, _, profile, clients_max, ..] => {
+            rules_by(profile_numbered(*profile), *clients_max)
+        }
+        _ => None,
+    }
+}
+
+/// The rules that a record names which begins so, if it is that of an entry of a log.
+fn rules_of_mark(mark: &[u8]) -> Option<Rules>
+    ensures { result ≡ rules_of_mark mark.now }
+{
+    if !mark.starts_with(b"TBF1") {
+        return None;
+    }
+    rules_behind(mark)
+}
+
+/// The rules of the log that a file with these first bytes is of; None where it is of none.
+pub(crate) fn rules_in(first: &[u8]) -> Option<Rules>
+    ensures { result ≡ rules_in first.now }
+{
+    if first.len() < BEFORE_BYTES {
+        return None;
+    }
+    rules_of_mark(&first[BEFORE_BYTES..])
+}
+
+/// The rules of the log that the file of a device is of. Its first bytes are read.
+pub(crate) fn find_rules<D: Device>(device: &mut D) -> Option<Rules>
+    ensures { FindsRules D.Device result device.old device.new }
+{
+    let mut first = [0; FIRST_BYTES];
+    let first: &mut [u8] = &mut first;
+    match device.read_at(0, first) {
+        Ok(count) => rules_in(&first[..count]),
+        Err(_) => None,
+    }
+}
+
+/// Says whether the file of a name is a log's, by a look at its first bytes.
+pub(crate) fn is_log<O: Looker>(opener: &mut O, name: &str) -> bool
+    ensures { LooksLikeLog O.looks name.now result opener.old opener.new }
+{
+    let mut first = [0; FIRST_BYTES];
+    let first: &mut [u8] = &mut first;
+    match opener.look(name, first) {
+        Ok(count) => rules_in(&first[..count]).is_some(),
+        Err(_) => false,
+    }
+}

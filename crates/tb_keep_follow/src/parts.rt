@@ -1,0 +1,231 @@
+//! The entries of a log above a commit number, or all, written as the file grows.
+ghost use Rattle.std.specs.Prelude.{◌≡◌, true, ℕ, List, IfOk, OnOk};
+ghost use Rattle.tb_keep_commands.specs.Following.{start_of};
+ghost use Rattle.tb_keep_follow.specs.Parts.{HeadGoes, SendsMore, SendsOn, SendsRest, SendsUnread, IsUnread, WritesHeld, WritesUnread};
+
+use crate::faults::{FollowFault, dumped_fault};
+use std::alloc::Global;
+use tb_journal::{Device, Scan};
+use tb_keep::Rules;
+use tb_keep_commands::{Failed, KeepCommandFault, Live, Opener, Outlet, disk_fault};
+use tb_keep_log::{DumpLogFault, LogStartFault, write_log_entries};
+use tb_machine::Machine;
+use tb_records::dumps::send_head;
+use tb_records::{DumpHead, Sink};
+
+/// Which part of a log's history is written.
+#[derive(Clone, Copy)]
+pub(crate) struct Part {
+    /// The entries above this commit number, without a head; else all, as a dump.
+    pub after: Option<u64>,
+    /// Whether more are waited for.
+    pub follows: bool,
+}
+
+/// What is read of a log: its rules, and which of its entries are written.
+#[derive(Clone, Copy)]
+struct Wanted {
+    rules: Rules,
+    above: Option<u64>,
+}
+
+/// How far a log was read: the machine behind the pairs of its records.
+#[derive(Drop)]
+struct Reading {
+    machine: Machine<Global>,
+    scan: Scan,
+}
+
+/// The fault of an output that holds back what it does not take.
+fn output_fault() -> FollowFault
+    ensures { result ≡ FollowFault.Kept (KeepCommandFault.Device Failed.Output) }
+{
+    FollowFault::Kept(KeepCommandFault::Device(Failed::Output))
+}
+
+/// Writes the entries that are left of a log, and sends out what is held back.
+fn send_round<D: Device, W: Outlet>(
+    global: Global,
+    wanted: &Wanted,
+    reading: &mut Reading,
+    device: &mut D,
+    writer: &mut W,
+) -> Result<(), FollowFault>
+    ensures sends { SendsRest D.holds W.output wanted.now result reading.old reading.new device.old writer.old writer.new }
+    ensures gone { IfOk result (λ _. W.gone writer.new) }
+    ensures same { (file : List ℕ) → D.holds device.old file → D.holds device.new file }
+{
+    let (rules, above) = (wanted.rules, wanted.above);
+    let machine = &mut reading.machine;
+    let scan = &mut reading.scan;
+    match write_log_entries(global, rules, machine, above, scan, device, writer) {
+        Ok(()) => match writer.finish() {
+            Ok(()) => Ok(()),
+            Err(_) => Err(output_fault()),
+        },
+        Err(fault) => Err(dumped_fault(fault)),
+    }
+}
+
+/// Looks at a file again, and writes the entries of what has been committed by now.
+fn send_more<D: Live, W: Outlet>(
+    global: Global,
+    wanted: &Wanted,
+    reading: &mut Reading,
+    device: &mut D,
+    writer: &mut W,
+) -> Result<(), FollowFault>
+    ensures sends { SendsMore D.holds W.output wanted.now result reading.old reading.new device.old device.new writer.old writer.new }
+    ensures gone { IfOk result (λ _. W.gone writer.new) }
+{
+    match device.refresh() {
+        Ok(()) => {
+            reading.scan.go_on();
+            send_round(global, wanted, reading, device, writer)
+        }
+        Err(fault) => Err(FollowFault::Kept(disk_fault(fault))),
+    }
+}
+
+/// As long as more entries are waited for, writes those that were committed meanwhile.
+fn send_on<O: Opener, W: Outlet>(
+    global: Global,
+    opener: &O,
+    wanted: &Wanted,
+    reading: &mut Reading,
+    device: &mut O::Reading,
+    writer: &mut W,
+) -> Result<(), FollowFault>
+    ensures sends { SendsOn O.Reading.holds W.output wanted.now result reading.old device.old device.new writer.old writer.new }
+    ensures ends { OnOk result (O.ended opener.now) }
+{
+    for _ in 0..u64::MAX {
+        if !opener.pause() {
+            return Ok(());
+        }
+        match send_more(global, wanted, reading, device, writer) {
+            Ok(()) => {}
+            Err(fault) => return Err(fault),
+        }
+    }
+    // So many rounds do not come to an end on any machine.
+    Err(dumped_fault(DumpLogFault::NoMemory))
+}
+
+/// Writes the entries of a log of which nothing was read, and those that are committed meanwhile where more are waited for.
+fn send_entries<O: Opener, W: Outlet>(
+    global: Global,
+    opener: &O,
+    wanted: &Wanted,
+    reading: &mut Reading,
+    device: &mut O::Reading,
+    writer: &mut W,
+    follows: bool,
+) -> Result<(), FollowFault>
+    ensures sends { SendsUnread O.Reading.holds W.output wanted.now follows result reading.old device.old device.new writer.old writer.new }
+    ensures ends { follows ≡ true → OnOk result (O.ended opener.now) }
+{
+    match send_round(global, wanted, reading, device, writer) {
+        Ok(()) => {
+            if follows {
+                send_on(global, opener, wanted, reading, device, writer)
+            } else {
+                Ok(())
+            }
+        }
+        Err(fault) => Err(fault),
+    }
+}
+
+/// Writes the head of a dump of these rules, where all entries are written.
+fn send_start<W: Sink>(writer: &mut W, rules: Rules, after: Option<u64>) -> Result<(), FollowFault>
+    ensures { HeadGoes (start_of after rules) result (W.output writer.old) (W.output writer.new) }
+{
+    if after.is_some() {
+        return Ok(());
+    }
+    let head = DumpHead {
+        profile: rules.profile,
+        clients_max: rules.clients_max,
+    };
+    match send_head(writer, head) {
+        Ok(()) => Ok(()),
+        Err(_) => Err(output_fault()),
+    }
+}
+
+/// Writes the part of a log's history that was asked for, of a log of which nothing was read.
+fn send_part<O: Opener, W: Outlet>(
+    global: Global,
+    opener: &O,
+    rules: Rules,
+    reading: &mut Reading,
+    device: &mut O::Reading,
+    writer: &mut W,
+    part: Part,
+) -> Result<(), FollowFault>
+    ensures writes { WritesUnread O.Reading.holds W.output rules part result reading.old device.old device.new writer.old writer.new }
+    ensures ends { part.follows ≡ true → OnOk result (O.ended opener.now) }
+{
+    let same = rules;
+    match send_start(writer, same, part.after) {
+        Ok(()) => {
+            let wanted = Wanted {
+                rules,
+                above: part.after,
+            };
+            send_entries(
+                global,
+                opener,
+                &wanted,
+                reading,
+                device,
+                writer,
+                part.follows,
+            )
+        }
+        Err(fault) => Err(fault),
+    }
+}
+
+/// A reading of a log of these rules, of which nothing was read.
+fn unread<D: Device>(global: Global, rules: Rules, device: &mut D) -> Result<Reading, FollowFault>
+    ensures state { IfOk result (IsUnread D.holds rules device.old) }
+    ensures same { (file : List ℕ) → D.holds device.old file → D.holds device.new file }
+{
+    let _clients = rules.clients_max.get();
+    let Ok(machine) = Machine::new_in(global, global, rules.profile, rules.clients_max) else {
+        return Err(dumped_fault(DumpLogFault::NoMemory));
+    };
+    match Scan::start(global, device) {
+        Ok(scan) => Ok(Reading { machine, scan }),
+        Err(fault) => {
+            drop(machine);
+            Err(dumped_fault(DumpLogFault::Start(LogStartFault::Journal(fault))))
+        }
+    }
+}
+
+/// Writes the part of a log's history that was asked for: once, or as long as more is waited for.
+pub(crate) fn write_part<O: Opener, W: Outlet>(
+    global: Global,
+    opener: &O,
+    rules: Rules,
+    device: &mut O::Reading,
+    writer: &mut W,
+    part: Part,
+) -> Result<(), FollowFault>
+    ensures writes { WritesHeld O.Reading.holds W.output rules part result device.old device.new writer.old writer.new }
+    ensures ends { part.follows ≡ true → OnOk result (O.ended opener.now) }
+{
+    let same = rules;
+    match unread(global, same, device) {
+        Ok(reading) => {
+            let mut reading = reading;
+            let written = send_part(global, opener, rules, &mut reading, device, writer, part);
+            drop(reading);
+            written
+        }
+        Err(fault) => Err(fault),
+    }
+}
