@@ -1157,7 +1157,7 @@ def copied(tbd, form, path, new, **how):
 
 
 def salvages(tbd, folder, data, latches, count, rng):
-    """A file with a bit flipped at many places: what is before the damage is taken over, and what is lost is reported."""
+    """A file with a bit flipped at many places: what is before the damage is taken over, and all where it is in a length; what is lost is reported."""
     whole, path = os.path.join(folder, "sound.tbk"), os.path.join(folder, "hurt.tbk")
     with open(whole, "wb") as file:
         file.write(data)
@@ -1175,10 +1175,15 @@ def salvages(tbd, folder, data, latches, count, rng):
         taken = sum(latch <= at for latch in latches) - 2
         with open(path, "rb") as file:
             same = file.read() == hurt
-        report = f"entries {taken}\nlast commit {taken}\n".encode()
-        lost = f"\nbytes lost {len(data) - latches[taken + 1] - 4} behind byte {latches[taken + 1]}: Damaged: ".encode()
+        latch = latches[taken + 1]
+        got = len(ends) - 1 if at - latch < 7 else taken
+        left = 0 if got > taken else len(data) - latch - 4
+        report = f"entries {got}\nlast commit {got}\n".encode()
+        lost = f"\nbytes lost {left} behind byte {latch}: Damaged: ".encode()
+        on = f"\nread on {got - taken} of the entries from byte {latch}\n".encode()
         well = (status, line) == (0, "") and said.startswith(report) and lost in said and same
-        if not well or kept != dump[: ends[taken]]:
+        well = well and said.endswith(on) == (got > taken)
+        if not well or kept != dump[: ends[got]]:
             wrong.append((at, status, said, line))
     case(f"{count} damaged files salvaged", not wrong, wrong[:2])
     told, kept = copied(tbd, "backup", path, os.path.join(folder, "part.tbk"))

@@ -3,12 +3,14 @@ use Rattle.std.proofs.Common.{◌≡◌, ℕ, List, Option, None, refl, ap, subs
 use Rattle.tb_journal.specs.declared.devices.Device as devices
 use Rattle.tb_records.specs.Transport.{Output}
 use Rattle.tb_keep.specs.declared.faults.StartFault.{StartFault}
+use Rattle.tb_keep.specs.declared.reading_on.ReadOn.{ReadOn}
 use Rattle.tb_keep.specs.declared.salvaging.Salvaged.{Salvaged}
 use Rattle.tb_keep.specs.Salvaging.{IsSalvaged}
 use Rattle.tb_machine.specs.Histories.{State}
 use Rattle.tb_machine.proofs.RepeatLaws.{commit_is}
 use Rattle.tb_keep_commands.specs.declared.copies.Copied.{Copied}
-use Rattle.tb_keep_commands.specs.Copies.{IsCopy, EndsCopy, copied_of, copied_text}
+use Rattle.tb_keep_commands.specs.declared.rescues.Rescued.{Rescued}
+use Rattle.tb_keep_commands.specs.Copies.{IsCopy, EndsCopy, copied_of, copied_text, rescued_of, rescued_text}
 use Rattle.tb_keep_commands.specs.Outcomes.{Outcome, PrintsText}
 
 pub copy_is : {N : Type 0} (its : devices.Ghosts N) (holds : List ℕ → Type 0) (len : ℕ) (salvaged : Salvaged N)
@@ -32,3 +34,9 @@ pub printed : (asked : Option StartFault) (c copied : Copied) (outcome : Outcome
 printed asked c copied outcome start written none same prints =
     subst (λ (a : Option StartFault). EndsCopy a copied outcome start written) none
     (subst (λ (d : Copied). PrintsText (copied_text d) outcome start written) same prints)
+
+-- the same of what was read on
+pub rescued_printed : (found : Rescued) (copied c : Copied) (S : State) (on : ReadOn) (outcome : Outcome) (start written : Output) → found ≡ rescued_of copied S on → copied ≡ c
+    → PrintsText (rescued_text found) outcome start written → PrintsText (rescued_text (rescued_of c S on)) outcome start written
+rescued_printed found copied c S on outcome start written is same prints =
+    subst (λ (r : Rescued). PrintsText (rescued_text r) outcome start written) (is ∙ ap (λ (d : Copied). rescued_of d S on) same) prints

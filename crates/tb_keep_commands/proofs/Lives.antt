@@ -1,5 +1,5 @@
 -- A file that is read on after others appended to it.
-use Rattle.std.proofs.Common.{◌≡◌, ℕ, Bool, List, length, Result, Ok, Err, IfOk, OnOk, OnErr, inl, refl, sym, ap, ◌∙◌, subst, arith}
+use Rattle.std.proofs.Common.{◌≡◌, ℕ, Bool, false, List, length, Result, Ok, Err, IfOk, OnOk, OnErr, inl, refl, sym, ap, ◌∙◌, subst, arith}
 use Rattle.tb_journal.specs.declared.faults.JournalFault.{JournalFault}
 use Rattle.tb_journal.specs.Contents.{Contents, NotAJournal, Damaged, Records, contents}
 use Rattle.tb_journal.specs.Device.{Disk, Looks}
@@ -27,6 +27,14 @@ module _ {G : Type 0} (grows : G → List ℕ → Type 0) (before after : Snappe
         all = r.takes.same;
       }
   refreshed (Err fault) ok err shown held = err shown held
+
+-- one that is shown whole holds the file as it is
+module _ {G : Type 0} (grows : G → List ℕ → Type 0) (snapshot : Snapped G) (whole : snapshot.closed ≡ false) where
+  pub looked_whole : (shown : List ℕ) → IsHeld grows snapshot shown → grows snapshot.file shown
+  looked_whole shown held =
+      let met = held.shows.met in
+      let all = subst (λ (b : Bool). ShowsOf b snapshot.end snapshot.len met shown) whole held.shows.shows in
+      subst (grows snapshot.file) (final_later met held.file all.final held.shows.since ∙ sym all.is) held.now
 
 -- nobody appended
 pub stays : {D : Type 0} → (holds : D → List ℕ → Type 0) → (device : D) → (file : List ℕ) → holds device file → LooksAgain holds holds device device file

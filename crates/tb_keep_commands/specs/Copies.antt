@@ -1,6 +1,6 @@
 -- What is copied of a file into a new one, up to its first damage, and what is reported of it.
--- Cited by public contracts of: copies.
-use Rattle.std.specs.Prelude.{ℕ, Bool, true, false, ◌≡◌, ◌-◌, List, [], ◌∷◌, ◌++◌, length, codes, Option, None, Some, Result, Ok, Err, IfErr, MatchResult, refl}
+-- Cited by public contracts of: copies, rescues.
+use Rattle.std.specs.Prelude.{ℕ, Bool, true, false, zero, suc, ◌≡◌, ◌-◌, List, [], ◌∷◌, ◌++◌, length, codes, Option, None, Some, Result, Ok, Err, OnOk, IfErr, MatchResult, refl}
 use Rattle.std.specs.Fmt.{decimal, digits}
 use Rattle.tb_records.specs.Transport.{Output}
 use Rattle.tb_journal.specs.declared.devices.Device as devices
@@ -9,15 +9,19 @@ use Rattle.tb_journal.specs.Device.{LeavesOnly}
 use Rattle.tb_keep.specs.declared.faults.SalvageFault.{SalvageFault}
 use Rattle.tb_keep.specs.declared.faults.SalvageFault.TheVariants.{Old, New}
 use Rattle.tb_keep.specs.declared.faults.StartFault.{StartFault}
+use Rattle.tb_keep.specs.declared.reading_on.ReadOn.{ReadOn}
 use Rattle.tb_keep.specs.declared.recovering.Rules.{Rules}
 use Rattle.tb_keep.specs.declared.salvaging.NotSalvaged.{NotSalvaged}
 use Rattle.tb_keep.specs.declared.salvaging.Salvaged.{Salvaged}
-use Rattle.tb_keep.specs.Keeping.{History, state_of}
+use Rattle.tb_keep.specs.Keeping.{History, Keeping, Keeps, state_of}
 use Rattle.tb_keep.specs.Creating.{IsUntouched}
 use Rattle.tb_keep.specs.Reading.{RulesAnswer}
+use Rattle.tb_keep.specs.ReadingOn.{IsReadOn, LeavesLonger}
 use Rattle.tb_keep.specs.Recovering.{HasStartCause}
+use Rattle.tb_machine.specs.Histories.{State}
 use Rattle.tb_keep.specs.Salvaging.{IsTaken, IsNewKeeper, IsUnsalvaged, MayBeSalvaged, HasNewCause, salvaged_device, why_old, why_new}
 use Rattle.tb_keep_commands.specs.declared.copies.Copied.{Copied}
+use Rattle.tb_keep_commands.specs.declared.rescues.Rescued.{Rescued}
 use Rattle.tb_keep_commands.specs.declared.faults.Damage.{Damage}
 use Rattle.tb_keep_commands.specs.declared.faults.Damage.TheVariants.{Block}
 use Rattle.tb_keep_commands.specs.declared.faults.KeepCommandFault.{KeepCommandFault}
@@ -59,6 +63,22 @@ copied_of len salvaged = record {
   end = salvaged.end;
   behind = len - salvaged.end - 4;
   damage = damage_of salvaged.stop;
+}
+
+-- a line more, where entries were read on behind the damage: how many, and from which offset on
+abbrev pub read_on_line : ℕ → ℕ → List ℕ
+read_on_line zero first = []
+read_on_line (suc n) first = codes "read on " ++ (decimal (suc n) ++ (codes " of the entries from byte " ++ (decimal first ++ 10 ∷ [])))
+
+abbrev pub rescued_text : Rescued → List ℕ
+rescued_text r = copied_text r.copied ++ read_on_line r.more r.first
+
+-- what is reported then, by the state behind all entries: the bytes of the blocks that were read on are not lost
+abbrev pub rescued_of : Copied → State → ReadOn → Rescued
+rescued_of c S on = record {
+  copied = record c { entries = S.commit; time = S.books.time; behind = c.behind - on.bytes };
+  more = S.commit - c.entries;
+  first = on.first;
 }
 
 -- the new file keeps a history of which the records were copied, up to where no more can be, and this is reported of it: how many entries
@@ -106,11 +126,30 @@ module _ {E : Type 0} (its : devices.Ghosts E) (whole_read : E → List ℕ → 
     pub untouched : its.tells → IsUntouched (its.disk from) (its.disk after)
     pub cause_old : its.tells → HasStartCause (why_old result) (its.disk from) (its.disk after)
 
+  -- a file of so many bytes was read on behind its damage, also behind its closed latch: the new one goes on with each next entry that stands
+  -- there, and what was taken over was printed; or why it is not read or written on
+  pub record Rescues (len : ℕ) (salvaged : Salvaged D) (outcome : Outcome) (from after : E) (start written : Output) : Type 0 where
+    pub looked : E
+    pub looks : (file : List ℕ) → whole_read from file → whole_read looked file
+    pub all : (file : List ℕ) → its.holds looked file → whole_read looked file
+    pub between : E
+    pub result : Result ReadOn SalvageFault
+    pub keeper : Keeping D
+    pub on : OnOk result (IsReadOn new_file.tells new_file.disk (its.holds looked) salvaged.end salvaged.keeper keeper)
+    pub any_moment : new_file.tells → (h : History) → Keeps new_file.disk h salvaged.keeper
+        → LeavesLonger h (new_file.disk salvaged.keeper.journal.device) (new_file.disk keeper.journal.device)
+    pub ends : MatchResult result (λ it. PrintsText (rescued_text (rescued_of (copied_of len salvaged) keeper.state it)) outcome start written × (after ≡ between))
+        (λ fault. (named : KeepCommandFault) × (outcome ≡ Err named) × NamesCopy its fault named between after × (written ≡ start))
+
+  -- a copy of a file that is to be whole ends there, and any other is read on
+  abbrev pub EndsBy : Bool → ℕ → Salvaged D → Outcome → E → E → Output → Output → Type 0
+  EndsBy true len salvaged outcome from after start written = EndsCopy (refused_by true salvaged.stop) (copied_of len salvaged) outcome start written × (after ≡ from)
+  EndsBy false len salvaged outcome from after start written = Rescues len salvaged outcome from after start written
+
   -- the new file keeps what was copied, which was printed, or the file is refused; or why there is no new file, or one not to its end
   abbrev pub CopiesBy : Result (Salvaged D) (NotSalvaged D) → ℕ → Bool → Outcome → E → E → E → Output → Output → Type 0
   CopiesBy (Ok salvaged) len whole outcome from between after start written =
-      (c : Copied) × IsCopy new_file (its.holds from) len salvaged c
-      × EndsCopy (refused_by whole salvaged.stop) c outcome start written × (after ≡ between)
+      IsCopy new_file (its.holds from) len salvaged (copied_of len salvaged) × EndsBy whole len salvaged outcome between after start written
   CopiesBy (Err failed) len whole outcome from between after start written =
       (named : KeepCommandFault) × (outcome ≡ Err named) × NamesCopy its failed.fault named between after × (written ≡ start)
 
@@ -151,6 +190,11 @@ module _ {O D E : Type 0} (its : KnownFiles O D E) (new : List ℕ) where
         (λ from. (after : E) × CopiesHeaded middle left whole outcome from after start written)
 
 -- rows
+
+pub three_rescued : rescued_text (record { copied = record { entries = 9; time = 19; end = 94; behind = 88; damage = Some (Block 94) }; more = 3; first = 182 })
+    ≡ codes "entries 9\nlast commit 9\nlast time 19\nbytes lost 88 behind byte 94: Damaged: at byte 94\nread on 3 of the entries from byte 182\n"
+unfolding digits
+three_rescued = refl
 
 pub two_copied : copied_text (record { entries = 2; time = 11; end = 182; behind = 5; damage = None })
     ≡ codes "entries 2\nlast commit 2\nlast time 11\nbytes behind 5, not committed yet or torn\n"

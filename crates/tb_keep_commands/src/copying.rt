@@ -1,6 +1,7 @@
-//! A file copied into a new one: up to its first damage, or where it is whole.
+//! A file copied into a new one: what can be read of it, or where it is whole.
 ghost use Rattle.std.specs.Prelude.{◌≡◌, true};
-ghost use Rattle.tb_keep_commands.specs.Copies.{copied_of, copied_text, refused_by, NamesCopy, CopiesLong, CopiesFile};
+ghost use Rattle.tb_keep_commands.specs.Copies.{copied_of, copied_text, rescued_text, refused_by, NamesCopy, Rescues, EndsBy, CopiesLong, CopiesFile};
+ghost use Rattle.tb_keep.specs.Keeping.{IsUsable, IsFresh};
 ghost use Rattle.tb_keep_commands.specs.Outcomes.{PrintsText};
 ghost use Rattle.tb_keep_commands.specs.private.Changes.{OnDevice, OnWriter};
 ghost use Rattle.tb_keep_commands.specs.private.Stages.{CopiesHeadedOn, CopiesOn, EndsSalvage, MakesCopyOn};
@@ -11,10 +12,11 @@ use crate::faults::{Failed, KeepCommandFault, disk_fault, new_fault, started_fau
 use crate::live::Live;
 use crate::naming::named;
 use crate::openers::Opener;
+use crate::rescues::{Rescued, rescued_of};
 use std::alloc::Global;
 use std::format;
 use tb_journal::Device;
-use tb_keep::{NotSalvaged, SalvageFault, Salvaged, StartFault, read_rules, salvage};
+use tb_keep::{NotSalvaged, SalvageFault, Salvaged, StartFault, read_on, read_rules, salvage};
 use tb_records::{Sink, put_all};
 
 /// What is reported of a file of so many bytes that was copied.
@@ -89,6 +91,71 @@ fn uncopied<D: Device, N: Device + Drop>(from: &mut D, failed: NotSalvaged<N>) -
     named_copy(from, fault)
 }
 
+/// Writes what was copied of a file, and read on behind its damage.
+fn report_rescued<W: Sink>(
+    alloc: Global,
+    rescued: Rescued,
+    writer: &mut W,
+) -> Result<(), KeepCommandFault>
+    ensures { PrintsText (rescued_text rescued) result (W.output writer.old) (W.output writer.new) }
+{
+    match format!(in alloc; "{rescued}") {
+        Ok(lines) => match put_all(writer, lines.as_bytes()) {
+            Ok(()) => Ok(()),
+            Err(_) => Err(KeepCommandFault::Device(Failed::Output)),
+        },
+        Err(_) => Err(KeepCommandFault::NoMemory),
+    }
+}
+
+/// Reads a file of so many bytes on behind what was copied of it, and writes what was taken over.
+fn rescue<D: Live, N: Device + Drop, W: Sink>(
+    alloc: Global,
+    from: &mut D,
+    len: usize,
+    salvaged: Salvaged<N>,
+    writer: &mut W,
+) -> Result<(), KeepCommandFault>
+    requires usable { IsUsable salvaged.keeper }
+    requires fresh { N.tells → IsFresh N.disk salvaged.keeper }
+    ensures { OnDevice W.Sink (Rescues D.Device D.whole N.Device len salvaged result) from writer }
+{
+    let copied = copied_of(&salvaged, len);
+    let end = salvaged.end as usize;
+    let mut keeper = salvaged.keeper;
+    from.look_behind();
+    match read_on(alloc, &mut keeper, from, end) {
+        Ok(on) => {
+            let rescued = rescued_of(copied, &keeper, on);
+            drop(keeper);
+            report_rescued(alloc, rescued, writer)
+        }
+        Err(fault) => {
+            drop(keeper);
+            Err(named_copy(from, fault))
+        }
+    }
+}
+
+/// Ends the copy of a file that is to be whole, and reads any other on.
+fn end_by<D: Live, N: Device + Drop, W: Sink>(
+    alloc: Global,
+    from: &mut D,
+    len: usize,
+    salvaged: Salvaged<N>,
+    whole: bool,
+    writer: &mut W,
+) -> Result<(), KeepCommandFault>
+    requires usable { IsUsable salvaged.keeper }
+    requires fresh { N.tells → IsFresh N.disk salvaged.keeper }
+    ensures { OnDevice W.Sink (EndsBy D.Device D.whole N.Device whole len salvaged result) from writer }
+{
+    if whole {
+        return end_copy(alloc, salvaged, len, true, writer);
+    }
+    rescue(alloc, from, len, salvaged, writer)
+}
+
 /// Copies a file of so many bytes into a new one.
 fn copy_long<D: Live, N: Device + Drop, W: Sink>(
     alloc: Global,
@@ -102,13 +169,13 @@ fn copy_long<D: Live, N: Device + Drop, W: Sink>(
     ensures { OnDevice W.Sink (CopiesLong D.Device D.whole N.Device len whole result into) from writer }
 {
     match salvage(alloc, from, into) {
-        Ok(salvaged) => end_copy(alloc, salvaged, len, whole, writer),
+        Ok(salvaged) => end_by(alloc, from, len, salvaged, whole, writer),
         Err(failed) => Err(uncopied(from, failed)),
     }
 }
 
-/// Copies a file into a new one, up to its first damage, and writes what was copied. A file that is to be whole is refused where it is
-/// damaged: the new one then has what is before that.
+/// Copies a file into a new one, up to its first damage and then each next entry that stands behind it, and writes what was copied. A file
+/// that is to be whole is refused where it is damaged: the new one then has what is before that.
 pub(crate) fn copy<D: Live, N: Device + Drop, W: Sink>(
     alloc: Global,
     from: &mut D,

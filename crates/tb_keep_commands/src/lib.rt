@@ -20,6 +20,7 @@
 //! - `naming`: what there is to say of a file that is refused.
 //! - `files`: `dump` and `check`, a file read without a write.
 //! - `copies`: what is reported of a file that was copied.
+//! - `rescues`: what is reported of one that was read on behind its damage.
 //! - `copying`: `salvage` and `backup`, a file copied into a new one.
 //! - `following`: the entries of a file above a commit number, as it grows.
 //! - `keeping`: `run`, a ledger over a file served.
@@ -51,6 +52,7 @@ mod outlets;
 mod places;
 mod printable;
 mod reports;
+mod rescues;
 mod steady;
 mod summaries;
 
@@ -75,5 +77,6 @@ pub use openers::{Opener, OpeningFault, opening_fault, unread_fault};
 pub use outlets::{Outgoing, Outlet};
 pub use places::{Named, Place, Silent};
 pub use reports::Reported;
+pub use rescues::Rescued;
 pub use steady::Steady;
 pub use summaries::Summary;

@@ -27,6 +27,12 @@ pub trait Live: Device {
     fn refresh(&mut self) -> Result<(), JournalFault>
         ensures later { RefreshesHeld whole Self.holds result self.old self.new }
         ensures looks { Self.tells → Looks result (Self.disk self.old) (Self.disk self.new) };
+
+    /// From now on a read gives the bytes of the whole file, those behind what the device held too.
+    fn look_behind(&mut self)
+        ensures whole { (file : List ℕ) → whole self.old file → whole self.new file }
+        ensures all { (file : List ℕ) → Self.holds self.new file → whole self.new file }
+        ensures told { Self.tells → self.new ≡ self.old };
 }
 
 /// A file that grows, as it was at some moment.
@@ -40,6 +46,11 @@ impl<G: Growing + Drop> Live for Snapshot<G> {
     #[tactic(auto, using(crate::proofs::Lives::refreshed))]
     fn refresh(&mut self) -> Result<(), JournalFault> {
         Snapshot::refresh(self)
+    }
+
+    #[tactic(auto, using(crate::proofs::Lives::looked_whole))]
+    fn look_behind(&mut self) {
+        Snapshot::look_behind(self);
     }
 }
 
@@ -57,4 +68,6 @@ impl Live for Memory {
     fn refresh(&mut self) -> Result<(), JournalFault> {
         Ok(())
     }
+
+    fn look_behind(&mut self) {}
 }

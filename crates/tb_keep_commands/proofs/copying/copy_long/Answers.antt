@@ -1,5 +1,4 @@
 use Rattle.std.proofs.Common.{Ok, Err, refl}
-use Rattle.tb_keep_commands.specs.Copies.{copied_of}
 use Rattle.tb_keep_commands.proofs.CopiedFiles.{copy_is}
 use Rattle.tb_keep_commands.proofs.copying.copy_long.Goals as goal
 
@@ -16,10 +15,8 @@ returns-in-Ok g c = record {
     cause_old = c.in-Ok.ensures.cause_old;
   };
   copies = (
-    copied_of c.args.len c.in-Ok.salvaged,
     copy_is g.N.Device (g.D.Device.holds c.args.from.now) c.args.len c.in-Ok.salvaged c.in-Ok.ensures.salvaged,
-    c.end_copy.ensures,
-    refl,
+    c.end_by.ensures,
   );
 }
 
@@ -37,3 +34,9 @@ returns-in-Err g c = record {
   };
   copies = (c.uncopied.result, refl, c.uncopied.ensures, refl);
 }
+
+pub end_by-requires-clause-usable : goal.end_by-requires-clause-usable
+end_by-requires-clause-usable g c = c.in-Ok.ensures.salvaged.keeper.usable
+
+pub end_by-requires-clause-fresh : goal.end_by-requires-clause-fresh
+end_by-requires-clause-fresh g c t = (c.in-Ok.ensures.salvaged.keeper.kept t).fresh
