@@ -633,7 +633,9 @@ def told_of_words(tbd, folder):
     case("a word that is no text", told == (2, b"", "tbd: Usage: a word is not UTF-8\n"), told)
     told = told_of(tbd, folder, ["check", "a\x1b[2J\n\x9bb"])
     case(
-        "a path with an escape code", told == (1, b"", "tbd: Device: cannot find a?[2J??b\n"), told
+        "a path with an escape code",
+        told == (1, b"", "tbd: Device: cannot find a?[2J??b; look at its name and at its folder\n"),
+        told,
     )
     told = told_of(tbd, folder, ["serve\x07"])
     case(
@@ -653,7 +655,12 @@ def told_of_words(tbd, folder):
         told = told_of(copy, folder, ["check", "words.tbk"], user=65534)
         case(
             "no permission",
-            told == (1, b"", "tbd: Device: no permission to open words.tbk\n"),
+            told
+            == (
+                1,
+                b"",
+                "tbd: Device: no permission to open words.tbk; change its mode, or run tbd as a user that may\n",
+            ),
             told,
         )
 
@@ -865,7 +872,12 @@ def read_only(tbd, folder):
         told = told_of(copy, place, ["run", "kept.tbk", "3"], **how)
         case(
             f"a file of mode {mode:o} is not served",
-            told == (1, b"", "tbd: Device: no permission to open kept.tbk\n"),
+            told
+            == (
+                1,
+                b"",
+                "tbd: Device: no permission to open kept.tbk; change its mode, or run tbd as a user that may\n",
+            ),
             told,
         )
     os.chmod(place, 0o755)
@@ -884,7 +896,12 @@ def names(tbd, folder):
         told = told_of(tbd, folder, form)
         case(
             f"a link to nothing: {form[0]}",
-            told == (1, b"", "tbd: Device: link.tbk is a link to nothing\n"),
+            told
+            == (
+                1,
+                b"",
+                "tbd: Device: link.tbk is a link to nothing; remove it, or make the file that it names\n",
+            ),
             told,
         )
     case(
@@ -896,14 +913,14 @@ def names(tbd, folder):
             told = told_of(tbd, folder, form)
             case(
                 f"no regular file: {' '.join(form)}",
-                told == (1, b"", f"tbd: Device: {name} is no regular file\n"),
+                told == (1, b"", f"tbd: Device: {name} is no regular file; give the name of one\n"),
                 told,
             )
     for word in ("run", "follow"):
         told = told_of(tbd, folder, [word, "folder.tbk", "3"])
         case(
             f"a folder is not served: {word}",
-            told == (1, b"", "tbd: Device: folder.tbk is no regular file\n"),
+            told == (1, b"", "tbd: Device: folder.tbk is no regular file; give the name of one\n"),
             told,
         )
     os.symlink(os.path.join(folder, "words.tbk"), os.path.join(folder, "good.tbk"))
@@ -1036,7 +1053,11 @@ def told_at_once(tbd, folder):
                 check=False,
             )
         said = ours.recv(4096)
-    case("a line goes out at once", said == b"tbd: Device: cannot find absent.tbk\n", said)
+    case(
+        "a line goes out at once",
+        said == b"tbd: Device: cannot find absent.tbk; look at its name and at its folder\n",
+        said,
+    )
 
 
 # Dumps behind a commit, and dumps that go on
@@ -1237,13 +1258,41 @@ def copies_of_no_ledger(tbd, folder):
     for form in ("salvage", "backup"):
         for words, status, line in (
             (["letter.txt", "new.tbk"], 5, "NotAJournal: letter.txt is a text"),
-            (["absent.tbk", "new.tbk"], 1, "Device: cannot find absent.tbk"),
-            (["folder.tbk", "new.tbk"], 1, "Device: folder.tbk is no regular file"),
-            (["words.tbk", "taken.tbk"], 2, "Usage: taken.tbk exists"),
-            (["words.tbk", "no_byte.tbk"], 2, "Usage: no_byte.tbk exists"),
-            (["words.tbk", "words.tbk"], 2, "Usage: words.tbk exists"),
-            (["words.tbk", "to_nothing.tbk"], 2, "Usage: to_nothing.tbk exists"),
-            (["words.tbk", "nowhere/new.tbk"], 1, "Device: cannot find nowhere/new.tbk"),
+            (
+                ["absent.tbk", "new.tbk"],
+                1,
+                "Device: cannot find absent.tbk; look at its name and at its folder",
+            ),
+            (
+                ["folder.tbk", "new.tbk"],
+                1,
+                "Device: folder.tbk is no regular file; give the name of one",
+            ),
+            (
+                ["words.tbk", "taken.tbk"],
+                2,
+                "Usage: taken.tbk exists; give the name of one that is not there",
+            ),
+            (
+                ["words.tbk", "no_byte.tbk"],
+                2,
+                "Usage: no_byte.tbk exists; give the name of one that is not there",
+            ),
+            (
+                ["words.tbk", "words.tbk"],
+                2,
+                "Usage: words.tbk exists; give the name of one that is not there",
+            ),
+            (
+                ["words.tbk", "to_nothing.tbk"],
+                2,
+                "Usage: to_nothing.tbk exists; give the name of one that is not there",
+            ),
+            (
+                ["words.tbk", "nowhere/new.tbk"],
+                1,
+                "Device: cannot find nowhere/new.tbk; look at its name and at its folder",
+            ),
             (
                 ["words.tbk", "64"],
                 2,

@@ -140,10 +140,10 @@ class Ending:
 def unopened(path, error):
     """The fault of a file that is not opened."""
     if isinstance(error, FileNotFoundError):
-        return Fault(f"Device: cannot find {path}", 1)
+        return Fault(f"Device: cannot find {path}; look at its name and at its folder", 1)
     if isinstance(error, PermissionError):
         return Fault(f"Device: no permission to open {path}", 1)
-    return Fault(f"Device: cannot open {path}", 1)
+    return Fault(f"Device: cannot open {path}; look at its disk and at its folder", 1)
 
 
 def locked(path):
@@ -325,7 +325,7 @@ def main(words):
     options = [it for it in words[3:] if it in ("--progress", "--existing")]
     words = words[: len(words) - len(options)]
     if "--existing" in options and not os.path.exists(words[1]):
-        raise Fault(f"Device: cannot find {words[1]}", 1)
+        raise Fault(f"Device: cannot find {words[1]}; look at its name and at its folder", 1)
     if len(words) > 1 and (words[1].isdigit() or words[1].startswith("-")):
         line = f"Usage: {words[0]} {words[1]}: FILE is a number or begins with -; write ./FILE"
         raise Fault(line, 2)

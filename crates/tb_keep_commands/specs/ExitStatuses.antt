@@ -50,6 +50,7 @@ use Rattle.tb_keep_commands.specs.declared.help.TheConstants.{USAGE}
 use Rattle.tb_keep_commands.specs.declared.openers.OpeningFault.{OpeningFault}
 use Rattle.tb_keep_commands.specs.declared.openers.OpeningFault.TheVariants as opening
 use Rattle.tb_keep_commands.specs.declared.reports.Reported.{Reported}
+use Rattle.tb_keep_commands.specs.declared.lines.WrongEntry.{WrongEntry}
 use Rattle.tb_keep_commands.specs.Forms.{Wrong, wrong}
 use Rattle.tb_keep_commands.specs.Printable.{printable}
 
@@ -208,9 +209,17 @@ harm_text (Record place fault) = numbered (codes "entry ") place ++ (codes " is 
 harm_text (Entry fault) = numbered (codes "entry ") fault.place ++ (codes " may not come next: " ++ unfit_name fault.cause)
 harm_text (Torn at bytes) = counted bytes (codes " bytes are behind byte ") ++ counted at (codes ", more than one batch can have")
 
-abbrev pub damaged_text : Damage → List ℕ → List ℕ
-damaged_text damage path =
-    named (codes "Damaged: ") path (codes ": ") ++ (harm_text damage ++ codes "; tbd salvage makes a new file of the entries before it")
+-- a text, what is damaged in the file of this path, and what is to be done
+abbrev pub damaged_text : List ℕ → Damage → List ℕ → List ℕ → List ℕ
+damaged_text first damage path next = named first path (codes ": ") ++ (harm_text damage ++ next)
+
+abbrev pub damage_line : Damage → List ℕ → List ℕ → List ℕ
+damage_line damage path next = line_of (damaged_text (codes "tbd: Damaged: ") damage path next)
+
+-- what is wrong with an entry in the file of this path, and what is to be done
+abbrev pub wrong_text : WrongEntry → List ℕ → List ℕ → List ℕ
+wrong_text wrong path next =
+    named (codes "tbd: Damaged: ") path wrong.before.now ++ (counted wrong.number wrong.after.now ++ (wrong.name.now ++ next))
 
 abbrev pub sync_text : List ℕ → List ℕ
 sync_text path = named (codes "SyncFailed: ") path (codes ": restart the machine or copy the file before the next start")
@@ -221,15 +230,15 @@ full_text path = named (codes "Full: ") path (codes ": the disk is full, or the 
 -- why a file was not opened; where the words may be wrong they are reported
 abbrev pub opening_text : OpeningFault → List ℕ → List ℕ
 opening_text opening.Locked path = named (codes "Locked: ") path (codes " is open in another program; end that one first")
-opening_text opening.Missing path = codes "Device: cannot find " ++ printable path
-opening_text opening.Forbidden path = codes "Device: no permission to open " ++ printable path
+opening_text opening.Missing path = named (codes "Device: cannot find ") path (codes "; look at its name and at its folder")
+opening_text opening.Forbidden path = named (codes "Device: no permission to open ") path (codes "; change its mode, or run tbd as a user that may")
 opening_text opening.NoMemory path = codes "NoMemory"
 opening_text opening.SyncFailed path = sync_text path
-opening_text opening.Exists path = codes "Usage: " ++ (printable path ++ codes " exists")
-opening_text opening.NotAFile path = codes "Device: " ++ (printable path ++ codes " is no regular file")
-opening_text opening.Dangling path = codes "Device: " ++ (printable path ++ codes " is a link to nothing")
-opening_text opening.Unopened path = codes "Device: cannot open " ++ printable path
-opening_text opening.Unread path = codes "Device: " ++ printable path
+opening_text opening.Exists path = named (codes "Usage: ") path (codes " exists; give the name of one that is not there")
+opening_text opening.NotAFile path = named (codes "Device: ") path (codes " is no regular file; give the name of one")
+opening_text opening.Dangling path = named (codes "Device: ") path (codes " is a link to nothing; remove it, or make the file that it names")
+opening_text opening.Unopened path = named (codes "Device: cannot open ") path (codes "; look at its disk and at its folder")
+opening_text opening.Unread path = named (codes "Device: ") path (codes ": a read or write failed; look at the disk, and start again")
 opening_text opening.Full path = full_text path
 opening_text opening.Empty path = codes "NotAJournal: " ++ (printable path ++ codes " is empty; tbd run without --existing makes a ledger in it")
 
@@ -271,7 +280,7 @@ fault_text NoMemory path = codes "NoMemory"
 fault_text (Request fault) path = run_fault_name fault
 fault_text (NotAJournal kind) path = kind_text kind path
 fault_text NoHead path = named (codes "NotAJournal: ") path (codes " has no ledger's head; tbd follow serves a log")
-fault_text (Damaged damage) path = damaged_text damage path
+fault_text (Damaged damage) path = damaged_text (codes "Damaged: ") damage path (codes "; tbd salvage makes a new file of the entries before it")
 fault_text (OtherRules numbers) path = mismatch_text numbers path
 fault_text Full path = full_text path
 fault_text SyncFailed path = sync_text path
@@ -398,11 +407,11 @@ pub line_of_a_block :
 unfolding digits printable chars lib.Utf8.encode
 line_of_a_block = refl
 
-pub line_of_a_name : fault_line (Opening opening.Missing) (codes "ledger") ≡ codes "tbd: Device: cannot find ledger\n"
+pub line_of_a_name : fault_line (Opening opening.Missing) (codes "ledger") ≡ codes "tbd: Device: cannot find ledger; look at its name and at its folder\n"
 unfolding printable chars lib.Utf8.encode
 line_of_a_name = refl
 
-pub line_of_a_new_name : fault_line (Making opening.Exists) (codes "new") ≡ codes "tbd: Usage: new exists\n"
+pub line_of_a_new_name : fault_line (Making opening.Exists) (codes "new") ≡ codes "tbd: Usage: new exists; give the name of one that is not there\n"
 unfolding printable chars lib.Utf8.encode
 line_of_a_new_name = refl
 

@@ -70,7 +70,8 @@ pub use host::{refuse, serve};
 pub use keeping::failed_pipe;
 pub use kinds::Kind;
 pub use lines::{
-    tell, tell_cut, tell_made, tell_named, tell_number, tell_place, tell_text, tell_usage,
+    WrongEntry, tell, tell_cut, tell_damage, tell_made, tell_named, tell_number, tell_place,
+    tell_text, tell_usage, tell_wrong,
 };
 pub use live::Live;
 pub use openers::{Opener, OpeningFault, opening_fault, unread_fault};

@@ -1,6 +1,6 @@
 //! The lines of standard error.
 ghost use Rattle.std.specs.Prelude.{◌≡◌, ◌++◌, Some, map, string_bytes};
-ghost use Rattle.tb_keep_commands.specs.ExitStatuses.{harm_text, damaged_text, opening_text, failed_text, kind_text, numbers_text, both_text, mismatch_text, fault_text, fault_line, reading_line, shown_words, said_text, wrong_line, usage_lines, counted, line_of, named, numbered, place_line, read_line, rules_text, said_with, Passes, Says, TellsMade, TellsCut, TellsReading, TellsReady, TellsFrames};
+ghost use Rattle.tb_keep_commands.specs.ExitStatuses.{damage_line, harm_text, damaged_text, opening_text, wrong_text, failed_text, kind_text, numbers_text, both_text, mismatch_text, fault_text, fault_line, reading_line, shown_words, said_text, wrong_line, usage_lines, counted, line_of, named, numbered, place_line, read_line, rules_text, said_with, Passes, Says, TellsMade, TellsCut, TellsReading, TellsReady, TellsFrames};
 ghost use Rattle.tb_keep_commands.specs.Forms.{wrong};
 ghost use Rattle.tb_keep_commands.specs.Printable.{printable};
 ghost use Rattle.tb_keep_commands.specs.private.Changes.{Puts};
@@ -154,6 +154,24 @@ const SYNC: &str = ": restart the machine or copy the file before the next start
 /// What is to be done where a read or a write failed.
 const DISK: &str = ": a read or write failed; look at the disk, and start again";
 
+/// What is to be done where a file is not found, behind its path.
+const MISSING: &str = "; look at its name and at its folder";
+
+/// The same where it may not be opened.
+const FORBIDDEN: &str = "; change its mode, or run tbd as a user that may";
+
+/// The same of a new file that is there.
+const EXISTS: &str = " exists; give the name of one that is not there";
+
+/// The same of a folder, a pipe or a device of the system.
+const NOT_A_FILE: &str = " is no regular file; give the name of one";
+
+/// The same of a symbolic link to nothing.
+const DANGLING: &str = " is a link to nothing; remove it, or make the file that it names";
+
+/// The same where the system does not open it.
+const UNOPENED: &str = "; look at its disk and at its folder";
+
 /// Writes why a file of this path was not opened.
 fn put_opening<E: Sink>(faults: &mut E, fault: OpeningFault, path: &str) -> Result<(), FrameFault>
     ensures { Puts E.Sink result (opening_text fault path.now) faults }
@@ -165,15 +183,17 @@ fn put_opening<E: Sink>(faults: &mut E, fault: OpeningFault, path: &str) -> Resu
             path,
             " is open in another program; end that one first",
         ),
-        OpeningFault::Missing => put_shown(faults, "Device: cannot find ", path),
-        OpeningFault::Forbidden => put_shown(faults, "Device: no permission to open ", path),
+        OpeningFault::Missing => put_named(faults, "Device: cannot find ", path, MISSING),
+        OpeningFault::Forbidden => {
+            put_named(faults, "Device: no permission to open ", path, FORBIDDEN)
+        }
         OpeningFault::NoMemory => put_all(faults, b"NoMemory"),
         OpeningFault::SyncFailed => put_named(faults, "SyncFailed: ", path, SYNC),
-        OpeningFault::Exists => put_named(faults, "Usage: ", path, " exists"),
-        OpeningFault::NotAFile => put_named(faults, "Device: ", path, " is no regular file"),
-        OpeningFault::Dangling => put_named(faults, "Device: ", path, " is a link to nothing"),
-        OpeningFault::Unopened => put_shown(faults, "Device: cannot open ", path),
-        OpeningFault::Unread => put_shown(faults, "Device: ", path),
+        OpeningFault::Exists => put_named(faults, "Usage: ", path, EXISTS),
+        OpeningFault::NotAFile => put_named(faults, "Device: ", path, NOT_A_FILE),
+        OpeningFault::Dangling => put_named(faults, "Device: ", path, DANGLING),
+        OpeningFault::Unopened => put_named(faults, "Device: cannot open ", path, UNOPENED),
+        OpeningFault::Unread => put_named(faults, "Device: ", path, DISK),
         OpeningFault::Full => put_named(faults, "Full: ", path, FULL),
         OpeningFault::Empty => put_named(
             faults,
@@ -197,12 +217,18 @@ fn put_harmed<E: Sink>(faults: &mut E, damage: Damage, last: &str) -> Result<(),
 /// What is to be done about damage.
 const SALVAGE: &str = "; tbd salvage makes a new file of the entries before it";
 
-/// Writes what is damaged in a file of this path, and what is to be done.
-fn put_damaged<E: Sink>(faults: &mut E, damage: Damage, path: &str) -> Result<(), FrameFault>
-    ensures { Puts E.Sink result (damaged_text damage path.now) faults }
+/// Writes a text, what is damaged in a file of this path, and what is to be done.
+fn put_damaged<E: Sink>(
+    faults: &mut E,
+    first: &str,
+    damage: Damage,
+    path: &str,
+    next: &str,
+) -> Result<(), FrameFault>
+    ensures { Puts E.Sink result (damaged_text first.now damage path.now next.now) faults }
 {
-    match put_named(faults, "Damaged: ", path, ": ") {
-        Ok(()) => put_harmed(faults, damage, SALVAGE),
+    match put_named(faults, first, path, ": ") {
+        Ok(()) => put_harmed(faults, damage, next),
         Err(fault) => Err(fault),
     }
 }
@@ -380,7 +406,9 @@ fn put_fault<E: Sink>(faults: &mut E, fault: KeepCommandFault, path: &str) -> Re
         KeepCommandFault::Request(fault) => put_all(faults, fault.name().as_bytes()),
         KeepCommandFault::NotAJournal(kind) => put_kind(faults, kind, path),
         KeepCommandFault::NoHead => put_named(faults, "NotAJournal: ", path, NO_HEAD),
-        KeepCommandFault::Damaged(damage) => put_damaged(faults, damage, path),
+        KeepCommandFault::Damaged(damage) => {
+            put_damaged(faults, "Damaged: ", damage, path, SALVAGE)
+        }
         KeepCommandFault::OtherRules(numbers) => put_mismatch(faults, numbers, path),
         KeepCommandFault::Full => put_named(faults, "Full: ", path, FULL),
         KeepCommandFault::SyncFailed => put_named(faults, "SyncFailed: ", path, SYNC),
@@ -478,6 +506,88 @@ fn put_fault_at<E: Sink>(
         Ok(()) => put_all(faults, b"\n"),
         Err(fault) => Err(fault),
     }
+}
+
+/// Writes what is damaged in a file of this path, what is to be done, and the end of the line.
+fn put_damage_line<E: Sink>(
+    faults: &mut E,
+    damage: Damage,
+    path: &str,
+    next: &str,
+) -> Result<(), FrameFault>
+    ensures { Puts E.Sink result (damage_line damage path.now next.now) faults }
+{
+    match put_damaged(faults, "tbd: Damaged: ", damage, path, next) {
+        Ok(()) => put_all(faults, b"\n"),
+        Err(fault) => Err(fault),
+    }
+}
+
+/// Prints what is damaged in the file of a path, and what is to be done, in one line.
+pub fn tell_damage<E: Sink>(damage: Damage, path: &str, next: &str, faults: &mut E)
+    ensures { Says E.Sink (damage_line damage path.now next.now) faults.old faults.new }
+{
+    pass(put_damage_line(faults, damage, path, next), faults);
+}
+
+/// What is wrong with an entry: a text, its number and another text, and a name behind them.
+#[derive(Clone, Copy)]
+pub struct WrongEntry<'a> {
+    pub before: &'a str,
+    pub number: u64,
+    pub after: &'a str,
+    pub name: &'a str,
+}
+
+/// Writes a number, a text and a name, and what is to be done.
+fn put_wrong_number<E: Sink>(
+    faults: &mut E,
+    wrong: &WrongEntry,
+    next: &str,
+) -> Result<(), FrameFault>
+    ensures { Puts E.Sink result (counted wrong.now.number wrong.now.after.now ++ (wrong.now.name.now ++ next.now)) faults }
+{
+    match put_counted(faults, wrong.number, wrong.after) {
+        Ok(()) => put_both(faults, wrong.name, next),
+        Err(fault) => Err(fault),
+    }
+}
+
+/// Writes what is wrong with an entry in a file of this path, and what is to be done.
+fn put_wrong_entry<E: Sink>(
+    faults: &mut E,
+    wrong: &WrongEntry,
+    path: &str,
+    next: &str,
+) -> Result<(), FrameFault>
+    ensures { Puts E.Sink result (wrong_text wrong.now path.now next.now) faults }
+{
+    match put_named(faults, "tbd: Damaged: ", path, wrong.before) {
+        Ok(()) => put_wrong_number(faults, wrong, next),
+        Err(fault) => Err(fault),
+    }
+}
+
+/// The same, and the end of the line.
+fn put_wrong_line<E: Sink>(
+    faults: &mut E,
+    wrong: &WrongEntry,
+    path: &str,
+    next: &str,
+) -> Result<(), FrameFault>
+    ensures { Puts E.Sink result (line_of (wrong_text wrong.now path.now next.now)) faults }
+{
+    match put_wrong_entry(faults, wrong, path, next) {
+        Ok(()) => put_all(faults, b"\n"),
+        Err(fault) => Err(fault),
+    }
+}
+
+/// Prints what is wrong with an entry in the file of a path, and what is to be done, in one line.
+pub fn tell_wrong<E: Sink>(wrong: &WrongEntry, path: &str, next: &str, faults: &mut E)
+    ensures { Says E.Sink (line_of (wrong_text wrong.now path.now next.now)) faults.old faults.new }
+{
+    pass(put_wrong_line(faults, wrong, path, next), faults);
 }
 
 /// Prints a path between two texts, in one line.

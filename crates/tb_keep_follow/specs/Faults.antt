@@ -1,6 +1,6 @@
 -- Why a form over a log ends, the exit status of each fault, and its line.
 -- Cited by public contracts of: faults.
-use Rattle.std.specs.Prelude.{ℕ, ◌≡◌, ◌++◌, List, [], codes, refl}
+use Rattle.std.specs.Prelude.{ℕ, ◌≡◌, ◌++◌, List, [], Option, Some, None, codes, refl}
 use Rattle.std.specs.Fmt.{decimal, digits}
 use Rattle.std.specs.Str.{chars}
 use Rattle.tb_records.specs.Faults as frames
@@ -17,13 +17,14 @@ use Rattle.tb_keep_log.specs.declared.faults.KeepLogFault.{KeepLogFault}
 use Rattle.tb_keep_log.specs.declared.faults.KeepLogFault.TheVariants as keep
 use Rattle.tb_keep_log.specs.declared.faults.LogStartFault.{LogStartFault}
 use Rattle.tb_keep_log.specs.declared.faults.LogStartFault.TheVariants as start
+use Rattle.tb_keep_commands.specs.declared.faults.Damage.{Damage}
 use Rattle.tb_keep_commands.specs.declared.faults.Damage.TheVariants.{Torn}
 use Rattle.tb_keep_commands.specs.declared.faults.Failed.{Failed}
 use Rattle.tb_keep_commands.specs.declared.faults.Failed.TheVariants.{Output}
 use Rattle.tb_keep_commands.specs.declared.faults.KeepCommandFault.{KeepCommandFault}
 use Rattle.tb_keep_commands.specs.declared.faults.KeepCommandFault.TheVariants.{Device, NoMemory, NotAJournal, Damaged, Full}
 use Rattle.tb_keep_commands.specs.declared.kinds.Kind.TheVariants as kind
-use Rattle.tb_keep_commands.specs.ExitStatuses.{disk_fault, opened_fault, fault_exit_status, fault_line}
+use Rattle.tb_keep_commands.specs.ExitStatuses.{counted, damage_line, disk_fault, opened_fault, fault_exit_status, fault_line, line_of, named}
 use Rattle.tb_keep_commands.specs.Printable.{printable}
 use Rattle.tb_keep_follow.specs.declared.faults.FollowFault.{FollowFault}
 use Rattle.tb_keep_follow.specs.declared.faults.FollowFault.TheVariants.{Kept, Plain, OtherRules, NoEntry, Entry, OtherHashes, Unwritten, Item}
@@ -102,14 +103,42 @@ item_line (log.TimeExhausted at) = number_line (codes "tbd: TimeExhausted at ") 
 item_line (log.BadEntry at fault) = place_line (codes "tbd: BadEntry at ") at (frames.fault_name fault)
 item_line fault = text_line (codes "tbd: ") (logs.fault_name fault)
 
+-- the lines of what is damaged in a file of this path
+abbrev pub again : List ℕ
+again = codes "; tbd follow makes a new file of the log"
+
+abbrev pub damage_in : KeepCommandFault → Option Damage
+damage_in (Damaged damage) = Some damage
+damage_in fault = None
+
+abbrev pub kept_by : Option Damage → KeepCommandFault → List ℕ → List ℕ
+kept_by None fault path = fault_line fault path
+kept_by (Some damage) fault path = damage_line damage path again
+
+abbrev pub kept_line : KeepCommandFault → List ℕ → List ℕ
+kept_line fault path = kept_by (damage_in fault) fault path
+
+abbrev pub damaged_entry_line : List ℕ → List ℕ → ℕ → List ℕ → List ℕ → List ℕ
+damaged_entry_line path before number after name =
+    line_of (named (codes "tbd: Damaged: ") path before ++ (counted number after ++ (name ++ again)))
+
+abbrev pub no_entry_line : ℕ → List ℕ → List ℕ
+no_entry_line last path = damaged_entry_line path (codes ": the record behind position ") last (codes " is that of no entry") []
+
+abbrev pub entry_line : LogFault → List ℕ → List ℕ
+entry_line fault path = damaged_entry_line path (codes ": entry ") (place_of fault) (codes " may not come next: ") (logs.fault_name fault)
+
+abbrev pub hashes_line : ℕ → List ℕ → List ℕ
+hashes_line position path = damaged_entry_line path (codes ": entry ") position (codes " has another position or other hashes than it leaves") []
+
 -- the line of a fault over a file of this path
 abbrev pub follow_line : FollowFault → List ℕ → List ℕ
-follow_line (Kept fault) path = fault_line fault path
+follow_line (Kept fault) path = kept_line fault path
 follow_line Plain path = path_line (codes "tbd: Plain: ") path (codes " is a ledger without positions; tbd run serves it")
 follow_line OtherRules path = path_line (codes "tbd: OtherRules: ") path (codes " was made with another profile or number of clients")
-follow_line (NoEntry last) path = number_line (codes "tbd: Damaged: NoEntry behind position ") last
-follow_line (Entry fault) path = place_line (codes "tbd: Damaged: entry ") (place_of fault) (logs.fault_name fault)
-follow_line (OtherHashes position) path = number_line (codes "tbd: Damaged: OtherHashes at position ") position
+follow_line (NoEntry last) path = no_entry_line last path
+follow_line (Entry fault) path = entry_line fault path
+follow_line (OtherHashes position) path = hashes_line position path
 follow_line (Unwritten fault) path = text_line (codes "tbd: Damaged: ") (dump_fault_name fault)
 follow_line (Item fault) path = item_line fault
 
@@ -122,6 +151,12 @@ wanted_line position = number_line (codes "tbd: has the log up to position ") po
 pub line_of_a_gap : follow_line (Item (log.Gap 2)) [] ≡ codes "tbd: Gap at 2\n"
 unfolding digits
 line_of_a_gap = refl
+
+pub line_of_no_entry :
+    follow_line (NoEntry 2) (codes "log")
+    ≡ codes "tbd: Damaged: log: the record behind position 2 is that of no entry; tbd follow makes a new file of the log\n"
+unfolding digits printable chars lib.Utf8.encode
+line_of_no_entry = refl
 
 pub line_of_a_plain_ledger : follow_line Plain (codes "ledger") ≡ codes "tbd: Plain: ledger is a ledger without positions; tbd run serves it\n"
 unfolding printable chars lib.Utf8.encode

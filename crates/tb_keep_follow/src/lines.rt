@@ -1,10 +1,13 @@
 //! The lines of standard error.
 ghost use Rattle.std.specs.Prelude.{◌≡◌};
 ghost use Rattle.tb_keep_commands.specs.ExitStatuses.{SaysLine};
-ghost use Rattle.tb_keep_follow.specs.Faults.{place_of, item_line, follow_line, wanted_line};
+ghost use Rattle.tb_keep_follow.specs.Faults.{damage_in, kept_line, entry_line, hashes_line, no_entry_line, place_of, item_line, follow_line, wanted_line};
 
 use crate::faults::FollowFault;
-use tb_keep_commands::{tell, tell_named, tell_number, tell_place, tell_text};
+use tb_keep_commands::{
+    Damage, KeepCommandFault, WrongEntry, tell, tell_damage, tell_named, tell_number, tell_place,
+    tell_text, tell_wrong,
+};
 use tb_log::LogFault;
 use tb_records::Sink;
 
@@ -50,26 +53,79 @@ const PLAIN: &str = " is a ledger without positions; tbd run serves it";
 /// What is reported of a file of other rules, behind its path.
 const OTHER: &str = " was made with another profile or number of clients";
 
+/// What is to be done about damage.
+const AGAIN: &str = "; tbd follow makes a new file of the log";
+
+/// What is damaged, if that is the fault.
+fn damage_in(fault: KeepCommandFault) -> Option<Damage>
+    ensures { result ≡ damage_in fault }
+{
+    match fault {
+        KeepCommandFault::Damaged(damage) => Some(damage),
+        _ => None,
+    }
+}
+
+/// Reports a fault that a ledger can have too, over a log of this path.
+fn tell_kept<E: Sink>(fault: KeepCommandFault, path: &str, faults: &mut E)
+    ensures { SaysLine (kept_line fault path.now) (E.output faults.old) (E.output faults.new) }
+{
+    match damage_in(fault) {
+        Some(damage) => tell_damage(damage, path, AGAIN, faults),
+        None => tell(fault, path, faults),
+    }
+}
+
+/// Reports that the record behind the entry of this position is that of no entry.
+fn tell_no_entry<E: Sink>(last: u64, path: &str, faults: &mut E)
+    ensures { SaysLine (no_entry_line last path.now) (E.output faults.old) (E.output faults.new) }
+{
+    let wrong = WrongEntry {
+        before: ": the record behind position ",
+        number: last,
+        after: " is that of no entry",
+        name: "",
+    };
+    tell_wrong(&wrong, path, AGAIN, faults);
+}
+
+/// Reports that the entry of a record may not come next, and why.
+fn tell_entry<E: Sink>(fault: LogFault, path: &str, faults: &mut E)
+    ensures { SaysLine (entry_line fault path.now) (E.output faults.old) (E.output faults.new) }
+{
+    let wrong = WrongEntry {
+        before: ": entry ",
+        number: place_of(fault),
+        after: " may not come next: ",
+        name: fault.name(),
+    };
+    tell_wrong(&wrong, path, AGAIN, faults);
+}
+
+/// Reports that the record of the entry at this position has another position or other hashes than the entry leaves.
+fn tell_hashes<E: Sink>(position: u64, path: &str, faults: &mut E)
+    ensures { SaysLine (hashes_line position path.now) (E.output faults.old) (E.output faults.new) }
+{
+    let wrong = WrongEntry {
+        before: ": entry ",
+        number: position,
+        after: " has another position or other hashes than it leaves",
+        name: "",
+    };
+    tell_wrong(&wrong, path, AGAIN, faults);
+}
+
 /// Reports a fault over a file of this path, in one line. A failure to write it changes no exit status.
 pub(crate) fn tell_fault<E: Sink>(fault: FollowFault, path: &str, faults: &mut E)
     ensures { SaysLine (follow_line fault path.now) (E.output faults.old) (E.output faults.new) }
 {
     match fault {
-        FollowFault::Kept(fault) => tell(fault, path, faults),
+        FollowFault::Kept(fault) => tell_kept(fault, path, faults),
         FollowFault::Plain => tell_named("tbd: Plain: ", path, PLAIN, faults),
         FollowFault::OtherRules => tell_named("tbd: OtherRules: ", path, OTHER, faults),
-        FollowFault::NoEntry(last) => {
-            tell_number("tbd: Damaged: NoEntry behind position ", last, faults)
-        }
-        FollowFault::Entry(fault) => tell_place(
-            "tbd: Damaged: entry ",
-            place_of(fault),
-            fault.name(),
-            faults,
-        ),
-        FollowFault::OtherHashes(position) => {
-            tell_number("tbd: Damaged: OtherHashes at position ", position, faults)
-        }
+        FollowFault::NoEntry(last) => tell_no_entry(last, path, faults),
+        FollowFault::Entry(fault) => tell_entry(fault, path, faults),
+        FollowFault::OtherHashes(position) => tell_hashes(position, path, faults),
         FollowFault::Unwritten(fault) => tell_text("tbd: Damaged: ", fault.name(), faults),
         FollowFault::Item(fault) => tell_item(fault, faults),
     }

@@ -107,7 +107,7 @@ const A_TEXT: Line =
 
 const NO_HEAD: Line = "tbd: NotAJournal: ledger has no ledger's head; tbd follow serves a log\n";
 
-const MISSING: Line = "tbd: Device: cannot find ledger\n";
+const MISSING: Line = "tbd: Device: cannot find ledger; look at its name and at its folder\n";
 
 const TOO_TORN: Line =
     "tbd: Damaged: ledger: 4194305 bytes are behind byte 191, more than one batch can have; tbd salvage makes a new file of the entries before it\n";
@@ -149,8 +149,8 @@ fn a_file_is_not_copied(rt: HostRuntime) {
 
 /// Why a new file is not made, and what is reported of it.
 const UNMADE: &[Row] = both!(unmade:
-    (OpeningFault::Exists, 2, "tbd: Usage: new exists\n"),
-    (OpeningFault::Missing, 1, "tbd: Device: cannot find new\n"),
+    (OpeningFault::Exists, 2, "tbd: Usage: new exists; give the name of one that is not there\n"),
+    (OpeningFault::Missing, 1, "tbd: Device: cannot find new; look at its name and at its folder\n"),
     (OpeningFault::Locked, 4, LOCKED),
 );
 

@@ -153,7 +153,7 @@ fn a_file_is_refused_for_what_stands_in_it(rt: HostRuntime) {
     run_all(&rt, rt.alloc(), REFUSED);
 }
 
-const MISSING: &str = "tbd: Device: cannot find ledger\n";
+const MISSING: &str = "tbd: Device: cannot find ledger; look at its name and at its folder\n";
 
 const OPENINGS: &[Row] = &[
     unopened!(RUN, OpeningFault::Missing, 1, MISSING),
@@ -163,21 +163,26 @@ const OPENINGS: &[Row] = &[
         RUN,
         OpeningFault::Forbidden,
         1,
-        "tbd: Device: no permission to open ledger\n",
+        "tbd: Device: no permission to open ledger; change its mode, or run tbd as a user that may\n",
     ),
     unopened!(
         CHECK,
         OpeningFault::Forbidden,
         1,
-        "tbd: Device: no permission to open ledger\n",
+        "tbd: Device: no permission to open ledger; change its mode, or run tbd as a user that may\n",
     ),
     unopened!(
         DUMP,
         OpeningFault::Unopened,
         1,
-        "tbd: Device: cannot open ledger\n",
+        "tbd: Device: cannot open ledger; look at its disk and at its folder\n",
     ),
-    unopened!(DUMP, OpeningFault::Unread, 1, "tbd: Device: ledger\n"),
+    unopened!(
+        DUMP,
+        OpeningFault::Unread,
+        1,
+        "tbd: Device: ledger: a read or write failed; look at the disk, and start again\n"
+    ),
     unopened!(DUMP, OpeningFault::NoMemory, 1, "tbd: NoMemory\n"),
     unopened!(
         RUN,
@@ -224,7 +229,7 @@ const OTHER_NAME: &[Row] = &[refused!(
     &["check", "check"],
     Has::Entries,
     1,
-    "tbd: Device: cannot find check\n",
+    "tbd: Device: cannot find check; look at its name and at its folder\n",
 )];
 
 /// The one that was named is opened.
@@ -295,7 +300,7 @@ const REPORTED: &[Row] = &[
 
 const EXISTING: &[&str] = &["run", "ledger", "2", "--existing"];
 
-const NOT_THERE: &str = "tbd: Device: cannot find ledger\n";
+const NOT_THERE: &str = "tbd: Device: cannot find ledger; look at its name and at its folder\n";
 
 const HAS_NONE: &str =
     "tbd: NotAJournal: ledger is empty; tbd run without --existing makes a ledger in it\n";

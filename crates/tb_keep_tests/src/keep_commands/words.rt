@@ -186,22 +186,37 @@ const NO_FILES: &[Row] = &[
 
 /// A word that may name a file is looked for.
 const FILES: &[Row] = &[
-    missing!(&["run", "./64", "1"], "tbd: Device: cannot find ./64\n"),
-    missing!(&["dump", "64."], "tbd: Device: cannot find 64.\n"),
-    missing!(&["check", "6-4"], "tbd: Device: cannot find 6-4\n"),
-    missing!(&["check", "0x40"], "tbd: Device: cannot find 0x40\n"),
-    missing!(&["check", ""], "tbd: Device: cannot find \n"),
+    missing!(
+        &["run", "./64", "1"],
+        "tbd: Device: cannot find ./64; look at its name and at its folder\n"
+    ),
+    missing!(
+        &["dump", "64."],
+        "tbd: Device: cannot find 64.; look at its name and at its folder\n"
+    ),
+    missing!(
+        &["check", "6-4"],
+        "tbd: Device: cannot find 6-4; look at its name and at its folder\n"
+    ),
+    missing!(
+        &["check", "0x40"],
+        "tbd: Device: cannot find 0x40; look at its name and at its folder\n"
+    ),
+    missing!(
+        &["check", ""],
+        "tbd: Device: cannot find ; look at its name and at its folder\n"
+    ),
 ];
 
 /// Of a path or a word each control character is shown as `?`: an escape code, a line end, a tab, U+007F, U+009B.
 const CONTROLS: &[Row] = &[
     missing!(
         &["check", "a\x1b[2J\nb"],
-        "tbd: Device: cannot find a?[2J?b\n",
+        "tbd: Device: cannot find a?[2J?b; look at its name and at its folder\n",
     ),
     missing!(
         &["dump", "\u{9b}\tä\x7f"],
-        "tbd: Device: cannot find ??ä?\n",
+        "tbd: Device: cannot find ??ä?; look at its name and at its folder\n",
     ),
     wrong!(
         &["run", "a\r\n", "\x1b]0;"],
@@ -211,8 +226,14 @@ const CONTROLS: &[Row] = &[
         &["\x07"],
         "tbd: Usage: ?: unknown; tbd --help shows the forms\n",
     ),
-    missing!(&["run", "a\nb", "2"], "tbd: Device: cannot find a?b\n"),
-    missing!(&["backup", "\0", "new"], "tbd: Device: cannot find ?\n"),
+    missing!(
+        &["run", "a\nb", "2"],
+        "tbd: Device: cannot find a?b; look at its name and at its folder\n"
+    ),
+    missing!(
+        &["backup", "\0", "new"],
+        "tbd: Device: cannot find ?; look at its name and at its folder\n"
+    ),
 ];
 
 #[test]

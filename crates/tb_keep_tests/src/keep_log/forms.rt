@@ -315,7 +315,7 @@ const TEXT: &str =
 const TEXTS: &[Refusal] = &[refusal!(FOLLOW, 5, NONE), refusal!(DUMP, 5, TEXT)];
 
 const ROT: &str =
-    "tbd: Damaged: ledger: the block at byte 740 is not what was written; tbd salvage makes a new file of the entries before it\n";
+    "tbd: Damaged: ledger: the block at byte 740 is not what was written; tbd follow makes a new file of the log\n";
 
 const ROTTEN: &[Refusal] = &[refusal!(FOLLOW, 6, ROT), refusal!(DUMP, 6, ROT)];
 
@@ -378,7 +378,7 @@ const LOST: &str =
 fn openings_and_outputs_that_fail(rt: HostRuntime) {
     let alloc = rt.alloc();
     let mut file = OneFile::new(&rt, alloc, None);
-    let missing = "tbd: Device: cannot find ledger\n";
+    let missing = "tbd: Device: cannot find ledger; look at its name and at its folder\n";
     drop(ran(&rt, &mut file, DUMP, &[], ROOM, (1, missing)));
     let log = log(&rt, alloc);
     let told = ran(&rt, &mut file, FOLLOW, part(&log, 0, 385), 10, (1, LOST));

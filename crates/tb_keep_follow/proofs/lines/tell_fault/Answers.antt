@@ -1,7 +1,7 @@
 use Rattle.tb_keep_follow.proofs.lines.tell_fault.Goals as goal
 
 pub returns-in-Kept : goal.returns-in-Kept
-returns-in-Kept g c = rw c.in-Kept.is c.tell.ensures
+returns-in-Kept g c = rw c.in-Kept.is c.tell_kept.ensures
 
 pub returns-in-Plain : goal.returns-in-Plain
 returns-in-Plain g c = rw c.in-Plain.is c.tell_named.ensures
@@ -10,16 +10,16 @@ pub returns-in-OtherRules : goal.returns-in-OtherRules
 returns-in-OtherRules g c = rw c.in-OtherRules.is c.tell_named-in-OtherRules.ensures
 
 pub returns-in-NoEntry : goal.returns-in-NoEntry
-returns-in-NoEntry g c = rw c.in-NoEntry.is c.tell_number.ensures
+returns-in-NoEntry g c = rw c.in-NoEntry.is c.tell_no_entry.ensures
 
 pub returns-in-Entry : goal.returns-in-Entry
-returns-in-Entry g c = rw c.in-Entry.is (rw (c.place_of.ensures, c.name.ensures) at c.tell_place.ensures)
+returns-in-Entry g c = rw c.in-Entry.is c.tell_entry.ensures
 
 pub returns-in-OtherHashes : goal.returns-in-OtherHashes
-returns-in-OtherHashes g c = rw c.in-OtherHashes.is c.tell_number-in-OtherHashes.ensures
+returns-in-OtherHashes g c = rw c.in-OtherHashes.is c.tell_hashes.ensures
 
 pub returns-in-Unwritten : goal.returns-in-Unwritten
-returns-in-Unwritten g c = rw c.in-Unwritten.is (rw c.name-in-Unwritten.ensures at c.tell_text.ensures)
+returns-in-Unwritten g c = rw c.in-Unwritten.is (rw c.name.ensures at c.tell_text.ensures)
 
 pub returns-in-Item : goal.returns-in-Item
 returns-in-Item g c = rw c.in-Item.is c.tell_item.ensures
