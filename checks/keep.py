@@ -54,6 +54,7 @@ STEP = tried.from_environment(
     "KEEP_STEP", "64", int
 )  # the megabytes of a file that are read between two reports
 EINTR, EIO, ENOSPC = 4, 5, 28
+COPIED = "47219394"  # the CRC-32C of the torn bytes of a case
 CLOSED = b"\x5a\xc3\x96\x69"  # the latch that ends the records
 FAILED = ": a read or write failed; look at the disk, and start again"
 
@@ -701,6 +702,7 @@ def told_of_ends(tbd, folder):
         == (
             0,
             b"",
+            f"tbd: copied 3 bytes, from byte {len(data)} on, to torn.tbk.cut-{len(data)}-{COPIED}\n"
             f"tbd: cut 3 bytes of a batch that was not committed, behind byte {len(data) - 4}\n",
         ),
         told,

@@ -51,7 +51,7 @@ def test_forms_of_tbd_are_those_of_its_usage() -> None:
     usage = (ROOT / "crates/tb_keep_commands/src/help.rt").read_text()
     shown = set(re.findall(r"^  ([a-z]+) FILE", usage, re.M))
     assert {it.name() for it in PROGRAMS["tbd"].forms} == shown
-    flags = set(re.findall(r"(?<![\w-])--[a-z]+", usage))
+    flags = set(re.findall(r"(?<![\w-])--[a-z]+(?:-[a-z]+)*", usage))
     assert set(completion.flags(completion.all_options(PROGRAMS["tbd"]))) == flags | {"-h"}
 
 

@@ -58,8 +58,8 @@ def is_gone(process):
     return True
 
 
-NEWS = "tb_listen: tbd: made ", "tb_listen: tbd: reading ", "tb_listen: tbd: cut "
-NEWS += ("tb_listen: has stopped: ",)
+NEWS = "tb_listen: tbd: made ", "tb_listen: tbd: reading ", "tb_listen: tbd: copied "
+NEWS += "tb_listen: tbd: cut ", "tb_listen: has stopped: "
 CLOSED = f"tb_listen: user {os.geteuid()}: a connection is closed: "
 
 

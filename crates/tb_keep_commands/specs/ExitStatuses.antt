@@ -38,7 +38,10 @@ use Rattle.tb_keep.specs.declared.recovering.Rules.{Rules}
 use Rattle.tb_keep_commands.specs.declared.faults.Damage.{Damage}
 use Rattle.tb_keep_commands.specs.declared.faults.Damage.TheVariants.{Block, Record, Entry, Torn}
 use Rattle.tb_keep_commands.specs.declared.faults.KeepCommandFault.{KeepCommandFault}
-use Rattle.tb_keep_commands.specs.declared.faults.KeepCommandFault.TheVariants.{Usage, Device, Opening, Making, NoMemory, Request, NotAJournal, NoHead, Damaged, OtherRules, Full, SyncFailed, Gone}
+use Rattle.tb_keep_commands.specs.Asides.{uncopied_text}
+use Rattle.tb_keep_commands.specs.declared.asides.Reason.{Reason}
+use Rattle.tb_keep_commands.specs.declared.asides.Reason.TheVariants as reasons
+use Rattle.tb_keep_commands.specs.declared.faults.KeepCommandFault.TheVariants.{Usage, Device, Opening, Making, NoMemory, Request, NotAJournal, NoHead, Damaged, OtherRules, Full, SyncFailed, Gone, NotCopied}
 use Rattle.tb_keep_commands.specs.declared.faults.Failed.{Failed}
 use Rattle.tb_keep_commands.specs.declared.faults.Failed.TheVariants.{Input, Output as OutputSide, File, New}
 use Rattle.tb_keep_commands.specs.declared.faults.Mismatch.{Mismatch}
@@ -126,6 +129,11 @@ new_fault Full = Making opening.Full
 new_fault SyncFailed = Making opening.SyncFailed
 new_fault fault = fault
 
+-- the fault of a call that failed for this reason
+abbrev pub reason_fault : Reason → KeepCommandFault
+reason_fault reasons.Gone = Gone
+reason_fault (reasons.NotCopied why) = NotCopied why
+
 -- the path that a fault is printed with
 abbrev pub fault_path : KeepCommandFault → List ℕ → List ℕ → List ℕ
 fault_path (Making fault) file new = new
@@ -175,6 +183,7 @@ fault_exit_status (OtherRules numbers) = 7
 fault_exit_status Full = 8
 fault_exit_status SyncFailed = 9
 fault_exit_status Gone = 10
+fault_exit_status (NotCopied why) = 11
 
 -- a number behind a text
 abbrev pub numbered : List ℕ → ℕ → List ℕ
@@ -285,6 +294,7 @@ fault_text (OtherRules numbers) path = mismatch_text numbers path
 fault_text Full path = full_text path
 fault_text SyncFailed path = sync_text path
 fault_text Gone path = codes "Gone: " ++ (printable path ++ codes " is not the file that was opened, or another program cut it; put that file back before the next start")
+fault_text (NotCopied why) path = named (codes "NotCopied: ") path (uncopied_text why)
 
 -- a line went out, and is not held back; or a prefix of it did, where the writer failed or took nothing
 abbrev pub SaysLine : List ℕ → Output → Output → Type 0

@@ -49,8 +49,8 @@ module _ {O D E : Type 0} (its : KnownFiles O D E) (ends : Terminals) (before : 
   -- the line of its outcome
   abbrev pub Performs : Form → Outcome → Input → Input → Output → Output → Output → Output → Type 0
   Performs (form.Run clients_max profile options) outcome first last start written quiet told =
-      RunsOver its.file (made_by its options.existing before name) (its.opener.gone left) left outcome (rules_of profile clients_max) name
-      (options.reports || ends.faults) ends.input
+      RunsOver its.file (made_by its options.existing before name) (its.opener.reasons left) left outcome (rules_of profile clients_max) name
+      (options.reports || ends.faults) options.existing ends.input
       first last start written quiet told
   Performs (form.Dump from follows) outcome first last start written quiet told =
       (last ≡ first) × (told ≡ quiet) × DumpsOver its name before left from follows outcome start written

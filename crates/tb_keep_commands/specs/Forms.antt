@@ -48,15 +48,24 @@ is_progress word = pointwise nat_eq word (codes "--progress")
 abbrev pub is_existing : List ℕ → Bool
 is_existing word = pointwise nat_eq word (codes "--existing")
 
+-- the word that has a start cut off what it does not copy
+abbrev pub is_drop_torn : List ℕ → Bool
+is_drop_torn word = pointwise nat_eq word (codes "--drop-torn")
+
 abbrev pub no_options : Options
-no_options = record { reports = false; existing = false }
+no_options = record { reports = false; existing = false; drops = false }
 
 -- one option more, which is not among them yet
 abbrev pub with_option : Options → List ℕ → Option Options
 with_option options word =
     if is_progress word && not options.reports then Some (record options { reports = true })
     else if is_existing word && not options.existing then Some (record options { existing = true })
+    else if is_drop_torn word && not options.drops then Some (record options { drops = true })
     else None
+
+-- one option of `follow`, which reports no start
+abbrev pub follow_option : List ℕ → Option Options
+follow_option word = if is_progress word then None else with_option no_options word
 
 abbrev pub with_another : Option Options → List ℕ → Option Options
 with_another None word = None
@@ -255,12 +264,16 @@ wrong (word ∷ rest) =
 pub profile_one_is_the_default : form_of (codes "run" ∷ codes "ledger" ∷ codes "2" ∷ []) ≡ Some (form.Run 2 One no_options)
 profile_one_is_the_default = refl
 
-pub a_start_is_reported : form_of (codes "run" ∷ codes "ledger" ∷ codes "2" ∷ codes "--progress" ∷ []) ≡ Some (form.Run 2 One (record { reports = true; existing = false }))
+pub a_start_is_reported : form_of (codes "run" ∷ codes "ledger" ∷ codes "2" ∷ codes "--progress" ∷ []) ≡ Some (form.Run 2 One (record { reports = true; existing = false; drops = false }))
 a_start_is_reported = refl
 
 pub no_file_is_made : form_of (codes "run" ∷ codes "ledger" ∷ codes "2" ∷ codes "1" ∷ codes "--progress" ∷ codes "--existing" ∷ [])
-    ≡ Some (form.Run 2 One (record { reports = true; existing = true }))
+    ≡ Some (form.Run 2 One (record { reports = true; existing = true; drops = false }))
 no_file_is_made = refl
+
+pub torn_bytes_are_dropped : form_of (codes "run" ∷ codes "ledger" ∷ codes "2" ∷ codes "--existing" ∷ codes "--drop-torn" ∷ [])
+    ≡ Some (form.Run 2 One (record { reports = false; existing = true; drops = true }))
+torn_bytes_are_dropped = refl
 
 pub an_option_comes_once : form_of (codes "run" ∷ codes "ledger" ∷ codes "2" ∷ codes "--existing" ∷ codes "--existing" ∷ []) ≡ None
 an_option_comes_once = refl

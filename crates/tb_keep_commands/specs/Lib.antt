@@ -1,3 +1,4 @@
+pub mod Asides
 pub mod Copies
 pub mod DumpLaws
 pub mod Ends

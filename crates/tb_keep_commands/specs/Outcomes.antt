@@ -1,6 +1,6 @@
 -- What each form does, and its outcome.
 -- Public contracts reach it through: Copies, Exits.
-use Rattle.std.specs.Prelude.{ℕ, Bool, true, false, Option, None, ◌≡◌, ◌-◌, List, length, Result, Ok, Err, IfOk, OnOk, MatchResult}
+use Rattle.std.specs.Prelude.{ℕ, Bool, true, false, Option, Some, None, ◌≡◌, ◌-◌, List, length, Result, Ok, Err, IfOk, OnOk, MatchResult}
 use Rattle.tb_records.specs.Transport.{Input, Output, Sent, CutOff}
 use Rattle.tb_journal.specs.declared.devices.Device as devices
 use Rattle.tb_journal.specs.declared.faults.JournalFault.{JournalFault}
@@ -11,18 +11,20 @@ use Rattle.tb_keep.specs.declared.faults.StartFault.{StartFault}
 use Rattle.tb_keep.specs.declared.recovering.Rules.{Rules}
 use Rattle.tb_keep.specs.declared.creating.NotKept.{NotKept}
 use Rattle.tb_keep.specs.Keeping.{Keeping}
-use Rattle.tb_keep.specs.Creating.{IsStarted, StartsFile, IsStartRefused, MayBeStarted, HasEitherCause, device_left, why_left}
+use Rattle.tb_keep.specs.Creating.{IsOpened, IsStarted, OpensFile, StartsFile, IsStartRefused, MayBeOpened, MayBeStarted, HasEitherCause, device_left, why_left}
+use Rattle.tb_keep.specs.Creating as kept
 use Rattle.tb_keep.specs.Reading.{Dumps, HasDumpCause}
-use Rattle.tb_keep.specs.Recovering.{HasStartCause}
+use Rattle.tb_keep.specs.Recovering.{AreAside, HasStartCause}
 use Rattle.tb_keep.specs.Rounds.{Served}
 use Rattle.tb_keep_commands.specs.declared.faults.KeepCommandFault.{KeepCommandFault}
-use Rattle.tb_keep_commands.specs.declared.faults.KeepCommandFault.TheVariants.{Device, NoMemory, Opening, Gone}
+use Rattle.tb_keep_commands.specs.declared.faults.KeepCommandFault.TheVariants.{Device, NoMemory, Opening}
 use Rattle.tb_keep_commands.specs.declared.faults.Failed.{Failed}
 use Rattle.tb_keep_commands.specs.declared.faults.Failed.TheVariants as failed
+use Rattle.tb_keep_commands.specs.declared.asides.Reason.{Reason}
 use Rattle.tb_keep_commands.specs.declared.openers.OpeningFault.{OpeningFault}
 use Rattle.tb_keep_commands.specs.declared.summaries.Found.{Found}
 use Rattle.tb_keep_commands.specs.Ends.{KnownFiles}
-use Rattle.tb_keep_commands.specs.ExitStatuses.{disk_fault, started_fault, kept_fault, failed_pipe, TellsMade, TellsCut, TellsReading, TellsReady, TellsFrames}
+use Rattle.tb_keep_commands.specs.ExitStatuses.{disk_fault, reason_fault, started_fault, kept_fault, failed_pipe, TellsMade, TellsCut, TellsReading, TellsReady, TellsFrames}
 use Rattle.tb_keep_commands.specs.Live.{IsWholeLength, MeasuresWhole}
 use Rattle.tb_keep_commands.specs.Following.{WritesPart, HasPartCause, dump_outcome}
 use Rattle.tb_keep_commands.specs.Naming.{Names, NamesAsked}
@@ -155,6 +157,26 @@ module _ {D : Type 0} (its : devices.Ghosts D) where
     -- a crash at any moment of it, where none has
     pub any_moment : (its.disk device).sound ≡ true → LeavesOnly (its.disk device) (its.disk (device_left result)) (MayBeStarted rules.profile rules.clients_max (its.disk device))
 
+  -- the same of one over a file in which a ledger is to be: none is created
+  pub record Takes (result : Result (Keeping D) (NotKept D)) (rules : Rules) (device : D) : Type 0 where
+    pub answers : MatchResult result (λ keeper. (its.disk device).sound ≡ true → IsOpened its.disk rules.profile rules.clients_max (its.disk device).seen keeper)
+        (λ failed. kept.IsRefused rules.profile rules.clients_max failed.fault (its.disk device) (its.disk failed.device))
+    pub cause : HasStartCause (why_left result) (its.disk device) (its.disk (device_left result))
+    pub any_moment : (its.disk device).sound ≡ true → LeavesOnly (its.disk device) (its.disk (device_left result)) (MayBeOpened rules.profile rules.clients_max (its.disk device))
+
+  abbrev pub StartsBy : Bool → Result (Keeping D) (NotKept D) → Rules → D → Type 0
+  StartsBy true result rules device = Takes result rules device
+  StartsBy false result rules device = Starts result rules device
+
+  -- by the file that the reads of a device are of
+  abbrev pub HandsBy : Bool → Result (Keeping D) (NotKept D) → Rules → D → Type 0
+  HandsBy true result rules device = OfFile device (OpensFile result rules.profile rules.clients_max)
+  HandsBy false result rules device = OfFile device (StartsFile result rules.profile rules.clients_max)
+
+  -- what a start cut off was set aside before
+  abbrev pub IsAside : Result (Keeping D) (NotKept D) → D → Type 0
+  IsAside result device = OfFile device (λ file. IfOk result (λ keeper. AreAside its.aside keeper.cut file))
+
   -- a start was refused, with what there is to say of the file; nothing was read, written or reported but why
   pub record IsUnstarted (failed : NotKept D) (rules : Rules) (outcome : Outcome) (first last : Input) (start written quiet told : Output) : Type 0 where
     pub named : KeepCommandFault
@@ -165,22 +187,24 @@ module _ {D : Type 0} (its : devices.Ghosts D) where
     pub unwritten : written ≡ start
     pub silent : told ≡ quiet
 
-  -- that the file is read was reported, where that is reported, and a ledger was started; it was kept, or is refused
-  pub record ServesLong (outcome : Outcome) (rules : Rules) (path : List ℕ) (reports : Bool) (len : ℕ) (device : D) (first last : Input) (start written quiet told : Output) : Type 0 where
+  -- that the file is read was reported, where that is reported, and a ledger was started, or opened, where one is to be there; it was kept,
+  -- or is refused
+  pub record ServesLong (outcome : Outcome) (rules : Rules) (path : List ℕ) (reports existing : Bool) (len : ℕ) (device : D) (first last : Input) (start written quiet told : Output) : Type 0 where
     pub noted : Output
     pub reading : TellsReading reports path len quiet noted
     pub started : Result (Keeping D) (NotKept D)
-    pub starts : its.tells → Starts started rules device
-    pub handed : OfFile device (StartsFile started rules.profile rules.clients_max)
+    pub starts : its.tells → StartsBy existing started rules device
+    pub handed : HandsBy existing started rules device
+    pub aside : IsAside started device
     pub serves : MatchResult started (λ keeper. ServesKept outcome keeper path reports len first last start written noted told)
         (λ failed. IsUnstarted failed rules outcome first last start written noted told)
 
   -- the length of the file of this path was asked for, and then a ledger of these rules was started over it, and kept
-  pub record ServesFile (outcome : Outcome) (rules : Rules) (path : List ℕ) (reports : Bool) (device : D) (first last : Input) (start written quiet told : Output) : Type 0 where
+  pub record ServesFile (outcome : Outcome) (rules : Rules) (path : List ℕ) (reports existing : Bool) (device : D) (first last : Input) (start written quiet told : Output) : Type 0 where
     pub len : Result ℕ JournalFault
     pub between : D
     pub asked : IsAsked len device between
-    pub serves : MatchResult len (λ n. ServesLong outcome rules path reports n between first last start written quiet told)
+    pub serves : MatchResult len (λ n. ServesLong outcome rules path reports existing n between first last start written quiet told)
         (λ fault. (outcome ≡ Err (disk_fault fault)) × (last ≡ first) × (written ≡ start) × (told ≡ quiet))
 
 -- an opening may answer so, and leave what opens like this: with a device that was done; at a fault, which has this name, nothing was
@@ -189,29 +213,29 @@ pub record Opens {D O : Type 0} (named : OpeningFault → KeepCommandFault) (may
   pub answered : may answer left
   pub done : MatchResult answer Does (λ fault. (outcome ≡ Err (named fault)) × Nothing)
 
--- the outcome of serving, unless the file is gone, by which a fault is named
-abbrev pub unless_gone : Bool → Outcome → Outcome
-unless_gone true (Err fault) = Err Gone
-unless_gone gone outcome = outcome
+-- the outcome of serving, of which a fault has the name of the reason, where one is known
+abbrev pub named_by : Option Reason → Outcome → Outcome
+named_by (Some reason) (Err fault) = Err (reason_fault reason)
+named_by reason outcome = outcome
 
 -- a ledger was served over what an opening answered
-abbrev pub ServesOpened : {D : Type 0} → devices.Ghosts D → {O : Type 0} → (Result D OpeningFault → O → Type 0) → O → Outcome → Rules → List ℕ → Bool
+abbrev pub ServesOpened : {D : Type 0} → devices.Ghosts D → {O : Type 0} → (Result D OpeningFault → O → Type 0) → O → Outcome → Rules → List ℕ → Bool → Bool
     → Input → Input → Output → Output → Output → Output → Type 0
-ServesOpened its may left outcome rules path reports first last start written quiet told =
+ServesOpened its may left outcome rules path reports existing first last start written quiet told =
     Opens Opening may left outcome ((last ≡ first) × (written ≡ start) × (told ≡ quiet))
-    (λ device. ServesFile its outcome rules path reports device first last start written quiet told)
+    (λ device. ServesFile its outcome rules path reports existing device first last start written quiet told)
 
-module _ {D : Type 0} (its : devices.Ghosts D) {O : Type 0} (may : Result D OpeningFault → O → Type 0) (may_be_gone : Bool → Type 0) (left : O) where
-  -- where requests would come from a terminal it is reported first where words are read; where a call on the file failed since it is gone,
-  -- that is the outcome
-  pub record RunsOver (outcome : Outcome) (rules : Rules) (path : List ℕ) (reports talks : Bool) (first last : Input) (start written quiet told : Output) : Type 0 where
+module _ {D : Type 0} (its : devices.Ghosts D) {O : Type 0} (may : Result D OpeningFault → O → Type 0) (may_be_for : Option Reason → Type 0) (left : O) where
+  -- where requests would come from a terminal it is reported first where words are read; where it is known why a call on the file
+  -- failed, the outcome is named by that
+  pub record RunsOver (outcome : Outcome) (rules : Rules) (path : List ℕ) (reports existing talks : Bool) (first last : Input) (start written quiet told : Output) : Type 0 where
     pub noted : Output
     pub frames : TellsFrames talks quiet noted
     pub served : Outcome
-    pub gone : Bool
-    pub asked : may_be_gone gone
-    pub outcome_is : outcome ≡ unless_gone gone served
-    pub runs : ServesOpened its may left served rules path reports first last start written noted told
+    pub reason : Option Reason
+    pub asked : may_be_for reason
+    pub outcome_is : outcome ≡ named_by reason served
+    pub runs : ServesOpened its may left served rules path reports existing first last start written noted told
 
 module _ {O D E : Type 0} (its : KnownFiles O D E) (name : List ℕ) (before left : O) where
   abbrev pub DumpsOver : Option ℕ → Bool → Outcome → Output → Output → Type 0

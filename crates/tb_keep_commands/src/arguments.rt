@@ -1,18 +1,20 @@
 //! What the words of the command line ask for, and what is wrong with words that ask for nothing.
 ghost use Rattle.std.specs.Prelude.{◌≡◌, map, take, string_bytes};
-ghost use Rattle.tb_keep_commands.specs.Forms.{form_alone, form_by, form_of, form_over, form_three, form_four, form_five, dump_from, dump_later, is_follow, is_existing, no_options, with_option, two_options, run_form, run_four, run_five, run_six, file_word, new_word, copy_form, is_copy, wrong_new, wrong_copy, is_number, is_no_file, is_progress, wrong_last, wrong_more, wrong_clients, wrong_run, wrong_follow, wrong_behind, wrong_count, wrong_over, wrong};
+ghost use Rattle.tb_keep_commands.specs.Forms.{form_alone, form_by, form_of, form_over, form_three, form_four, form_five, dump_from, dump_later, is_follow, is_drop_torn, is_existing, follow_option, no_options, with_option, two_options, run_form, run_four, run_five, run_six, file_word, new_word, copy_form, is_copy, wrong_new, wrong_copy, is_number, is_no_file, is_progress, wrong_last, wrong_more, wrong_clients, wrong_run, wrong_follow, wrong_behind, wrong_count, wrong_over, wrong};
 ghost use Rattle.tb_commands.specs.Forms.{clients_of};
 
 use tb_commands::{number, read_clients_max, read_profile, with_clients_range};
 use tb_records::{ClientsMax, Profile};
 
-/// What more `run` is asked.
+/// What more `run` or `follow` is asked.
 #[derive(Clone, Copy)]
 pub struct Options {
     /// Its start is reported.
     pub reports: bool,
     /// The file is one that is there: none is made.
     pub existing: bool,
+    /// What a start cuts off is not copied.
+    pub drops: bool,
 }
 
 /// What the program is asked to do.
@@ -65,19 +67,27 @@ fn is_progress(word: &str) -> bool
 }
 
 /// Says that a word has no file made.
-pub fn is_existing(word: &str) -> bool
+fn is_existing(word: &str) -> bool
     ensures { result ≡ is_existing word.now }
 {
     word == "--existing"
 }
 
+/// Says that a word has a start cut off what it does not copy.
+fn is_drop_torn(word: &str) -> bool
+    ensures { result ≡ is_drop_torn word.now }
+{
+    word == "--drop-torn"
+}
+
 /// No option.
-fn no_options() -> Options
+pub fn no_options() -> Options
     ensures { result ≡ no_options }
 {
     Options {
         reports: false,
         existing: false,
+        drops: false,
     }
 }
 
@@ -97,7 +107,23 @@ fn with_option(options: Options, word: &str) -> Option<Options>
             ..options
         });
     }
+    if is_drop_torn(word) && !options.drops {
+        return Some(Options {
+            drops: true,
+            ..options
+        });
+    }
     None
+}
+
+/// What one option more asks of `follow`, which reports no start.
+pub fn follow_option(word: &str) -> Option<Options>
+    ensures { result ≡ follow_option word.now }
+{
+    if is_progress(word) {
+        return None;
+    }
+    with_option(no_options(), word)
 }
 
 /// Two options.

@@ -3,12 +3,13 @@ ghost use Rattle.std.specs.Prelude.{◌≡◌, ◌||◌, true, None, IfOk, map, 
 ghost use Rattle.tb_keep_commands.specs.Forms.{form_of};
 ghost use Rattle.tb_keep_commands.specs.Exits.{Does, Finishes, TellsUsage, made_by};
 ghost use Rattle.tb_keep_commands.specs.private.Stages.{ChecksOn, DumpsAsked, DumpsOn, ExitsOn, PerformsOn, Runs, RunsOpened};
-ghost use Rattle.tb_keep_commands.specs.Outcomes.{Prints, unless_gone};
+ghost use Rattle.tb_keep_commands.specs.Outcomes.{Prints, named_by};
 
 use crate::arguments::{Form, file_word, new_word, read_form};
+use crate::asides::Reason;
 use crate::copying::copy_over;
 use crate::ends::{Ends, Files};
-use crate::faults::{Failed, KeepCommandFault};
+use crate::faults::{Failed, KeepCommandFault, reason_fault};
 use crate::files::{check, dump};
 use crate::following::{Part, follow};
 use crate::help::{USAGE, VERSION};
@@ -44,13 +45,16 @@ pub fn made_by<O: Opener>(
     opener.make(path)
 }
 
-/// The outcome of serving, unless a call on the file failed since it is gone.
-fn unless_gone(gone: bool, served: Result<(), KeepCommandFault>) -> Result<(), KeepCommandFault>
-    ensures { result ≡ unless_gone gone served }
+/// The outcome of serving, of which a fault has the name of the reason, where one is known.
+fn named_by(
+    reason: Option<Reason>,
+    served: Result<(), KeepCommandFault>,
+) -> Result<(), KeepCommandFault>
+    ensures { result ≡ named_by reason served }
 {
-    match served {
-        Err(_) if gone => Err(KeepCommandFault::Gone),
-        served => served,
+    match (reason, served) {
+        (Some(reason), Err(_)) => Err(reason_fault(reason)),
+        (_, served) => served,
     }
 }
 
@@ -60,14 +64,13 @@ fn run_opened<O: Opener, R: Source, W: Outlet, E: Sink>(
     opener: &mut O,
     rules: Rules,
     told: &Told,
-    existing: bool,
     reader: &mut R,
     writer: &mut W,
     faults: &mut E,
 ) -> Result<(), KeepCommandFault>
-    ensures { RunsOpened ⟦<O as Ends<R, W, E>>⟧.its rules told.now existing opener result reader writer faults }
+    ensures { RunsOpened ⟦<O as Ends<R, W, E>>⟧.its rules told.now opener result reader writer faults }
 {
-    match made_by(opener, told.path, existing) {
+    match made_by(opener, told.path, told.existing) {
         Ok(device) => run(alloc, device, rules, told, reader, writer, faults),
         Err(fault) => Err(KeepCommandFault::Opening(fault)),
     }
@@ -79,18 +82,17 @@ fn run_over<O: Opener, R: Source, W: Outlet, E: Sink>(
     opener: &mut O,
     rules: Rules,
     told: &Told,
-    existing: bool,
     talks: bool,
     reader: &mut R,
     writer: &mut W,
     faults: &mut E,
 ) -> Result<(), KeepCommandFault>
-    ensures { Runs ⟦<O as Ends<R, W, E>>⟧.its rules told.now existing talks opener result reader writer faults }
+    ensures { Runs ⟦<O as Ends<R, W, E>>⟧.its rules told.now talks opener result reader writer faults }
 {
     tell_frames(talks, faults);
-    let served = run_opened(alloc, opener, rules, told, existing, reader, writer, faults);
-    let gone = opener.is_gone();
-    unless_gone(gone, served)
+    let served = run_opened(alloc, opener, rules, told, reader, writer, faults);
+    let reason = opener.reason();
+    named_by(reason, served)
 }
 
 /// Writes a dump of a device, or the part of one that was asked for.
@@ -199,19 +201,10 @@ fn perform<O: Opener, R: Source, W: Outlet, E: Sink>(
             let told = Told {
                 path: name,
                 reports: is_reported(options.reports, asked.ends),
+                existing: options.existing,
             };
             let talks = asked.ends.input;
-            run_over(
-                alloc,
-                opener,
-                rules,
-                &told,
-                options.existing,
-                talks,
-                reader,
-                writer,
-                faults,
-            )
+            run_over(alloc, opener, rules, &told, talks, reader, writer, faults)
         }
         Form::Dump(after, follows) => {
             dump_over(alloc, opener, name, writer, Part { after, follows })

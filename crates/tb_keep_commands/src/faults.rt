@@ -1,7 +1,8 @@
 //! Why a command ends with an exit status other than 0.
 ghost use Rattle.std.specs.Prelude.{◌≡◌, ◌<◌};
-ghost use Rattle.tb_keep_commands.specs.ExitStatuses.{fault_path, fault_exit_status, opening_exit_status, new_fault, numbers_of, opened_fault, read_fault, refused_fault, disk_fault, dumped_fault, started_fault, kept_fault, words_fault};
+ghost use Rattle.tb_keep_commands.specs.ExitStatuses.{fault_path, fault_exit_status, opening_exit_status, new_fault, numbers_of, opened_fault, read_fault, reason_fault, refused_fault, disk_fault, dumped_fault, started_fault, kept_fault, words_fault};
 
+use crate::asides::{Reason, Uncopied};
 use crate::kinds::Kind;
 use crate::openers::OpeningFault;
 use crate::summaries::profile_number;
@@ -93,6 +94,18 @@ pub enum KeepCommandFault {
     SyncFailed,
     /// The name no longer leads to the file that was opened, or another program has cut or lengthened it.
     Gone,
+    /// What a start was to cut off was not copied. The file is as it was.
+    NotCopied(Uncopied),
+}
+
+/// The fault of a call that failed for this reason.
+pub fn reason_fault(reason: Reason) -> KeepCommandFault
+    ensures { result ≡ reason_fault reason }
+{
+    match reason {
+        Reason::Gone => KeepCommandFault::Gone,
+        Reason::NotCopied(why) => KeepCommandFault::NotCopied(why),
+    }
 }
 
 /// The fault of a call on a journal or its file.
@@ -249,6 +262,7 @@ impl KeepCommandFault {
             KeepCommandFault::OtherRules(_) => 7,
             KeepCommandFault::Full => 8,
             KeepCommandFault::Gone => 10,
+            KeepCommandFault::NotCopied(_) => 11,
         }
     }
 }

@@ -9,18 +9,21 @@ pub const USAGE: &str = tb_commands::with_clients_range!(
 
 Keeps a ledger in a file: what was answered is in the file, whenever the program or the machine ends.
 
-  run FILE CLIENTS_MAX [PROFILE] [--existing] [--progress]
+  run FILE CLIENTS_MAX [PROFILE] [--existing] [--progress] [--drop-torn]
                                   serves standard input to standard output as tbs run does; each
                                   reply goes out when its entry is on the disk. Makes FILE if it
                                   is not there, and says so; goes on with its history if it is.
                                   With --existing it makes none: a service starts again so.
+                                  What a crash left behind the entries is copied to
+                                  FILE.cut-OFFSET-CHECKSUM and cut off; with --drop-torn it is
+                                  not copied. Two options at most.
                                   With --progress, and on a terminal, its start is reported
   dump FILE [--after COMMIT] [--follow]
                                   writes the history of FILE, as tbs dump does. With --after only
                                   entries above that commit number, without a head. With --follow
                                   it waits for more, until a write fails or SIGTERM comes. Of a
                                   log FILE it writes the entries without positions
-  follow FILE CLIENTS_MAX [PROFILE] [--existing]
+  follow FILE CLIENTS_MAX [PROFILE] [--existing | --drop-torn]
                                   serves a log of entries with positions as tb_follow does; each
                                   reply goes out when its entry is on the disk. Its start says
                                   up to which position FILE has the log
@@ -35,6 +38,7 @@ CLIENTS_MAX is ",
 number and does not begin with -: the file 64 is ./64. So is NEW. One run or follow serves a file
 at a time; the other forms only read it, also while it is served. The exit status is 0 where all is
 done; else a line of standard error names the fault: 1 Device or NoMemory, 2 Usage or a request that
-is none, 4 Locked, 5 NotAJournal or Plain, 6 Damaged, 7 OtherRules, 8 Full, 9 SyncFailed, 10 Gone.
+is none, 4 Locked, 5 NotAJournal or Plain, 6 Damaged, 7 OtherRules, 8 Full, 9 SyncFailed, 10 Gone,
+11 NotCopied.
 "
 );

@@ -1,9 +1,9 @@
 //! The serving of a ledger over a device.
-ghost use Rattle.std.specs.Prelude.{◌≡◌, true};
+ghost use Rattle.std.specs.Prelude.{◌≡◌, true, IfOk};
 ghost use Rattle.tb_keep.specs.Keeping.{IsFresh, IsUsable};
 ghost use Rattle.tb_keep_commands.specs.Ends.{On};
 ghost use Rattle.tb_keep_commands.specs.Naming.{NamesAsked, Left};
-ghost use Rattle.tb_keep_commands.specs.Outcomes.{kept_outcome};
+ghost use Rattle.tb_keep_commands.specs.Outcomes.{kept_outcome, StartsBy, HandsBy, IsAside};
 ghost use Rattle.tb_keep_commands.specs.private.Stages.{KeepsTold, RunsTold, StartsTold};
 ghost use Rattle.tb_keep_commands.specs.ExitStatuses.{failed_pipe};
 
@@ -16,11 +16,12 @@ use tb_journal::Device;
 use tb_keep::{KeepFault, Keeper, NotKept, Rules, keep};
 use tb_records::{Sink, Source};
 
-/// How a start is reported: over a file of which path, and whether that it reads, and is done, is reported.
+/// A start: over a file of which path, whether that it reads, and is done, is reported, and whether a ledger is to be in the file.
 #[derive(Clone, Copy)]
 pub(crate) struct Told<'a> {
     pub path: &'a str,
     pub reports: bool,
+    pub existing: bool,
 }
 
 /// The fault of a ledger of these rules that was not opened, with what there is to say of its file.
@@ -84,6 +85,26 @@ fn serve<D: Device + Drop, A: Allocator + Clone, R: Source, W: Sink, E: Sink>(
     kept_outcome(kept, failed_pipe(failures, reader.failures()))
 }
 
+/// Opens a ledger over a device, and, unless one is to be there, creates one in a file that is blank.
+fn started<D: Device, A: Allocator + Copy>(
+    alloc: Global,
+    pool: A,
+    device: D,
+    rules: Rules,
+    existing: bool,
+) -> Result<Keeper<D, A>, NotKept<D>>
+    ensures starts { D.tells → StartsBy D.Device existing result rules device }
+    ensures handed { HandsBy D.Device existing result rules device }
+    ensures aside { IsAside D.Device result device }
+    ensures usable { IfOk result IsUsable }
+    ensures fresh { D.tells → (D.disk device).sound ≡ true → IfOk result (IsFresh D.disk) }
+{
+    if existing {
+        return Keeper::open(alloc, pool, device, rules);
+    }
+    Keeper::start(alloc, pool, device, rules)
+}
+
 /// Opens a ledger over a device, or creates one, and serves pairs until they end: each reply is sent when the entry that it
 /// rests on is in the file. The machine's records take their memory of the pool. So many bytes were in the file before.
 fn start<D: Device + Drop, A: Allocator + Copy, R: Source, W: Sink, E: Sink>(
@@ -103,7 +124,7 @@ fn start<D: Device + Drop, A: Allocator + Copy, R: Source, W: Sink, E: Sink>(
 {
     tell_reading(told.reports, told.path, len, faults);
     let asked = rules;
-    match Keeper::start(alloc, pool, device, rules) {
+    match started(alloc, pool, device, rules, told.existing) {
         Ok(keeper) => serve(alloc, keeper, told, len, reader, writer, faults),
         Err(failed) => Err(refused(alloc, failed, asked)),
     }

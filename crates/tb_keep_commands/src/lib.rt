@@ -9,7 +9,8 @@
 //! - `openers`: `Opener`, what opens the device of a name, and why it does not.
 //! - `outlets`: `Outlet`, a writer that says at its end whether all that was put went out.
 //! - `steady`: `Steady`, a writer whose calls are made again where a signal interrupts them.
-//! - `places`: `Named`, a file that is compared with what its name leads to.
+//! - `places`: `Named`, a file that is compared with what its name leads to, and of which nothing is cut off before it is set aside.
+//! - `asides`: why bytes that were to be cut off were not copied.
 //! - `ends`: `Files` and `Ends`, what contracts know of what a command works with.
 //! - `kinds`: what a file is that holds no ledger, by its first bytes.
 //! - `faults`: why a command ends with an exit status other than 0.
@@ -32,6 +33,7 @@
 #![tactic(auto)]
 
 mod arguments;
+mod asides;
 mod commands;
 mod copies;
 mod copying;
@@ -57,13 +59,15 @@ mod steady;
 mod summaries;
 
 pub use arguments::{
-    Form, Options, file_word, is_existing, is_no_file, new_word, read_form, wrong,
+    Form, Options, file_word, follow_option, is_no_file, new_word, no_options, read_form, wrong,
 };
+pub use asides::{COPIES_MAX, Reason, Uncopied};
 pub use commands::{Terminals, command, made_by};
 pub use copies::Copied;
 pub use ends::{Ends, Files};
 pub use faults::{
-    Damage, Failed, KeepCommandFault, Mismatch, Numbers, disk_fault, opened_fault, words_fault,
+    Damage, Failed, KeepCommandFault, Mismatch, Numbers, disk_fault, opened_fault, reason_fault,
+    words_fault,
 };
 pub use help::{USAGE, VERSION};
 pub use host::{refuse, serve};

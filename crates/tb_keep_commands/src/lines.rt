@@ -1,11 +1,13 @@
 //! The lines of standard error.
-ghost use Rattle.std.specs.Prelude.{◌≡◌, ◌++◌, Some, map, string_bytes};
+ghost use Rattle.std.specs.Prelude.{◌≡◌, ◌++◌, Some, codes, map, string_bytes};
 ghost use Rattle.tb_keep_commands.specs.ExitStatuses.{damage_line, harm_text, damaged_text, opening_text, wrong_text, failed_text, kind_text, numbers_text, both_text, mismatch_text, fault_text, fault_line, reading_line, shown_words, said_text, wrong_line, usage_lines, counted, line_of, named, numbered, place_line, read_line, rules_text, said_with, Passes, Says, TellsMade, TellsCut, TellsReading, TellsReady, TellsFrames};
+ghost use Rattle.tb_keep_commands.specs.Asides.{uncopied_text};
 ghost use Rattle.tb_keep_commands.specs.Forms.{wrong};
 ghost use Rattle.tb_keep_commands.specs.Printable.{printable};
 ghost use Rattle.tb_keep_commands.specs.private.Changes.{Puts};
 
 use crate::arguments::wrong;
+use crate::asides::{Uncopied, uncopied_text};
 use crate::faults::{Damage, Failed, KeepCommandFault, Mismatch, Numbers};
 use crate::help::USAGE;
 use crate::kinds::Kind;
@@ -392,6 +394,13 @@ const FULL: &str =
 const GONE: &str =
     " is not the file that was opened, or another program cut it; put that file back before the next start";
 
+/// Writes why the torn bytes of a file of this path were not copied.
+fn put_uncopied<E: Sink>(faults: &mut E, why: Uncopied, path: &str) -> Result<(), FrameFault>
+    ensures { Puts E.Sink result (named (codes "NotCopied: ") path.now (uncopied_text why)) faults }
+{
+    put_named(faults, "NotCopied: ", path, uncopied_text(why))
+}
+
 /// Writes a fault's name, and what there is to say of it, over a file of this path.
 fn put_fault<E: Sink>(faults: &mut E, fault: KeepCommandFault, path: &str) -> Result<(), FrameFault>
     ensures { Puts E.Sink result (fault_text fault path.now) faults }
@@ -413,6 +422,7 @@ fn put_fault<E: Sink>(faults: &mut E, fault: KeepCommandFault, path: &str) -> Re
         KeepCommandFault::Full => put_named(faults, "Full: ", path, FULL),
         KeepCommandFault::SyncFailed => put_named(faults, "SyncFailed: ", path, SYNC),
         KeepCommandFault::Gone => put_named(faults, "Gone: ", path, GONE),
+        KeepCommandFault::NotCopied(why) => put_uncopied(faults, why, path),
     }
 }
 

@@ -1,8 +1,10 @@
 //! What opens the device of a name.
-ghost use Rattle.std.specs.Prelude.{◌≡◌, Bool, false, true, ℕ, List, Result, IfOk};
+ghost use Rattle.std.specs.Prelude.{◌≡◌, Bool, false, true, ℕ, List, Option, Result, IfOk};
 ghost use Rattle.tb_keep_commands.specs.declared.openers.OpeningFault.{OpeningFault};
+ghost use Rattle.tb_keep_commands.specs.declared.asides.Reason.{Reason};
 ghost use Rattle.tb_keep_commands.specs.ExitStatuses.{opening_fault, unread_fault};
 
+use crate::asides::Reason;
 use crate::live::Live;
 use std::io::ErrorKind;
 use tb_journal::{Device, FileFault, JournalFault};
@@ -81,8 +83,8 @@ pub trait Opener {
     /// The same of one that is there, to be served.
     ghost takes: { Self → List ℕ → Result Self.File OpeningFault → Self → Type 0 } = { λ before name answer after. Unit {0} };
 
-    /// It may be answered this, where it is asked whether a file is gone.
-    ghost gone: { Self → Bool → Type 0 } = { λ opener answer. Unit {0} };
+    /// It may be answered this, where it is asked why a call failed.
+    ghost reasons: { Self → Option Reason → Type 0 } = { λ opener answer. Unit {0} };
 
     /// An opening may answer this, where nothing is made.
     ghost opens: { Self → List ℕ → Result Self.Reading OpeningFault → Self → Type 0 } = { λ before name answer after. Unit {0} };
@@ -103,9 +105,9 @@ pub trait Opener {
         ensures taken { takes self.old name.now result self.new }
         ensures sound { Self.File.tells → IfOk result (λ device. (Self.File.disk device).sound ≡ true) };
 
-    /// Says whether a call on a device that it made or took failed since the name no longer leads to what was opened.
-    fn is_gone(&self) -> bool
-        ensures { gone self.now result };
+    /// Why a call on a device that it made or took failed, where it knows more than the call's fault says.
+    fn reason(&self) -> Option<Reason>
+        ensures { reasons self.now result };
 
     /// Makes the device of this name, which is not there: where it is, the answer is Exists. No sync has failed on it.
     fn make_new(&mut self, name: &str) -> Result<Self::File, OpeningFault>

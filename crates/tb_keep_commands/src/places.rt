@@ -1,19 +1,29 @@
-//! A file that is compared with what its name leads to.
-ghost use Rattle.std.specs.Prelude.{◌≡◌, ◌+◌, ◌-◌, ◌≤◌, ◌^◌, Bool, true, false, ℕ, List, max, min, length, IfOk, IfErr, OnOk};
+//! A file that is compared with what its name leads to, and of which nothing is cut off before it is set aside.
+ghost use Rattle.std.specs.Prelude.{◌≡◌, ◌+◌, ◌-◌, ◌≤◌, ◌^◌, Bool, true, false, ℕ, List, max, min, drop, length, IfOk, IfErr, OnOk};
 ghost use Rattle.tb_journal.specs.Real.{untold};
-ghost use Rattle.tb_journal.specs.Device.{IsOfCall, IsOfSync};
+ghost use Rattle.tb_journal.specs.Device.{IsOfCall, IsOfSync, SetsAside};
 
+use std::alloc::Global;
 use tb_journal::{Device, JournalFault, Real};
 
-/// What a name leads to.
+/// What a name leads to, and where bytes of the file of that name are set aside.
 pub trait Place {
     /// It was asked meanwhile, and the name led to the file that was opened, which had so many bytes. Anything, where a place does not
     /// say it.
     ghost led: { Self → ℕ → Self → Type 0 } = { λ before len after. Unit {0} };
 
+    /// These bytes, which were in the file from this offset on, were set aside. Anything, where a place does not say it.
+    ghost aside: { ℕ → List ℕ → Type 0 } = { λ at bytes. Unit {0} };
+
     /// Says whether the name leads to the file that was opened, and that has so many bytes.
     fn leads(&mut self, len: usize) -> bool
         ensures { result ≡ true → led self.old len self.new };
+
+    /// Sets bytes of the file aside, which are there from this offset on and are to be cut off.
+    fn set_aside(&mut self, at: usize, bytes: &[u8]) -> Result<(), JournalFault>
+        ensures names { IfErr result IsOfCall }
+        ensures aside { OnOk result (aside at bytes.now) }
+        ensures led { (before : Self) (len : ℕ) → led before len self.old → led before len self.new };
 }
 
 /// A device that reports nothing of what its calls do: a file of the system, of which no proof knows anything.
@@ -25,10 +35,33 @@ impl Silent for Real {
     ghost silent = { λ told. told };
 }
 
+/// The bytes of a file from an offset on, of one that has no more than so many. Failed where it has more, and Memory where there
+/// is none for them.
+fn bytes_from<D: Device>(
+    alloc: Global,
+    device: &mut D,
+    at: usize,
+    len: usize,
+) -> Result<Vec<u8>, JournalFault>
+    ensures bytes { (file : List ℕ) → D.holds device.old file → IfOk result (λ bytes. bytes.items ≡ drop at file) }
+    ensures same { (file : List ℕ) → D.holds device.old file → D.holds device.new file }
+    ensures names { IfErr result IsOfCall }
+{
+    let mut bytes = vec![in alloc; 0_u8; len.saturating_sub(at).saturating_add(1)]?;
+    let count = device.read_at(at, &mut bytes)?;
+    if count == bytes.len() {
+        return Err(JournalFault::Failed);
+    }
+    bytes.truncate(count);
+    Ok(bytes)
+}
+
 /// A file that is compared with what its name leads to, before each write and each cut, and behind each sync. Where they differ the
-/// call fails, and so does each later one: so nothing rests on a write or a sync of a file that is gone.
+/// call fails, and so does each later one: so nothing rests on a write or a sync of a file that is gone. What a cut takes off is set
+/// aside before.
 #[derive(Drop)]
 pub struct Named<D, P> {
+    alloc: Global,
     device: D,
     place: P,
     // The bytes that the file had when it was opened, or that the calls since have left.
@@ -38,7 +71,7 @@ pub struct Named<D, P> {
 
 impl<D: Silent + Drop, P: Place + Drop> Named<D, P> {
     /// An open file, and what its name leads to. Failed, or Memory, where its length cannot be asked for.
-    pub fn new(device: D, place: P) -> Result<Named<D, P>, JournalFault>
+    pub fn new(alloc: Global, device: D, place: P) -> Result<Named<D, P>, JournalFault>
         ensures names { IfErr result IsOfCall }
         ensures place { IfOk result (λ named. named.place ≡ place) }
         ensures there { IfOk result (λ named. named.gone ≡ false) }
@@ -47,6 +80,7 @@ impl<D: Silent + Drop, P: Place + Drop> Named<D, P> {
         let mut device = device;
         let len = device.len()?;
         Ok(Named {
+            alloc,
             device,
             place,
             len,
@@ -68,6 +102,22 @@ impl<D: Silent + Drop, P: Place + Drop> Named<D, P> {
         }
         !self.gone
     }
+
+    /// Sets aside what is in the file from an offset on; false where nothing is.
+    fn set_aside(&mut self, at: usize) -> Result<bool, JournalFault>
+        ensures aside { (file : List ℕ) → D.holds self.old.device file → OnOk result (SetsAside P.aside at file) }
+        ensures names { IfErr result IsOfCall }
+        ensures led { (before : P) (len : ℕ) → P.led before len self.old.place → P.led before len self.new.place }
+        ensures len { self.new.len ≡ self.old.len }
+        ensures gone { self.new.gone ≡ self.old.gone }
+    {
+        let bytes = bytes_from(self.alloc, &mut self.device, at, self.len)?;
+        if bytes.is_empty() {
+            return Ok(false);
+        }
+        self.place.set_aside(at, &bytes)?;
+        Ok(true)
+    }
 }
 
 impl<D: Silent + Drop, P: Place + Drop> Device for Named<D, P> {
@@ -76,6 +126,8 @@ impl<D: Silent + Drop, P: Place + Drop> Device for Named<D, P> {
     ghost disk = { λ _. untold };
 
     ghost holds = { λ named. D.holds named.device };
+
+    ghost aside = { P.aside };
 
     ghost holds_seen = { λ _ told. absurd told };
 
@@ -110,6 +162,7 @@ impl<D: Silent + Drop, P: Place + Drop> Device for Named<D, P> {
 
     fn cut(&mut self, len: usize) -> Result<(), JournalFault>
         ensures names { IfErr result IsOfCall }
+        ensures aside { (file : List ℕ) → D.holds self.old.device file → OnOk result (SetsAside P.aside len file) }
         ensures led { OnOk result (P.led self.old.place self.old.len self.new.place) }
         ensures there { OnOk result (self.old.gone ≡ false) }
         ensures stays { self.old.gone ≡ true → self.new.gone ≡ true }
@@ -118,7 +171,9 @@ impl<D: Silent + Drop, P: Place + Drop> Device for Named<D, P> {
         if !self.look() {
             return Err(JournalFault::Failed);
         }
-        self.device.cut(len)?;
+        if self.set_aside(len)? {
+            self.device.cut(len)?;
+        }
         self.len = len;
         Ok(())
     }

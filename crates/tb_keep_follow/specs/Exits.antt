@@ -32,8 +32,8 @@ Tells (Err fault) path before after = SaysLine (follow_line fault path) before a
 module _ {O D E : Type 0} (its : KnownFiles O D E) (before : O) (name : List ℕ) (left : O) where
   -- what a form does over what opens devices: `follow` has the device of a name made where there is none, `dump` opens one that is there
   abbrev pub Performs : Form → Outcome → Input → Input → Output → Output → Output → Output → Type 0
-  Performs (form.Follow clients_max profile existing) outcome first last start written quiet told =
-      FollowsOver its.file (made_by its existing before name) (its.opener.gone left) left outcome (rules_of profile clients_max) name
+  Performs (form.Follow clients_max profile options) outcome first last start written quiet told =
+      FollowsOver its.file (made_by its options.existing before name) (its.opener.reasons left) left outcome (rules_of profile clients_max) name options.existing
       first last start written quiet told
   Performs (form.Dump from follows) outcome first last start written quiet told =
       (last ≡ first) × (told ≡ quiet)

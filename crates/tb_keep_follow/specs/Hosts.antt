@@ -23,12 +23,12 @@ use Rattle.tb_keep_follow.specs.Heads.{LooksLikeLog}
 
 -- the bytes of input that a form holds at a time; a dump reads none
 abbrev pub input_size : Form → ℕ
-input_size (form.Follow clients_max profile existing) = 2 ^ 20
+input_size (form.Follow clients_max profile options) = 2 ^ 20
 input_size (form.Dump from follows) = 0
 
 -- the bytes of output that a form holds at a time; of replies none, so that each goes out when it is written
 abbrev pub output_size : Form → ℕ
-output_size (form.Follow clients_max profile existing) = 0
+output_size (form.Follow clients_max profile options) = 0
 output_size (form.Dump from follows) = 2 ^ 16
 
 module _ {O D E : Type 0} (its : KnownFiles O D E) (before left : O) {R W : Type 0} (remaining : R → Option (List ℕ)) (contents : W → Option (List ℕ)) where

@@ -1,6 +1,6 @@
 -- What each form over a log does, and its outcome.
 -- Public contracts reach it through: Exits.
-use Rattle.std.specs.Prelude.{ℕ, Bool, true, false, ◌≡◌, ◌-◌, List, Option, Some, None, Result, Ok, Err, OnOk, MatchResult}
+use Rattle.std.specs.Prelude.{ℕ, Bool, true, false, ◌≡◌, ◌-◌, List, Option, Some, None, Result, Ok, Err, OnOk, IfOk, MatchResult}
 use Rattle.tb_records.specs.Transport.{Input, Output}
 use Rattle.tb_journal.specs.declared.devices.Device as devices
 use Rattle.tb_journal.specs.declared.faults.JournalFault.{JournalFault}
@@ -9,15 +9,17 @@ use Rattle.tb_journal.specs.Device.{LeavesOnly}
 use Rattle.tb_log.specs.Following.{Following}
 use Rattle.tb_keep.specs.declared.recovering.Rules.{Rules}
 use Rattle.tb_keep.specs.Creating.{IsUntouched}
+use Rattle.tb_keep.specs.Recovering.{AreAside}
 use Rattle.tb_keep_log.specs.declared.faults.DumpLogFault.{DumpLogFault}
 use Rattle.tb_keep_log.specs.declared.faults.KeepLogFault.{KeepLogFault}
 use Rattle.tb_keep_log.specs.declared.faults.LogStartFault.{LogStartFault}
 use Rattle.tb_keep_log.specs.declared.beginning.NotStarted.{NotStarted}
 use Rattle.tb_keep_log.specs.Dumping.{DumpsLog, HasDumpCause}
 use Rattle.tb_keep_log.specs.Keeping.{Keeping}
-use Rattle.tb_keep_log.specs.Beginning.{HasStartCause, IsStartRefused, IsStarted, MayBeStarted, StartsFile, device_left, why_left}
+use Rattle.tb_keep_log.specs.Beginning.{HasStartCause, IsOpened, IsRefused, IsStartRefused, IsStarted, MayBeOpened, MayBeStarted, OpensFile, StartsFile, device_left, why_left}
 use Rattle.tb_keep_log.specs.Rereading.{HasLogCause, IsRestored, StopsReading}
 use Rattle.tb_keep_log.specs.Items.{Served, point}
+use Rattle.tb_keep_commands.specs.declared.asides.Reason.{Reason}
 use Rattle.tb_keep_commands.specs.declared.faults.Failed.{Failed}
 use Rattle.tb_keep_commands.specs.declared.faults.KeepCommandFault.TheVariants.{Opening, Gone, NotAJournal}
 use Rattle.tb_keep_commands.specs.declared.kinds.Kind.TheVariants as kind
@@ -25,7 +27,7 @@ use Rattle.tb_keep_commands.specs.declared.openers.OpeningFault.{OpeningFault}
 use Rattle.tb_keep_commands.specs.Ends.{KnownEnds, On}
 use Rattle.tb_keep_commands.specs.Exits.{made_by}
 use Rattle.tb_keep_commands.specs.Outcomes.{IsAsked}
-use Rattle.tb_keep_commands.specs.ExitStatuses.{SaysLine, TellsCut, TellsMade, disk_fault, failed_pipe}
+use Rattle.tb_keep_commands.specs.ExitStatuses.{SaysLine, TellsCut, TellsMade, disk_fault, failed_pipe, reason_fault}
 use Rattle.tb_keep_follow.specs.declared.faults.FollowFault.{FollowFault}
 use Rattle.tb_keep_follow.specs.declared.faults.FollowFault.TheVariants.{Kept}
 use Rattle.tb_keep_follow.specs.declared.parts.Part.{Part}
@@ -138,6 +140,26 @@ module _ {D : Type 0} (its : devices.Ghosts D) where
     -- a crash at any moment of it, where none has
     pub any_moment : (its.disk device).sound ≡ true → LeavesOnly (its.disk device) (its.disk (device_left result)) (MayBeStarted (its.disk device))
 
+  -- the same of one over a file in which a log is to be: none is created
+  pub record Takes (result : Result (Keeping D) (NotStarted D)) (rules : Rules) (device : D) : Type 0 where
+    pub answers : MatchResult result (λ keeper. (its.disk device).sound ≡ true → IsOpened its.disk (its.disk device).seen keeper)
+        (λ failed. IsRefused failed.fault rules.profile rules.clients_max (its.disk device) (its.disk failed.device))
+    pub cause : HasLogCause (why_left result) (its.disk device) (its.disk (device_left result))
+    pub any_moment : (its.disk device).sound ≡ true → LeavesOnly (its.disk device) (its.disk (device_left result)) (MayBeOpened (its.disk device))
+
+  abbrev pub StartsBy : Bool → Result (Keeping D) (NotStarted D) → Rules → D → Type 0
+  StartsBy true result rules device = Takes result rules device
+  StartsBy false result rules device = Starts result rules device
+
+  -- by the file that the reads of a device are of
+  abbrev pub HandsBy : Bool → Result (Keeping D) (NotStarted D) → Rules → D → Type 0
+  HandsBy true result rules device = OfFile device (OpensFile result rules.profile rules.clients_max)
+  HandsBy false result rules device = OfFile device (StartsFile result rules.profile rules.clients_max)
+
+  -- what a start cut off was set aside before
+  abbrev pub IsAside : Result (Keeping D) (NotStarted D) → D → Type 0
+  IsAside result device = OfFile device (λ file. IfOk result (λ keeper. AreAside its.aside keeper.cut file))
+
   -- a start was refused; nothing was read, written or reported but why
   pub record IsUnstarted (fault : LogStartFault) (outcome : Outcome) (first last : Input) (start written quiet told : Output) : Type 0 where
     pub outcome_is : outcome ≡ Err (started_fault fault)
@@ -145,22 +167,23 @@ module _ {D : Type 0} (its : devices.Ghosts D) where
     pub unwritten : written ≡ start
     pub silent : told ≡ quiet
 
-  -- a log was started over a file of so many bytes; it was kept, or is refused
-  pub record FollowsLong (outcome : Outcome) (rules : Rules) (path : List ℕ) (len : ℕ) (device : D) (first last : Input)
+  -- a log was started over a file of so many bytes, or opened, where one is to be there; it was kept, or is refused
+  pub record FollowsLong (outcome : Outcome) (rules : Rules) (path : List ℕ) (existing : Bool) (len : ℕ) (device : D) (first last : Input)
       (start written quiet told : Output) : Type 0 where
     pub started : Result (Keeping D) (NotStarted D)
-    pub starts : its.tells → Starts started rules device
-    pub handed : OfFile device (StartsFile started rules.profile rules.clients_max)
+    pub starts : its.tells → StartsBy existing started rules device
+    pub handed : HandsBy existing started rules device
+    pub aside : IsAside started device
     pub follows : MatchResult started (λ keeper. FollowsKept outcome keeper path len first last start written quiet told)
         (λ failed. IsUnstarted failed.fault outcome first last start written quiet told)
 
   -- the length of the file of this path was asked for, and then a log of these rules was started over it, and kept
-  pub record FollowsFile (outcome : Outcome) (rules : Rules) (path : List ℕ) (device : D) (first last : Input)
+  pub record FollowsFile (outcome : Outcome) (rules : Rules) (path : List ℕ) (existing : Bool) (device : D) (first last : Input)
       (start written quiet told : Output) : Type 0 where
     pub len : Result ℕ JournalFault
     pub between : D
     pub asked : IsAsked its len device between
-    pub follows : MatchResult len (λ n. FollowsLong outcome rules path n between first last start written quiet told)
+    pub follows : MatchResult len (λ n. FollowsLong outcome rules path existing n between first last start written quiet told)
         (λ fault. (outcome ≡ Err (Kept (disk_fault fault))) × (last ≡ first) × (written ≡ start) × (told ≡ quiet))
 
 -- an opening may answer so, and leave what opens like this: with a device that was done; at a fault nothing was
@@ -170,25 +193,25 @@ pub record Opens {D O : Type 0} (may : Result D OpeningFault → O → Type 0) (
   pub answered : may answer left
   pub done : MatchResult answer Does (λ fault. (outcome ≡ Err (Kept (Opening fault))) × Nothing)
 
--- the outcome of following, unless the file is gone, by which a fault is named
-abbrev pub unless_gone : Bool → Outcome → Outcome
-unless_gone true (Err fault) = Err (Kept Gone)
-unless_gone gone outcome = outcome
+-- the outcome of following, of which a fault has the name of the reason, where one is known
+abbrev pub named_by : Option Reason → Outcome → Outcome
+named_by (Some reason) (Err fault) = Err (Kept (reason_fault reason))
+named_by reason outcome = outcome
 
 module _ {D : Type 0} (its : devices.Ghosts D) {O : Type 0} (may : Result D OpeningFault → O → Type 0) (left : O) where
-  abbrev pub FollowsOpened : Outcome → Rules → List ℕ → Input → Input → Output → Output → Output → Output → Type 0
-  FollowsOpened outcome rules path first last start written quiet told =
+  abbrev pub FollowsOpened : Outcome → Rules → List ℕ → Bool → Input → Input → Output → Output → Output → Output → Type 0
+  FollowsOpened outcome rules path existing first last start written quiet told =
       Opens may left outcome ((last ≡ first) × (written ≡ start) × (told ≡ quiet))
-      (λ device. FollowsFile its outcome rules path device first last start written quiet told)
+      (λ device. FollowsFile its outcome rules path existing device first last start written quiet told)
 
-module _ {D : Type 0} (its : devices.Ghosts D) {O : Type 0} (may : Result D OpeningFault → O → Type 0) (may_be_gone : Bool → Type 0) (left : O) where
-  -- a log was followed over what an opening answered; where a call on the file failed since it is gone, that is the outcome
-  pub record FollowsOver (outcome : Outcome) (rules : Rules) (path : List ℕ) (first last : Input) (start written quiet told : Output) : Type 0 where
+module _ {D : Type 0} (its : devices.Ghosts D) {O : Type 0} (may : Result D OpeningFault → O → Type 0) (may_be_for : Option Reason → Type 0) (left : O) where
+  -- a log was followed over what an opening answered; where it is known why a call on the file failed, the outcome is named by that
+  pub record FollowsOver (outcome : Outcome) (rules : Rules) (path : List ℕ) (existing : Bool) (first last : Input) (start written quiet told : Output) : Type 0 where
     pub followed : Outcome
-    pub gone : Bool
-    pub asked : may_be_gone gone
-    pub outcome_is : outcome ≡ unless_gone gone followed
-    pub follows : FollowsOpened its may left followed rules path first last start written quiet told
+    pub reason : Option Reason
+    pub asked : may_be_for reason
+    pub outcome_is : outcome ≡ named_by reason followed
+    pub follows : FollowsOpened its may left followed rules path existing first last start written quiet told
 
 module _ {D : Type 0} (its : devices.Ghosts D) {O : Type 0} (may : Result D OpeningFault → O → Type 0) (left : O) where
   abbrev pub DumpsOver : Type 0 → Option ℕ → Bool → Outcome → Output → Output → Type 0
@@ -219,10 +242,10 @@ module _ {D : Type 0} (its : devices.Ghosts D) {W : Type 0} (output : W → Outp
 abbrev pub FollowsOn : {O D E R W L : Type 0} → KnownEnds O D E R W L → Bool → Rules → List ℕ → O → O → Outcome → R → R → W → W → L → L → Type 0
 FollowsOn its existing rules name before left outcome first last start written quiet told =
     On its.source its.sink its.lines
-    (FollowsOver its.files.file (made_by its.files existing before name) (its.files.opener.gone left) left outcome rules name)
+    (FollowsOver its.files.file (made_by its.files existing before name) (its.files.opener.reasons left) left outcome rules name existing)
     first last start written quiet told
 
 abbrev pub FollowsOpenedOn : {O D E R W L : Type 0} → KnownEnds O D E R W L → Bool → Rules → List ℕ → O → O → Outcome → R → R → W → W → L → L → Type 0
 FollowsOpenedOn its existing rules name before left outcome first last start written quiet told =
-    On its.source its.sink its.lines (FollowsOpened its.files.file (made_by its.files existing before name) left outcome rules name)
+    On its.source its.sink its.lines (FollowsOpened its.files.file (made_by its.files existing before name) left outcome rules name existing)
     first last start written quiet told

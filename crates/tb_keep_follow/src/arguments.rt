@@ -1,17 +1,16 @@
 //! What the words of the command line ask for.
 ghost use Rattle.std.specs.Prelude.{◌≡◌, map, string_bytes};
-ghost use Rattle.tb_keep_follow.specs.Forms.{form_by, form_existing, form_four, form_of, form_with, log_form, log_form_of};
+ghost use Rattle.tb_keep_follow.specs.Forms.{form_by, form_four, form_of, form_option, form_with, log_form, log_form_of};
 
 use tb_commands::{read_clients_max, read_profile};
-use tb_keep_commands::{file_word, is_existing, is_no_file};
+use tb_keep_commands::{Options, file_word, follow_option, is_no_file, no_options};
 use tb_records::{ClientsMax, Profile};
 
 /// What the program is asked to do over a log, in the file that the second word names.
 #[derive(Clone, Copy)]
 pub enum Form {
-    /// Follow a log, for so many clients and by a profile. The file is made where there is none, unless the flag wants one that is
-    /// there.
-    Follow(ClientsMax, Profile, bool),
+    /// Follow a log, for so many clients and by a profile. The file is made where there is none, unless the options say otherwise.
+    Follow(ClientsMax, Profile, Options),
     /// Write the history of a log as a dump: all of it, or the entries above a commit number, without a head. The flag has more
     /// waited for.
     Dump(Option<u64>, bool),
@@ -23,37 +22,37 @@ fn form_with(word: &str, clients_max: &str, profile: Profile) -> Option<Form>
 {
     let clients_max = read_clients_max(clients_max.as_bytes())?;
     match word {
-        "follow" => Some(Form::Follow(clients_max, profile, false)),
+        "follow" => Some(Form::Follow(clients_max, profile, no_options())),
         _ => None,
     }
 }
 
-/// What `follow` with the number of clients, a profile and one more word asks for.
-fn form_existing(
+/// What `follow` with the number of clients, a profile and an option asks for.
+fn form_option(
     word: &str,
     clients_max: &str,
     profile_given: Option<Profile>,
     last: &str,
 ) -> Option<Form>
-    ensures { result ≡ form_existing word.now clients_max.now profile_given last.now }
+    ensures { result ≡ form_option word.now clients_max.now profile_given last.now }
 {
-    if word != "follow" || !is_existing(last) {
+    if word != "follow" {
         return None;
     }
     Some(Form::Follow(
         read_clients_max(clients_max.as_bytes())?,
         profile_given?,
-        true,
+        follow_option(last)?,
     ))
 }
 
-/// What a word with the number of clients and one more word asks for: a profile, or of `follow` that no file is made.
+/// What a word with the number of clients and one more word asks for: a profile, or an option of `follow`.
 fn form_four(word: &str, clients_max: &str, last: &str) -> Option<Form>
     ensures { result ≡ form_four word.now clients_max.now last.now }
 {
     match read_profile(last.as_bytes()) {
         Some(profile) => form_with(word, clients_max, profile),
-        None => form_existing(word, clients_max, Some(Profile::One), last),
+        None => form_option(word, clients_max, Some(Profile::One), last),
     }
 }
 
@@ -67,7 +66,7 @@ fn form_by(words: &[String]) -> Option<Form>
         [word, _, clients_max, last] => {
             form_four(word.as_str(), clients_max.as_str(), last.as_str())
         }
-        [word, _, clients_max, profile, last] => form_existing(
+        [word, _, clients_max, profile, last] => form_option(
             word.as_str(),
             clients_max.as_str(),
             read_profile(profile.as_bytes()),

@@ -1,7 +1,7 @@
 //! The forms over a log, over what opens devices, any reader and any writer, and the exit status of each outcome.
 ghost use Rattle.std.specs.Prelude.{◌≡◌};
 ghost use Rattle.tb_keep_follow.specs.Exits.{ExitsOn, Finishes, PerformsOn};
-ghost use Rattle.tb_keep_follow.specs.Outcomes.{DumpsOver, FollowsOn, FollowsOpenedOn, unless_gone};
+ghost use Rattle.tb_keep_follow.specs.Outcomes.{DumpsOver, FollowsOn, FollowsOpenedOn, named_by};
 
 use crate::arguments::Form;
 use crate::dumping::dump_found;
@@ -11,16 +11,18 @@ use crate::lines::tell_fault;
 use crate::parts::Part;
 use std::alloc::Global;
 use tb_keep::Rules;
-use tb_keep_commands::{Ends, Failed, KeepCommandFault, Opener, Outlet, made_by};
+use tb_keep_commands::{
+    Ends, Failed, KeepCommandFault, Opener, Outlet, Reason, made_by, reason_fault,
+};
 use tb_records::{Sink, Source};
 
-/// The outcome of following, unless a call on the file failed since it is gone.
-fn unless_gone(gone: bool, followed: Result<(), FollowFault>) -> Result<(), FollowFault>
-    ensures { result ≡ unless_gone gone followed }
+/// The outcome of following, of which a fault has the name of the reason, where one is known.
+fn named_by(reason: Option<Reason>, followed: Result<(), FollowFault>) -> Result<(), FollowFault>
+    ensures { result ≡ named_by reason followed }
 {
-    match followed {
-        Err(_) if gone => Err(FollowFault::Kept(KeepCommandFault::Gone)),
-        followed => followed,
+    match (reason, followed) {
+        (Some(reason), Err(_)) => Err(FollowFault::Kept(reason_fault(reason))),
+        (_, followed) => followed,
     }
 }
 
@@ -39,12 +41,12 @@ fn follow_opened<O: Opener, R: Source, W: Outlet, E: Sink>(
         reader.old reader.new writer.old writer.new faults.old faults.new }
 {
     match made_by(opener, path, existing) {
-        Ok(device) => follow(alloc, rules, device, path, reader, writer, faults),
+        Ok(device) => follow(alloc, rules, device, path, existing, reader, writer, faults),
         Err(fault) => Err(FollowFault::Kept(KeepCommandFault::Opening(fault))),
     }
 }
 
-/// Follows a log over the device of a path. Where a call on the file failed since it is gone, that is the outcome.
+/// Follows a log over the device of a path. Where it is known why a call on the file failed, the outcome is named by that.
 fn follow_over<O: Opener, R: Source, W: Outlet, E: Sink>(
     alloc: Global,
     opener: &mut O,
@@ -59,8 +61,8 @@ fn follow_over<O: Opener, R: Source, W: Outlet, E: Sink>(
         reader.old reader.new writer.old writer.new faults.old faults.new }
 {
     let followed = follow_opened(alloc, opener, rules, path, existing, reader, writer, faults);
-    let gone = opener.is_gone();
-    unless_gone(gone, followed)
+    let reason = opener.reason();
+    named_by(reason, followed)
 }
 
 /// Writes the dump of the device of a path, or the part of one that was asked for.
@@ -100,11 +102,12 @@ fn perform<O: Opener, R: Source, W: Outlet, E: Sink>(
         reader.old reader.new writer.old writer.new faults.old faults.new }
 {
     match form {
-        Form::Follow(clients_max, profile, existing) => {
+        Form::Follow(clients_max, profile, options) => {
             let rules = Rules {
                 profile,
                 clients_max,
             };
+            let existing = options.existing;
             follow_over(alloc, opener, rules, path, existing, reader, writer, faults)
         }
         Form::Dump(after, follows) => {

@@ -1,9 +1,9 @@
 //! A log followed over a device.
-ghost use Rattle.std.specs.Prelude.{◌≡◌, true};
+ghost use Rattle.std.specs.Prelude.{◌≡◌, true, IfOk};
 ghost use Rattle.tb_journal.specs.Ready.{IsReady};
 ghost use Rattle.tb_keep_log.specs.Keeping.{IsUsable};
 ghost use Rattle.tb_keep_commands.specs.Ends.{On};
-ghost use Rattle.tb_keep_follow.specs.Outcomes.{FollowsKept, FollowsLong, FollowsFile, kept_outcome};
+ghost use Rattle.tb_keep_follow.specs.Outcomes.{FollowsKept, FollowsLong, FollowsFile, StartsBy, HandsBy, IsAside, kept_outcome};
 
 use crate::faults::{FollowFault, kept_fault, started_fault};
 use crate::lines::tell_wanted;
@@ -12,7 +12,7 @@ use std::alloc::{Allocator, Global};
 use tb_journal::Device;
 use tb_keep::Rules;
 use tb_keep_commands::{Failed, disk_fault, failed_pipe, tell_cut, tell_made};
-use tb_keep_log::{KeepLogFault, LogKeeper, keep_log};
+use tb_keep_log::{KeepLogFault, LogKeeper, NotStarted, keep_log};
 use tb_records::{Sink, Source};
 
 /// What is reported of a log that ended so.
@@ -53,6 +53,26 @@ fn keep<D: Device + Drop, A: Allocator + Clone, R: Source, W: Sink, E: Sink>(
     kept_outcome(kept, failed_pipe(failures, reader.failures()))
 }
 
+/// Opens a log over a device, and, unless one is to be there, creates one in a file that is blank.
+fn started<D: Device, A: Allocator + Copy>(
+    alloc: Global,
+    pool: A,
+    device: D,
+    rules: Rules,
+    existing: bool,
+) -> Result<LogKeeper<D, A>, NotStarted<D>>
+    ensures starts { D.tells → StartsBy D.Device existing result rules device }
+    ensures handed { HandsBy D.Device existing result rules device }
+    ensures aside { IsAside D.Device result device }
+    ensures usable { IfOk result IsUsable }
+    ensures ready { D.tells → (D.disk device).sound ≡ true → IfOk result (λ keeper. IsReady D.disk keeper.journal) }
+{
+    if existing {
+        return LogKeeper::open(alloc, pool, device, rules);
+    }
+    LogKeeper::start(alloc, pool, device, rules)
+}
+
 /// Opens a log over a device, or creates one, and follows it until it ends. The machine's records take their memory of the pool. So many
 /// bytes were in the file before.
 fn start<D: Device + Drop, A: Allocator + Copy, R: Source, W: Sink, E: Sink>(
@@ -62,15 +82,16 @@ fn start<D: Device + Drop, A: Allocator + Copy, R: Source, W: Sink, E: Sink>(
     len: usize,
     device: D,
     rules: Rules,
+    existing: bool,
     reader: &mut R,
     writer: &mut W,
     faults: &mut E,
 ) -> Result<(), FollowFault>
     requires { D.tells → (D.disk device).sound ≡ true }
-    ensures { On R.Source W.Sink E.Sink (FollowsLong D.Device result rules path.now len device)
+    ensures { On R.Source W.Sink E.Sink (FollowsLong D.Device result rules path.now existing len device)
         reader.old reader.new writer.old writer.new faults.old faults.new }
 {
-    match LogKeeper::start(alloc, pool, device, rules) {
+    match started(alloc, pool, device, rules, existing) {
         Ok(keeper) => keep(alloc, keeper, path, len, reader, writer, faults),
         Err(failed) => {
             let fault = failed.fault;
@@ -86,12 +107,13 @@ pub(crate) fn follow<D: Device + Drop, R: Source, W: Sink, E: Sink>(
     rules: Rules,
     device: D,
     path: &str,
+    existing: bool,
     reader: &mut R,
     writer: &mut W,
     faults: &mut E,
 ) -> Result<(), FollowFault>
     requires { D.tells → (D.disk device).sound ≡ true }
-    ensures { On R.Source W.Sink E.Sink (FollowsFile D.Device result rules path.now device)
+    ensures { On R.Source W.Sink E.Sink (FollowsFile D.Device result rules path.now existing device)
         reader.old reader.new writer.old writer.new faults.old faults.new }
 {
     let mut device = device;
@@ -99,7 +121,7 @@ pub(crate) fn follow<D: Device + Drop, R: Source, W: Sink, E: Sink>(
         Ok(len) => {
             let pool = Bump::new(alloc);
             let followed = start(
-                alloc, &pool, path, len, device, rules, reader, writer, faults,
+                alloc, &pool, path, len, device, rules, existing, reader, writer, faults,
             );
             drop(pool);
             followed

@@ -7,7 +7,9 @@ use std::io::{BufWriter, Stderr};
 use std::thread;
 use std::time::Duration;
 use tb_journal::{Device, Real, Snapshot};
-use tb_keep_commands::{Named, Opener, OpeningFault, Reported, opening_fault, unread_fault};
+use tb_keep_commands::{
+    Named, Opener, OpeningFault, Reason, Reported, opening_fault, unread_fault,
+};
 use tb_keep_follow::Looker;
 use tb_records::Counting;
 
@@ -17,8 +19,10 @@ pub struct SystemFiles<'a> {
     pub rt: &'a HostRuntime,
     /// Whether it is reported how far a file was read that is served.
     pub reports: bool,
-    /// Whether a name was found to lead no more to the file that is served.
-    pub gone: &'a Cell<bool>,
+    /// Whether a start copies nothing of what it cuts off.
+    pub drops: bool,
+    /// Why a call on the file that is served failed, where that is known.
+    pub reason: &'a Cell<Option<Reason>>,
 }
 
 /// The bytes of standard error that are held, so that a line goes out at once.
@@ -55,9 +59,10 @@ impl<'a> SystemFiles<'a> {
             rt: self.rt,
             path,
             opened,
-            gone: self.gone,
+            drops: self.drops,
+            reason: self.reason,
         };
-        Named::new(reported, name).map_err(|fault| unread_fault(fault))
+        Named::new(alloc, reported, name).map_err(|fault| unread_fault(fault))
     }
 }
 
@@ -94,8 +99,8 @@ impl<'a> Opener for SystemFiles<'a> {
         }
     }
 
-    fn is_gone(&self) -> bool {
-        self.gone.get()
+    fn reason(&self) -> Option<Reason> {
+        self.reason.get()
     }
 
     fn make_new(&mut self, name: &str) -> Result<Self::File, OpeningFault> {

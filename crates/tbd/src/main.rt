@@ -5,10 +5,12 @@
 //! Modules:
 //!
 //! - `descriptors`: `HighFiles`, files that take none of the descriptors of the standard streams.
+//! - `copies`: copies of what a start cuts off.
 //! - `names`: `Name`, what the name of an open file leads to.
 //! - `files`: the files of the system, by their paths.
 #![tactic(auto)]
 
+mod copies;
 mod descriptors;
 mod files;
 mod names;
@@ -18,9 +20,20 @@ use std::cell::Cell;
 use std::io::{BufWriter, IsTerminal, Stderr};
 use std::process::ExitCode;
 use tb_commands::words;
-use tb_keep_commands::{Form, Steady, Terminals, read_form, refuse, words_fault};
-use tb_keep_follow::serve_words;
+use tb_keep_commands::{
+    Form, Options, Steady, Terminals, no_options, read_form, refuse, words_fault,
+};
+use tb_keep_follow::{Form as LogForm, read_form as read_log_form, serve_words};
 use tb_records::Counting;
+
+/// The options among the words.
+fn options(words: &[String]) -> Options {
+    match (read_form(words), read_log_form(words)) {
+        (Some(Form::Run(_, _, options)), _) => options,
+        (_, Some(LogForm::Follow(_, _, options))) => options,
+        _ => no_options(),
+    }
+}
 
 /// Does what the words ask for over the files of the system, and returns the exit status.
 fn run(
@@ -29,15 +42,13 @@ fn run(
     terminals: Terminals,
     faults: &mut Counting<BufWriter<Stderr>>,
 ) -> u8 {
-    let asked = match read_form(words) {
-        Some(Form::Run(_, _, options)) => options.reports,
-        _ => false,
-    };
-    let gone = Cell::new(false);
+    let asked = options(words);
+    let reason = Cell::new(None);
     let mut files = SystemFiles {
         rt,
-        reports: asked || terminals.faults,
-        gone: &gone,
+        reports: asked.reports || terminals.faults,
+        drops: asked.drops,
+        reason: &reason,
     };
     serve_words(
         rt.alloc(),

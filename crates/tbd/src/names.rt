@@ -1,10 +1,14 @@
-//! What the name of an open file leads to.
+//! What the name of an open file leads to, and the copies next to it.
 
+use crate::copies::copy;
+use crate::files::lines;
 use std::cell::Cell;
-use std::fs;
 use std::fs::{File, Metadata};
 use std::os::unix::fs::MetadataExt;
-use tb_keep_commands::Place;
+use std::{format, fs};
+use tb_journal::JournalFault;
+use tb_keep_commands::{Place, Reason, tell_named};
+use tb_records::Counting;
 
 /// Which file of the system a file is: its device and its inode, which stay as long as it is open.
 #[derive(Clone, Copy, PartialEq, Eq)]
@@ -30,13 +34,15 @@ impl Identity {
     }
 }
 
-/// A name, the file that it led to when it was opened, and where it is noted that it leads there no more.
+/// A name, the file that it led to when it was opened, and where it is noted why a call on that failed.
 #[derive(Drop)]
 pub struct Name<'a> {
     pub rt: &'a HostRuntime,
     pub path: String,
     pub opened: Option<Identity>,
-    pub gone: &'a Cell<bool>,
+    /// Whether what is cut off is not copied.
+    pub drops: bool,
+    pub reason: &'a Cell<Option<Reason>>,
 }
 
 impl<'a> Name<'a> {
@@ -44,6 +50,15 @@ impl<'a> Name<'a> {
     fn is_same(&self, found: &Metadata, len: usize) -> bool {
         let same = self.opened == Some(Identity::of(found));
         same && found.nlink() > 0 && found.len() == len as u64
+    }
+
+    /// Reports that so many bytes from an offset on have a copy of this name. Where there is no memory for that nothing is reported.
+    fn report(&self, at: usize, count: usize, name: &str) {
+        let alloc = self.rt.alloc();
+        if let Ok(first) = format!(in alloc; "tbd: copied {count} bytes, from byte {at} on, to ") {
+            let mut faults = Counting::new(lines(self.rt));
+            tell_named(first.as_str(), name, "", &mut faults);
+        }
     }
 }
 
@@ -54,8 +69,24 @@ impl<'a> Place for Name<'a> {
             Err(_) => false,
         };
         if !leads {
-            self.gone.set(true);
+            self.reason.set(Some(Reason::Gone));
         }
         leads
+    }
+
+    fn set_aside(&mut self, at: usize, bytes: &[u8]) -> Result<(), JournalFault> {
+        if self.drops {
+            return Ok(());
+        }
+        match copy(self.rt, self.path.as_str(), at, bytes) {
+            Ok(name) => {
+                self.report(at, bytes.len(), name.as_str());
+                Ok(())
+            }
+            Err(why) => {
+                self.reason.set(Some(Reason::NotCopied(why)));
+                Err(JournalFault::Failed)
+            }
+        }
     }
 }

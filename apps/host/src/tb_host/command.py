@@ -26,7 +26,8 @@ EMPTY = 13  # bytes below which a journal's file has no entry
 PROGRESS = "--progress"  # the word that has `tbd run` tell when it serves
 EXISTING = "--existing"  # the word that has it make no file
 # what it tells besides faults
-NEWS = re.compile(r"[\w./-]+: (?:made |reading |cut |(ready)(?:: commit [0-9]+, time [0-9]+)?$)")
+READY = r"(ready)(?:: commit [0-9]+, time [0-9]+)?$"
+NEWS = re.compile(rf"[\w./-]+: (?:made |reading |copied |cut |{READY})")
 PATIENCE = 1.0  # seconds for which a request waits for a server that is started again
 
 

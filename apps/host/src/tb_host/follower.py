@@ -29,7 +29,7 @@ HASHES = struct.Struct("<Q32s32s")
 SAID, LENGTH = struct.Struct("<Q5xBHIQI"), struct.Struct("<I")
 ASKER = 29  # bytes that a reply repeats of its request, but for a register's
 # what a server that keeps its ledger in a file tells at its start, besides faults
-STARTS = re.compile(r"[\w./-]+: (?:made |reading |cut |ready$|has the log up to position )")
+STARTS = re.compile(r"[\w./-]+: (?:made |reading |copied |cut |ready$|has the log up to position )")
 NAMED = {6: "Damaged", 7: "OtherRules"}  # its statuses that are faults of a replica too
 LOCKED = 4  # its status where another process has the file: that of a replica that was killed ends
 

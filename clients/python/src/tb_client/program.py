@@ -31,7 +31,8 @@ from .values import MOMENT_MAX, U64, path_of, seconds, truth, whole
 CHUNK = 1 << 20
 SCRIPT_MAX = 256 << 20
 # what `tbd run --progress` says besides faults, the last of it when it serves
-NEWS = re.compile(r"^tbd: (?:made |reading |cut |(ready)(?:: commit [0-9]+, time [0-9]+)?$)")
+READY = r"(ready)(?:: commit [0-9]+, time [0-9]+)?$"
+NEWS = re.compile(rf"^tbd: (?:made |reading |copied |cut |{READY})")
 log = logging.getLogger("tb_client")
 LONGEST = 3600.0  # seconds of one wait for the pipes: the system takes no number of them
 

@@ -25,10 +25,10 @@ module _ {D : Type 0} (its : devices.Ghosts D) (outcome : Outcome) where
   KeepsTold keeper told len = ServesKept its outcome keeper told.path.now told.reports len
 
   abbrev pub StartsTold : Rules → Told → ℕ → D → Input → Input → Output → Output → Output → Output → Type 0
-  StartsTold rules told len device = ServesLong its outcome rules told.path.now told.reports len device
+  StartsTold rules told len device = ServesLong its outcome rules told.path.now told.reports told.existing len device
 
   abbrev pub RunsTold : Rules → Told → D → Input → Input → Output → Output → Output → Output → Type 0
-  RunsTold rules told device = ServesFile its outcome rules told.path.now told.reports device
+  RunsTold rules told device = ServesFile its outcome rules told.path.now told.reports told.existing device
 
 -- what is written of a file of so many bytes that was copied, or why it is refused
 abbrev pub EndsSalvage : {N : Type 0} → ℕ → Bool → Salvaged N → Outcome → Output → Output → Type 0
@@ -76,15 +76,15 @@ module _ {O D E R W L : Type 0} (its : KnownEnds O D E R W L) where
   PerformsOn asked opener outcome reader writer lines =
       OnEnds (Performs its.files asked.ends (old opener) asked.file.now asked.new.now (new opener) asked.form outcome) reader writer lines
 
-  abbrev pub RunsOpened : Rules → Told → Bool → Change O → Outcome → Change R → Change W → Change L → Type 0
-  RunsOpened rules told existing opener outcome reader writer lines =
-      OnEnds (ServesOpened its.files.file (made_by its.files existing (old opener) told.path.now) (new opener) outcome rules told.path.now told.reports)
+  abbrev pub RunsOpened : Rules → Told → Change O → Outcome → Change R → Change W → Change L → Type 0
+  RunsOpened rules told opener outcome reader writer lines =
+      OnEnds (ServesOpened its.files.file (made_by its.files told.existing (old opener) told.path.now) (new opener) outcome rules told.path.now told.reports told.existing)
       reader writer lines
 
-  abbrev pub Runs : Rules → Told → Bool → Bool → Change O → Outcome → Change R → Change W → Change L → Type 0
-  Runs rules told existing talks opener outcome reader writer lines =
-      OnEnds (RunsOver its.files.file (made_by its.files existing (old opener) told.path.now) (its.files.opener.gone (new opener)) (new opener) outcome
-      rules told.path.now told.reports talks)
+  abbrev pub Runs : Rules → Told → Bool → Change O → Outcome → Change R → Change W → Change L → Type 0
+  Runs rules told talks opener outcome reader writer lines =
+      OnEnds (RunsOver its.files.file (made_by its.files told.existing (old opener) told.path.now) (its.files.opener.reasons (new opener)) (new opener) outcome
+      rules told.path.now told.reports told.existing talks)
       reader writer lines
 
 -- of the entries above a commit number, of whatever file a device holds

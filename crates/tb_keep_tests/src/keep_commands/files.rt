@@ -10,7 +10,7 @@ use std::alloc::Global;
 use std::cell::Cell;
 use std::process::Abort;
 use tb_journal::Memory;
-use tb_keep_commands::{Opener, OpeningFault};
+use tb_keep_commands::{Opener, OpeningFault, Reason};
 
 /// What a file has.
 #[derive(Clone, Copy, PartialEq, Eq)]
@@ -129,8 +129,8 @@ pub struct Folder {
     pauses: Cell<u32>,
     /// How often a file was made that was not there.
     pub made: u32,
-    /// Says whether the name no longer leads to the file that was opened.
-    pub gone: bool,
+    /// Why a call on the file failed, where that is known.
+    pub reason: Option<Reason>,
     /// The new file.
     pub new: NewFile,
 }
@@ -155,7 +155,7 @@ impl Folder {
             fails_at,
             pauses: Cell::new(2),
             made: 0,
-            gone: false,
+            reason: None,
             new: NewFile::new(rt, alloc, disk),
         }
     }
@@ -182,7 +182,7 @@ impl Opener for Folder {
 
     type Reading = Memory;
 
-    ghost gone = { λ folder answer. answer ≡ folder.gone };
+    ghost reasons = { λ folder answer. answer ≡ folder.reason };
 
     fn make(&mut self, name: &str) -> Result<Noted, OpeningFault> {
         if self.file.is_none() {
@@ -205,8 +205,8 @@ impl Opener for Folder {
         self.new.noted(self.alloc, memory)
     }
 
-    fn is_gone(&self) -> bool {
-        self.gone
+    fn reason(&self) -> Option<Reason> {
+        self.reason
     }
 
     fn make_new(&mut self, name: &str) -> Result<Noted, OpeningFault> {

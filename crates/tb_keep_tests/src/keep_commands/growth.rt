@@ -8,7 +8,7 @@ use std::alloc::Global;
 use std::cell::Cell;
 use std::process::Abort;
 use tb_journal::{Growing, JournalFault, Memory, Snapshot};
-use tb_keep_commands::{Opener, OpeningFault, serve};
+use tb_keep_commands::{Opener, OpeningFault, Reason, serve};
 use tb_records::Counting;
 
 /// A file that has one commit more at each fifth time that its length is asked for: an opening asks four times, for the block of the
@@ -81,8 +81,8 @@ impl Opener for Growths {
         Err(OpeningFault::Forbidden)
     }
 
-    fn is_gone(&self) -> bool {
-        false
+    fn reason(&self) -> Option<Reason> {
+        None
     }
 
     fn make_new(&mut self, _name: &str) -> Result<Memory, OpeningFault> {

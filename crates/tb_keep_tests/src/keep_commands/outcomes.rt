@@ -296,6 +296,12 @@ const REPORTED: &[Row] = &[
         Has::Entries,
         READY,
     ),
+    reported!(
+        &["run", "ledger", "2", "--drop-torn", "--progress"],
+        false,
+        Has::Torn,
+        CUT_AND_READY,
+    ),
 ];
 
 const EXISTING: &[&str] = &["run", "ledger", "2", "--existing"];

@@ -12,7 +12,7 @@ use crate::steps::{copy_of, expect, expect_equal, expect_given, rot, same, sure}
 use std::alloc::Global;
 use std::process::Abort;
 use tb_journal::{Device, Memory};
-use tb_keep_commands::{Opener, OpeningFault};
+use tb_keep_commands::{Opener, OpeningFault, Reason};
 use tb_keep_follow::{Looker, serve_words};
 use tb_records::Counting;
 
@@ -91,8 +91,8 @@ impl Opener for OneFile {
         self.seen.noted(self.alloc, memory)
     }
 
-    fn is_gone(&self) -> bool {
-        false
+    fn reason(&self) -> Option<Reason> {
+        None
     }
 
     fn make_new(&mut self, _name: &str) -> Result<Noted, OpeningFault> {

@@ -5,8 +5,8 @@ returns g c = record {
   noted = _;
   frames = c.tell_frames.ensures;
   served = c.run_opened-served.result;
-  gone = c.is_gone-gone.result;
-  asked = c.is_gone-gone.ensures;
-  outcome_is = c.unless_gone.ensures;
+  reason = c.reason-reason.result;
+  asked = c.reason-reason.ensures;
+  outcome_is = c.named_by.ensures;
   runs = c.run_opened-served.ensures;
 }

@@ -6,8 +6,9 @@ returns-in-Ok g c = record {
   noted = _;
   reading = c.tell_reading.ensures;
   started = Ok c.in-Ok.keeper;
-  starts = λ t. record { answers = c.in-Ok.ensures.started t; cause = c.in-Ok.ensures.cause t; any_moment = c.in-Ok.ensures.any_moment t };
+  starts = c.in-Ok.ensures.starts;
   handed = c.in-Ok.ensures.handed;
+  aside = c.in-Ok.ensures.aside;
   serves = c.serve.ensures;
 }
 
@@ -16,8 +17,9 @@ returns-in-Err g c = record {
   noted = _;
   reading = c.tell_reading.ensures;
   started = Err c.in-Err.failed;
-  starts = λ t. record { answers = c.in-Err.ensures.refused t; cause = c.in-Err.ensures.cause t; any_moment = c.in-Err.ensures.any_moment t };
+  starts = c.in-Err.ensures.starts;
   handed = c.in-Err.ensures.handed;
+  aside = c.in-Err.ensures.aside;
   serves = record {
     named = c.refused.result;
     outcome_is = refl;

@@ -4,16 +4,18 @@ use Rattle.tb_keep_follow.proofs.following.start.Goals as goal
 pub returns-in-Ok : goal.returns-in-Ok
 returns-in-Ok g c = record {
   started = Ok c.in-Ok.keeper;
-  starts = λ t. record { answers = c.in-Ok.ensures.started t; cause = c.in-Ok.ensures.cause t; any_moment = c.in-Ok.ensures.any_moment t };
+  starts = c.in-Ok.ensures.starts;
   handed = c.in-Ok.ensures.handed;
+  aside = c.in-Ok.ensures.aside;
   follows = c.keep.ensures;
 }
 
 pub returns-in-Err : goal.returns-in-Err
 returns-in-Err g c = record {
   started = Err c.in-Err.failed;
-  starts = λ t. record { answers = c.in-Err.ensures.refused t; cause = c.in-Err.ensures.cause t; any_moment = c.in-Err.ensures.any_moment t };
+  starts = c.in-Err.ensures.starts;
   handed = c.in-Err.ensures.handed;
+  aside = c.in-Err.ensures.aside;
   follows = record {
     outcome_is = rw c.started_fault.ensures refl;
     unread = refl;

@@ -1,0 +1,177 @@
+"""A start over torn bytes copies them to a file of their own before it cuts them off.
+
+    python3 -m pytest tests/files/test_asides.py
+
+The same bytes have one copy, a torn copy is made again, and at most 16 are made. Where none can be
+made the start ends as NotCopied, and the file is as it was; --drop-torn goes on without one.
+"""
+
+import os
+import resource
+import signal
+import struct
+import subprocess
+
+import pytest
+from tb_client import Operation, request_frame
+from tb_host.checksums import crc32c
+
+NOT_COPIED, COPIES = 11, 16
+TORN = b"\0\0\0\0 a torn batch"
+pytestmark = pytest.mark.quick
+
+
+class Kept:
+    """A file with an entry, and a program that starts over it."""
+
+    def __init__(self, tbd, path):
+        self.tbd, self.path = tbd, path
+        self.words = [tbd, "run", path.name, "8"]
+        frame = struct.pack("<Q", 10) + request_frame(7, 0, 0, Operation.register, b"")
+        assert self.starts(input=frame)[0] == 0
+        self.data = path.read_bytes()
+
+    def starts(self, *options, **how):
+        done = subprocess.run(
+            [*self.words, *options], cwd=self.path.parent, capture_output=True, check=False, **how
+        )
+        return done.returncode, done.stderr.decode()
+
+    def is_torn(self, torn=TORN):
+        self.path.write_bytes(self.data + torn)
+
+    def copy(self, torn=TORN):
+        return self.path.with_name(f"{self.path.name}.cut-{len(self.data)}-{crc32c(torn):08x}")
+
+    def copies(self):
+        return sorted(self.path.parent.glob(f"{self.path.name}.cut-*"))
+
+    def news(self, torn=TORN):
+        copied = f"tbd: copied {len(torn)} bytes, from byte {len(self.data)} on, to "
+        where = len(self.data) - 4
+        return (
+            f"{copied}{self.copy(torn).name}\n"
+            f"tbd: cut {len(torn)} bytes of a batch that was not committed, behind byte {where}\n"
+        )
+
+    def is_whole(self, torn=TORN):
+        """The bytes have a copy, and the file has none of them."""
+        return self.copy(torn).read_bytes() == torn and self.path.read_bytes() == self.data
+
+    def refuses(self, said, *options, **how):
+        """A start copies nothing, and the file is as it was."""
+        before, copies = self.path.read_bytes(), self.copies()
+        assert self.starts(*options, **how) == (NOT_COPIED, f"tbd: NotCopied: ledger{said}\n")
+        assert self.path.read_bytes() == before and self.copies() == copies
+
+
+@pytest.fixture(name="kept")
+def fixture_kept(program, tmp_path):
+    return Kept(program("tbd").resolve(), tmp_path / "ledger")
+
+
+def test_torn_bytes_are_copied(kept):
+    kept.is_torn()
+    assert kept.starts() == (0, kept.news())
+    assert kept.is_whole()
+    assert kept.copy().stat().st_mode & 0o777 == 0o600
+    assert kept.starts() == (0, "") and kept.copies() == [kept.copy()]
+
+
+def test_the_same_bytes_have_one_copy(kept):
+    for _ in range(COPIES + 1):
+        kept.is_torn()
+        assert kept.starts("--existing") == (0, kept.news())
+    assert kept.is_whole() and kept.copies() == [kept.copy()]
+
+
+@pytest.mark.parametrize("length", [0, 3, len(TORN)])
+def test_a_torn_copy_is_made_again(kept, length):
+    kept.is_torn()
+    kept.copy().write_bytes(TORN[:length][:-1] + b"\0" * (length > 0))
+    assert kept.starts() == (0, kept.news())
+    assert kept.is_whole()
+
+
+def test_another_file_of_that_name_stays(kept):
+    for other in (b"x" * 1000, None):
+        kept.is_torn()
+        if other is None:
+            kept.copy().unlink()
+            kept.copy().symlink_to("elsewhere")
+        else:
+            kept.copy().write_bytes(other)
+        kept.refuses(
+            ": another file has the name of the copy of its torn bytes; move it elsewhere,"
+            " or start with --drop-torn"
+        )
+    assert not (kept.path.parent / "elsewhere").exists()
+
+
+def test_no_more_copies_than_sixteen(kept):
+    for number in range(COPIES):
+        torn = TORN + bytes([number])
+        kept.is_torn(torn)
+        assert kept.starts() == (0, kept.news(torn))
+    kept.is_torn()
+    kept.refuses(
+        " has 16 copies of torn bytes next to it; move them elsewhere, or start with --drop-torn"
+    )
+    kept.is_torn(torn)
+    assert kept.starts() == (0, kept.news(torn)), "it has a copy"
+
+
+def test_an_option_copies_nothing(kept):
+    kept.is_torn()
+    status, said = kept.starts("--drop-torn")
+    assert (status, said) == (0, kept.news()[kept.news().index("tbd: cut") :])
+    assert kept.path.read_bytes() == kept.data and not kept.copies()
+
+
+def limited():
+    """No file may be longer than the ledger's."""
+    signal.signal(signal.SIGXFSZ, signal.SIG_IGN)
+    resource.setrlimit(resource.RLIMIT_FSIZE, (1, 1))
+
+
+def test_without_space(kept):
+    kept.is_torn()
+    kept.refuses(
+        ": the disk is full; free space for a copy of its torn bytes, or start with --drop-torn",
+        preexec_fn=limited,
+    )
+
+
+@pytest.mark.skipif(os.geteuid() == 0, reason="root may write everywhere")
+def test_without_permission(kept):
+    kept.is_torn()
+    kept.path.parent.chmod(0o500)
+    try:
+        kept.refuses(
+            ": no permission to copy its torn bytes next to it; allow that,"
+            " or start with --drop-torn"
+        )
+    finally:
+        kept.path.parent.chmod(0o700)
+
+
+def test_a_log_is_copied_too(program, tmp_path):
+    words = [program("tbd").resolve(), "follow", "log", "8"]
+    how = {"cwd": tmp_path, "capture_output": True, "check": False, "stdin": subprocess.DEVNULL}
+    assert subprocess.run(words, **how).returncode == 0
+    data = (tmp_path / "log").read_bytes()
+    (tmp_path / "log").write_bytes(data + TORN)
+    done = subprocess.run([*words, "--existing"], **how)
+    name = f"log.cut-{len(data)}-{crc32c(TORN):08x}"
+    assert done.returncode == 0 and name in done.stderr.decode()
+    assert (tmp_path / name).read_bytes() == TORN and (tmp_path / "log").read_bytes() == data
+    (tmp_path / "log").write_bytes(data + TORN + b"x")
+    done = subprocess.run([*words, "--drop-torn"], **how)
+    assert done.returncode == 0 and len(list(tmp_path.iterdir())) == 2
+
+
+def test_no_log_is_created_in_the_few_bytes_of_one(program, tmp_path):
+    (tmp_path / "log").write_bytes(b"TBJRN")
+    words = [program("tbd").resolve(), "follow", tmp_path / "log", "8", "--existing"]
+    assert subprocess.run(words, capture_output=True, check=False).returncode == 5
+    assert (tmp_path / "log").read_bytes() == b"TBJRN"
