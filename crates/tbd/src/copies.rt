@@ -39,10 +39,10 @@ fn is_copy(name: &str, of: &str) -> bool {
 /// The number of copies next to a file.
 fn count_copies(rt: &HostRuntime, path: &str) -> Result<usize, Uncopied> {
     let (folder, of) = folder_and_name(path);
-    let mut count = 0;
+    let mut count = 0_usize;
     for entry in fs::read_dir(rt, folder).map_err(of_call)? {
         match entry {
-            Ok(entry) if is_copy(entry.file_name(), of) => count += 1,
+            Ok(entry) if is_copy(entry.file_name(), of) => count = count.saturating_add(1),
             Ok(_) => {}
             // Names that are not UTF-8 are no copies'.
             Err(error) if error.kind() == ErrorKind::InvalidFilename => {}
