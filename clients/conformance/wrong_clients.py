@@ -408,8 +408,12 @@ def words():
     parser.add_argument("--drawn", metavar="N", type=int, help="over so many drawn scenarios")
     parser.add_argument("--seed", metavar="N", type=int, default=1, help="of the first one (1)")
     given = parser.parse_args()
-    if given.jobs < 1 or given.drawn is not None and given.drawn < 1 or given.seed < 0:
-        parser.error("--jobs and --drawn are 1 or more, and --seed is 0 or more")
+    if given.jobs < 1:
+        parser.error("--jobs is 1 or more")
+    if given.drawn is not None and given.drawn < 1:
+        parser.error("--drawn is 1 or more")
+    if given.seed < 0:
+        parser.error("--seed is 0 or more")
     return given
 
 
