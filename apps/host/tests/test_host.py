@@ -30,7 +30,8 @@ from unittest import mock
 from paths import CONFORMANCE, HOST, TESTS
 from tb_client.frames import asker, reply_fault, request_frame
 from tb_client.names import Operation
-from tb_host import backlog, checksums, connections, faults, listen, log, machines, nodes, replica
+from tb_host import backlog, checksums, connections, faults, listen, log, machines, nodes
+from tb_host import process, replica
 from tb_host import status as parts_of_status
 from tb_host.restored import restore
 from tb_host.backlog import Backlog, Checkpoint
@@ -393,6 +394,19 @@ class Copies(unittest.TestCase):
             kept(self.folder, "name", b"m1")
         self.assertEqual(str(found.exception), f"{self.folder}/name: No space left on device")
         self.assertEqual(kept(self.folder, "name", b"m2"), b"m2")
+
+    def test_a_name_that_is_no_text(self):
+        with open(f"{self.folder}/name", "wb") as file:
+            file.write(b"\xff1")
+        with self.assertRaises(Ended) as found:
+            machines._kept_name(self.folder, "m1")
+        self.assertEqual(str(found.exception), f"{self.folder}/name is no name: b'\\xff1'")
+
+    def test_a_process_of_another_user(self):
+        refused = mock.Mock(side_effect=PermissionError)
+        with mock.patch("os.killpg", refused), self.assertRaises(Ended) as found:
+            process.kill(mock.Mock(pid=7))
+        self.assertEqual(str(found.exception), "process 7 is another user's, and cannot be killed")
 
     def test_the_name_of_a_new_copy_is_synced(self):
         """A power loss could leave a folder without the copy, by which the log had been trimmed."""

@@ -81,7 +81,7 @@ async def serve(given: argparse.Namespace, log: Log) -> None:
         if copy.cut_off:
             say(f"{copy.cut_off} bytes that a crash left torn are cut off the copy", "warning")
         name = given.name or f"{socket.gethostname()}-{os.urandom(4).hex()}"
-        replica = Replica(given, log, copy, kept(given.copy, "name", name.encode()).decode())
+        replica = Replica(given, log, copy, _kept_name(given.copy, name))
         beginning = asyncio.ensure_future(replica.begin())
         if not await until(beginning, stopping):
             return
@@ -92,6 +92,15 @@ async def serve(given: argparse.Namespace, log: Log) -> None:
     finally:
         stopping.cancel()
         copy.close()
+
+
+def _kept_name(folder: str, made: str) -> str:
+    """The name that a replica has in its copy's folder."""
+    found = kept(folder, "name", made.encode())
+    try:
+        return found.decode()
+    except UnicodeDecodeError:
+        raise Ended(f"{os.path.join(folder, 'name')} is no name: {found[:40]!r}", 1) from None
 
 
 async def _with_log(given: argparse.Namespace, work: Any) -> Any:

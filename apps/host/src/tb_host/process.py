@@ -32,9 +32,13 @@ def started(words: Sequence[str]) -> Process:
 
 
 def kill(process: Process) -> None:
-    """Ends a process, and what it started, at once."""
-    with contextlib.suppress(ProcessLookupError):
+    """Ends a process, and what it started, at once. Raises `Ended` where that is another user's."""
+    try:
         os.killpg(process.pid, signal.SIGKILL)
+    except ProcessLookupError:
+        pass
+    except PermissionError:
+        raise Ended(f"process {process.pid} is another user's, and cannot be killed", 1) from None
 
 
 def last_line(told: bytes) -> str:
