@@ -105,6 +105,19 @@ WRONG = {
         "                    if not left or last and isinstance(why, NotYet):\n"
         "                        raise\n",
     ),
+    "edge: Busy after a loss ends the doubt": (
+        "sessions.py",
+        "                    if not left:\n                        raise\n",
+        "                    if not left:\n                        if last and "
+        "isinstance(why, Busy):\n                            self.pending = None\n"
+        "                        raise\n",
+    ),
+    "edge: a loss after Busy is told as Busy": (
+        "sessions.py",
+        "                    if not left:\n                        raise\n",
+        "                    if not left:\n                        if last and 'Busy' in last:\n"
+        "                            raise Busy(last, 'Busy')\n                        raise\n",
+    ),
     "edge: others may read a session's file": (
         "files.py",
         "    mode = 0o600\n",

@@ -88,6 +88,17 @@ const WRONG = {
     "        last = why;\n",
     "        if (last !== undefined && why instanceof NotYet) throw why;\n        last = why;\n",
   ],
+  "edge: Busy after a loss ends the doubt": [
+    "lib/session.js",
+    "        if (left <= 1 ||",
+    "        if (last !== undefined && why instanceof Busy) this.#pending = undefined;\n" +
+      "        if (left <= 1 ||",
+  ],
+  "edge: a loss after Busy is told as Busy": [
+    "lib/session.js",
+    "        if (left <= 1 ||",
+    "        if (left <= 1 && last instanceof Busy) throw last;\n        if (left <= 1 ||",
+  ],
   "edge: others may read a session's file": [
     "lib/files.js",
     "    return 0o600;",

@@ -199,6 +199,37 @@ def losses():
         saved(1),
         begin="registered-thrice",
     )
+    yield scenario(
+        "lost-then-busy-to-the-end",
+        "The reply is lost, then Busy is told, and no more is sent: the request stays in doubt.",
+        ask(
+            TRANSFERS,
+            SALE,
+            [*lost, send(told("Busy"), "d"), {"close": "d"}],
+            error("Busy", sent=True, told="Busy"),
+        ),
+        in_doubt(shown(TRANSFERS, SALE)),
+        retry([accept("e"), *served(ASKED, DONE, "e")], OK),
+    )
+    yield scenario(
+        "busy-then-lost-to-the-end",
+        "Told Busy, then the reply is lost, and no more is sent: ReplyLost, and in doubt.",
+        ask(
+            TRANSFERS,
+            SALE,
+            [
+                read(ASKED),
+                send(told("Busy")),
+                {"close": "c"},
+                accept("d"),
+                read(ASKED, "d"),
+                {"close": "d"},
+            ],
+            LOST,
+        ),
+        in_doubt(shown(TRANSFERS, SALE)),
+        retry([accept("e"), *served(ASKED, DONE, "e")], OK),
+    )
     for count in (1, 2):
         again = [
             it
@@ -342,6 +373,19 @@ def lookups():
             begin="registered-once",
         )
         busy = [read(asked), send(told("Busy")), {"close": "c"}]
+        yield scenario(
+            f"{name}-busy-then-lost-to-the-end",
+            "A lookup is told Busy, then its reply is lost: it stays in doubt.",
+            ask(
+                operation,
+                ["1", "2"],
+                [*busy, accept("e"), read(asked, "e"), {"close": "e"}],
+                LOST,
+            ),
+            saved(0, asked),
+            retry(again, wants),
+            saved(1),
+        )
         yield scenario(
             f"{name}-busy",
             "A lookup that is told Busy is sent again after a pause.",
