@@ -9,7 +9,7 @@ import sys
 import pytest
 
 ROOT = pathlib.Path(__file__).resolve().parent.parent
-for folder in ("checks", "tools", "clients/python/src", "apps/host/src"):
+for folder in ("tools", "clients/python/src", "apps/host/src"):
     sys.path.append(str(ROOT / folder))
 
 
@@ -54,6 +54,12 @@ def ran(words, given=b"", seconds=120, **how):
 
 def pytest_addoption(parser):
     parser.addoption("--storms", type=int, default=3, help="how often each storm is run")
+    parser.addoption("--kills", type=int, help="of tbd (1000), and of tbd follow (20)")
+    parser.addoption("--cuts", type=int, default=1000, help="last bytes at which a file is cut")
+    parser.addoption("--flips", type=int, default=10_000, help="bits that are changed in a file")
+    parser.addoption("--frames", type=int, default=20_000, help="frames that are damaged")
+    parser.addoption("--rounds", type=int, default=120, help="of clients before a power loss")
+    parser.addoption("--images", type=int, default=20, help="files that a write may leave")
     parser.addoption("--drawn", type=int, default=200, help="schedules for each client")
     parser.addoption("--faults", type=int, default=13, help="of machines, disks and clocks")
     parser.addoption("--kinds", type=lambda it: it.split(","), help="of faults, with commas")

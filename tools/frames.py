@@ -1,5 +1,5 @@
-"""Frames, records and dumps as the scripts of checks/ send them, by the layouts of
-tables/ledger.json. checks/damage.py and bench/ have encoders of their own: independent witnesses.
+"""Frames, records and dumps as tests and checks send them, by the layouts of tables/ledger.json.
+tests/programs/test_damaged_frames.py and bench/ have encoders of their own: independent witnesses.
 
 A record's field that is not given is 0, but for the ledger and the code of the examples.
 """

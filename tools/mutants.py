@@ -10,10 +10,10 @@ follow). Each old text is in its file once. `MUTANT` in a new text is true where
 
 All bugs are planted into one copy of the repository, behind one switch: the environment variable
 TB_MUTANT. The tests of all crates above a changed one are put into one crate, and it and each
-program that a script runs are built once, by `rt try`, which proves nothing. Then the tests run
-with each bug on, and where they pass the scripts of checks/ that run a changed program.
+program that pytest runs are built once, by `rt try`, which proves nothing. Then the tests run
+with each bug on, and where they pass the files of tests/ that run a changed program.
 
-Prints what catches each, and how many a test catches and how many a script alone; ends in
+Prints what catches each, and how many a test catches and how many pytest alone; ends in
 'N passed, M failed': passed are the bugs that something catches. --texts prints, in a second, which
 bugs can't be planted, alone or after the others.
 
@@ -48,12 +48,18 @@ SECONDS, SLOWER = 60, 4
 SCRIPT_SECONDS = 1800
 BUILD_SECONDS = 3600
 
-# The scripts that run built programs: their words, and the programs that they run.
+# A program of `rt try` has AddressSanitizer, which maps terabytes.
+NO_MEMORY = "not test_memory"
+# The files of tests/ that run built programs: their words, and the programs that they run.
 SCRIPTS = {
-    "storms.py": (["1"], {"tbs"}),
-    "program.py": ([], {"tbs"}),
-    "keep.py": (["--kills", "3", "--flips", "20", "--cuts", "20"], {"tbd", "tbs"}),
+    "programs/test_storms.py": (["--storms", "1"], {"tbs"}),
+    "programs/test_tbs.py": (["-k", NO_MEMORY], {"tbs"}),
+    "files/test_keep.py": (
+        ["-k", "not builds", "--kills", "3", "--flips", "20", "--cuts", "20"],
+        {"tbd", "tbs"},
+    ),
 }
+PYTEST = ["/usr/bin/python3", "-m", "pytest", "-q", "-x", "-s", "-p", "no:cacheprovider"]
 
 # Where the programs are slow: what a script waits for, in seconds (less than the minute that a bug
 # waits), how many times longer than else, and the megabytes of a file that it calls long.
@@ -62,9 +68,6 @@ SLOW = {"KEEP_SECONDS": "50", "CHECK_LONGER": "10", "KEEP_STEP": "1"}
 # The programs' constant for these megabytes: its file, its text, and what is there instead. The
 # tests are built before, with the text as it is.
 STEP = ("crates/tb_keep_commands/src/reports.rt", "usize = 64 * MEGABYTE;", "usize = MEGABYTE;")
-
-# Cases that fail with no bug on: a program of `rt try` has AddressSanitizer, which maps terabytes.
-ANYWAY = {"a register in 64 MiB"}
 
 SWITCH_SOURCE = """//! The switch of the planted bugs.
 #![tactic(auto)]
@@ -219,7 +222,7 @@ def write(path, text):
 
 
 def copy_repository(room):
-    for folder in ("crates", "checks", "clients", "examples"):
+    for folder in ("crates", "tests", "clients", "examples"):
         shutil.rmtree(f"{room}/{folder}", ignore_errors=True)
     repository.copied(room)
 
@@ -375,15 +378,14 @@ def status_of(words, number, seconds):
 
 
 def case_of(lines):
-    """The first case that lines of a script report as failed, but for those that fail anyway. None
-    where they end with the count of cases, and no others failed; else 'stops'."""
-    anyway, line = 0, ""
+    """The first case, or else the first test, that lines of pytest report as failed. None where
+    they end with a count of tests that passed, and none failed; else 'stops'."""
+    line = ""
     for line in lines:
-        case = re.match(r"FAILED: ([^:\n]*)", line)
-        if case and case[1].strip() not in ANYWAY:
-            return case[1].strip()
-        anyway += bool(case)
-    return None if re.match(rf"\d+ passed, {anyway} failed$", line) else "stops"
+        case = re.match(r"FAILED: ([^:\n]*)|FAILED \S+::(\S+)", line)
+        if case:
+            return (case[1] or case[2]).strip()
+    return None if re.search(r"\d+ passed", line) and "failed" not in line else "stops"
 
 
 def failed_case(words, number, seconds):
@@ -452,7 +454,7 @@ class Catchers:
 
     def script_fails(self, number, name):
         """What a script says of a bug: the first case that failed. None where it passes."""
-        words = [sys.executable, f"{self.room}/checks/{name}", *SCRIPTS[name][0]]
+        words = [*PYTEST, f"{self.room}/tests/{name}", *SCRIPTS[name][0]]
         return failed_case(words, number, SCRIPT_SECONDS)
 
     def test_that_fails(self, mutant):
@@ -468,7 +470,7 @@ class Catchers:
         for name in names:
             case = self.script_fails(mutant.number, name)
             if case:
-                return f"checks/{name}: {case}"
+                return f"tests/{name}: {case}"
         return None
 
     def catch(self, mutant):
@@ -490,7 +492,7 @@ class Catchers:
         cases = [pool.submit(self.script_fails, 0, name) for name in self.scripts]
         wrong = [name for name, fails in zip(names, pool.map(self.timed, names)) if fails]
         told = {name: case.result() for name, case in zip(self.scripts, cases)}
-        wrong += [f"checks/{name}: {case}" for name, case in told.items() if case]
+        wrong += [f"tests/{name}: {case}" for name, case in told.items() if case]
         seconds = time.monotonic() - began
         print(f"no bug: {len(names)} tests, {len(told)} scripts, {seconds:.0f} s", flush=True)
         return wrong
@@ -501,9 +503,9 @@ class Catchers:
 
 def counts(caught):
     """How many bugs a test catches, and how many a script alone."""
-    by_script = sum(1 for by in caught.values() if by.startswith("checks/"))
+    by_script = sum(1 for by in caught.values() if by.startswith("tests/"))
     by_test = sum(1 for by in caught.values() if by) - by_script
-    return f"caught by a test: {by_test}; by a script alone: {by_script}"
+    return f"caught by a test: {by_test}; by pytest alone: {by_script}"
 
 
 def read_words():
@@ -515,7 +517,7 @@ def read_words():
     parser.add_argument(
         "--only", nargs="+", metavar="WORD", help="bugs of these crates, or with a word in the name"
     )
-    parser.add_argument("--tests-only", action="store_true", help="run tests alone, no scripts")
+    parser.add_argument("--tests-only", action="store_true", help="run tests of crates alone")
     parser.add_argument(
         "--jobs", type=tried.count, default=os.cpu_count(), help="bugs tried at a time"
     )

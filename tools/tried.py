@@ -1,4 +1,4 @@
-"""What the scripts of checks/ share: cases that are counted and printed, programs that have to be
+"""What scripts share: cases that are counted and printed, programs that have to be
 there and their runs, the arguments of a script, and its end."""
 import argparse
 import os

@@ -1,4 +1,4 @@
-//! Frames of requests and replies, one after another, and a line for each. checks/damage.py gives damaged ones.
+//! Frames of requests and replies, one after another, and a line for each. tests/programs/test_damaged_frames.py gives damaged ones.
 //!
 //! Each frame is behind its kind (1 a request, 2 a reply) and the number of its bytes (u32, lowest byte first). The line is
 //! the number of the frame's fault; 0 where the bytes begin with a frame that is written again as it was; 255 where it is

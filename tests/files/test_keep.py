@@ -1,40 +1,29 @@
-#!/usr/bin/env python3
 """Kills the built tbd amid its work, damages its files and lets its calls fail: nothing acknowledged is lost, and nothing happens twice.
 
-    checks/keep.py [--tbd PROGRAM] [--kills N] [--flips N] [--cuts N] [--seed N] [--builds]
-    checks/keep.py --texts
+    /usr/bin/python3 -m pytest tests/files/test_keep.py [--kills N] [--flips N] [--cuts N] [--seed N]
 
-A program that holds a reply back, or does not end, for 20 seconds (KEEP_SECONDS) ends the script, with that case failed or a line that names it.
+A program that holds a reply back, or does not end, for 20 seconds (KEEP_SECONDS) fails the test with a line that names it.
 Clients retry as docs/use/CLIENTS.md says: each sends one request at a time, and the same bytes again until it has the reply. Calls of the
-program fail or lie by checks/keep/shim.c, which wants gcc. With --builds two mutants are built too, unproved, by `rt try` in a copy, and run
-under strace: one that replies before it commits and one that does not sync have to be caught. --texts looks, in a second, whether what
-they change is in the sources. Ends in 'N passed, M failed'.
+program fail or lie by shim.c, which wants gcc. Two mutants are built too, unproved, by `rt try` in a copy, and run
+under strace: one that replies before it commits and one that does not sync have to be caught.
 """
 import atexit
 import contextlib
 import os
 import pty
-import random
 import re
 import select
 import shutil
 import socket
 import struct
 import subprocess
-import sys
-import tempfile
 import termios
 import threading
 import time
 
-sys.path.append(os.path.join(os.path.dirname(os.path.abspath(__file__)), "..", "tools"))
-
-import tried  # noqa: E402
-
-ROOT = os.path.dirname(os.path.dirname(os.path.abspath(__file__)))
-sys.path.insert(0, os.path.join(ROOT, "clients", "python", "src"))
-
-from tb_client import (  # noqa: E402
+import pytest
+import tried
+from tb_client import (
     HEADER,
     Account,
     Operation,
@@ -43,7 +32,12 @@ from tb_client import (  # noqa: E402
     Transfer,
     reply_length,
     request_frame,
-)  # noqa: E402
+)
+
+from ..conftest import ROOT
+from .cases import case
+
+pytestmark = pytest.mark.usefixtures("counted")
 
 CLIENTS = 24
 SECONDS = tried.from_environment(
@@ -59,19 +53,13 @@ CLOSED = b"\x5a\xc3\x96\x69"  # the latch that ends the records
 FAILED = ": a read or write failed; look at the disk, and start again"
 
 
-def case(name, well, said=""):
-    """Counts a case, and prints one that failed."""
-    tried.case(name, well, said, quietly=True)
-
-
 # A server, and the clients before it
 
 
 def stuck(process, name):
-    """Ends the script: a program did not go on in time."""
+    """Ends the test: a program did not go on in time."""
     process.kill()
-    case(name, False, f"not within {SECONDS} s")
-    sys.exit(tried.status())
+    pytest.fail(f"{name}: not within {SECONDS} s")
 
 
 def taken(process, count):
@@ -291,8 +279,10 @@ def check(tbd, file, shim=None, fault=""):
 # Cases
 
 
-def kills(tbd, folder, count, rng):
+@pytest.mark.slow
+def test_kills(tbd, folder, rng, pytestconfig):
     """The program is killed amid rounds, at random moments."""
+    count = pytestconfig.getoption("kills") or 1000
     ledger = Ledger(tbd, folder, "kills")
     ledger.open_accounts()
     began = time.monotonic()
@@ -339,7 +329,8 @@ def faulty(tbd, folder, shim, fault, status, name):
     os.unlink(ledger.file)
 
 
-def faults(tbd, folder, shim):
+@pytest.mark.slow
+def test_faults(tbd, folder, shim):
     """Calls on the file that fail once, or take a part."""
     for number in range(1, 51):
         # The first two are those of the opening, of the file and of its folder.
@@ -381,7 +372,8 @@ def unread(path):
     return f"tbd: Device: {path}", f"tbd: Device: {path}{FAILED}"
 
 
-def reads(tbd, folder, shim, data):
+@pytest.mark.slow
+def test_reads(tbd, folder, shim, data):
     """Reads of the file that fail once, are interrupted once, or give few bytes."""
     path = os.path.join(folder, "read.tbk")
     with open(path, "wb") as file:
@@ -469,7 +461,8 @@ def order(tbd, folder, shim, fault, name):
     return told_early(logged(log))
 
 
-def orders(tbd, folder, shim):
+@pytest.mark.slow
+def test_orders(tbd, folder, shim):
     early, told = order(tbd, folder, shim, None, "order")
     case(
         "each reply comes behind the sync of its entry",
@@ -504,16 +497,15 @@ BUILDS = (
 )
 
 
-def try_texts():
+@pytest.mark.quick
+def test_texts_of_builds():
     """Whether the text of each is in its file once."""
     for name, path, old, _ in BUILDS:
-        there = os.path.isfile(f"{ROOT}/{path}")
-        with open(f"{ROOT}/{path}" if there else os.devnull, encoding="utf-8") as file:
-            case(f"{name}: its text is in {path} once", file.read().count(old) == 1)
-    return tried.status()
+        case(f"{name}: its text is in {path} once", (ROOT / path).read_text().count(old) == 1)
 
 
-def builds(tbd, folder):
+@pytest.mark.slow
+def test_builds(tbd, folder):
     """Builds them in a copy, unproved, and serves the first script over a file without entries."""
     copy, log = os.path.join(folder, "copy"), os.path.join(folder, "calls")
     shutil.copytree(ROOT, copy, ignore=shutil.ignore_patterns("out", ".git", "target"))
@@ -581,6 +573,41 @@ def sample(tbd, folder):
     return data, latches + [at], check(tbd, ledger.file)["entries"]
 
 
+@pytest.fixture
+def tbd(program):
+    return str(program("tbd"))
+
+
+@pytest.fixture
+def words_file(tbd, folder):
+    """words.tbk: a file of one register."""
+    told_of(tbd, folder, ["run", "words.tbk", "3"], pair_of_a_register())
+
+
+@pytest.fixture
+def kept(tbd, folder):
+    return sample(tbd, folder)
+
+
+@pytest.fixture
+def data(kept, folder):
+    """The bytes of a file of some rounds, which is sound.tbk too."""
+    with open(os.path.join(folder, "sound.tbk"), "wb") as file:
+        file.write(kept[0])
+    return kept[0]
+
+
+@pytest.fixture
+def latches(kept):
+    """Where its latches are."""
+    return kept[1]
+
+
+@pytest.fixture
+def entries(kept):
+    return kept[2]
+
+
 def look_at(tbd, path, data):
     with open(path, "wb") as file:
         file.write(data)
@@ -625,7 +652,8 @@ def pair_of_a_register():
     return struct.pack("<Q", 5) + request_frame(7, 0, 0, Operation.register)
 
 
-def told_of_words(tbd, folder):
+@pytest.mark.quick
+def test_told_of_words(tbd, folder):
     """What is reported of wrong words, of output that is lost, and of a file that this user may not read."""
     for words, line in WORDS:
         told = told_of(tbd, folder, words.split())
@@ -666,7 +694,8 @@ def told_of_words(tbd, folder):
         )
 
 
-def lost_replies(tbd, folder):
+@pytest.mark.quick
+def test_lost_replies(tbd, folder):
     """A `run` whose output is lost ends at the first reply, though more input may come."""
     with open("/dev/full", "wb") as full:
         process = subprocess.Popen(
@@ -687,7 +716,9 @@ def lost_replies(tbd, folder):
     process.stdin.close()
 
 
-def told_of_ends(tbd, folder):
+@pytest.mark.quick
+@pytest.mark.usefixtures("words_file")
+def test_told_of_ends(tbd, folder):
     """What is reported of torn bytes that are cut off, and that nothing is written of a file that is damaged."""
     with open(os.path.join(folder, "words.tbk"), "rb") as file:
         data = file.read()
@@ -715,7 +746,9 @@ def told_of_ends(tbd, folder):
     case("nothing is served over a damaged file", told[:2] == (6, b""), told)
 
 
-def failing_dumps(tbd, folder, shim):
+@pytest.mark.slow
+@pytest.mark.usefixtures("words_file")
+def test_failing_dumps(tbd, folder, shim):
     """A read that fails, at each place in turn, ends a dump in Device; once none is left to fail, the dump is whole."""
     path, number = os.path.join(folder, "words.tbk"), 0
     whole = told_of(tbd, folder, ["dump", path])
@@ -738,7 +771,8 @@ def failing_dumps(tbd, folder, shim):
     case("a dump whose reads do not fail is whole", told == whole and number > 3, (number, told))
 
 
-def told_by_check(tbd, folder):
+@pytest.mark.quick
+def test_told_by_check(tbd, folder):
     """What is reported of a file that is not there, and of one of each profile, with a register."""
     absent = os.path.join(folder, "absent.tbk")
     told = check(tbd, absent)
@@ -794,7 +828,8 @@ def dumped(tbd, folder, path, **how):
     return dump if status == 0 and said == "" else None
 
 
-def looks(tbd, folder):
+@pytest.mark.slow
+def test_looks(tbd, folder):
     """Dumps and checks next to a server under load: none is refused, and each dump is a prefix of the next."""
     ledger = Ledger(tbd, folder, "live")
     ledger.open_accounts()
@@ -842,7 +877,8 @@ def on_a_read_only_mount(tbd, place, wanted):
     case("a check on a read-only mount", told[0] == 0 and told[2] == "", told)
 
 
-def read_only(tbd, folder):
+@pytest.mark.quick
+def test_read_only(tbd, folder):
     """A file and a folder that may only be read, by a user that may not write to them."""
     place = os.path.join(folder, "shelf")
     os.mkdir(place)
@@ -889,7 +925,9 @@ def read_only(tbd, folder):
     on_a_read_only_mount(tbd, place, wanted)
 
 
-def names(tbd, folder):
+@pytest.mark.quick
+@pytest.mark.usefixtures("words_file")
+def test_names(tbd, folder):
     """Names of what is no regular file."""
     os.symlink(os.path.join(folder, "nowhere.tbk"), os.path.join(folder, "link.tbk"))
     os.mkfifo(os.path.join(folder, "pipe.tbk"))
@@ -946,7 +984,8 @@ def names(tbd, folder):
     case("other rules are reported", told == (7, b"", line), told)
 
 
-def reported(tbd, folder):
+@pytest.mark.quick
+def test_reported(tbd, folder):
     """Starts that are reported."""
     told = told_of(tbd, folder, ["run", "reported.tbk", "3", "--progress"], pair_of_a_register())
     case(
@@ -958,7 +997,8 @@ def reported(tbd, folder):
     case("a start that is not", told == (0, b"", ""), told)
 
 
-def long_starts(tbd, folder):
+@pytest.mark.slow
+def test_long_starts(tbd, folder):
     """A start over more than so many megabytes: its progress is reported where that is asked for, and else nothing."""
     wrong = Transfer(1, CASH, SALES, 1, ledger=700, code=10).to_bytes() * 8190
     frames = [
@@ -1007,7 +1047,8 @@ def terminal():
     return master, slave
 
 
-def on_terminals(tbd, folder):
+@pytest.mark.slow
+def test_on_terminals(tbd, folder):
     """What is reported where requests would be typed, and where lines are seen on a terminal."""
     master, slave = terminal()
     os.write(master, b"\x04")  # Ctrl-D
@@ -1042,7 +1083,8 @@ def on_terminals(tbd, folder):
     os.close(master)
 
 
-def told_at_once(tbd, folder):
+@pytest.mark.quick
+def test_told_at_once(tbd, folder):
     """A line goes out in one write: it stays whole where several programs write to one file."""
     ours, theirs = socket.socketpair(socket.AF_UNIX, socket.SOCK_SEQPACKET)
     with ours:
@@ -1101,7 +1143,8 @@ def followers(tbd, folder, path, after):
     return going
 
 
-def follows(tbd, folder):
+@pytest.mark.slow
+def test_follows(tbd, folder):
     """What is written of a file that is served, killed and served again: each entry once."""
     ledger = Ledger(tbd, folder, "followed")
     ledger.open_accounts()
@@ -1179,8 +1222,10 @@ def copied(tbd, form, path, new, **how):
     return told, dumped(tbd, os.path.dirname(path), new) if os.path.exists(new) else None
 
 
-def salvages(tbd, folder, data, latches, count, rng):
+@pytest.mark.slow
+def test_salvages(tbd, folder, data, latches, rng):
     """A file with a bit flipped at many places: what is before the damage is taken over, and all where it is in a length; what is lost is reported."""
+    count = 40
     whole, path = os.path.join(folder, "sound.tbk"), os.path.join(folder, "hurt.tbk")
     with open(whole, "wb") as file:
         file.write(data)
@@ -1214,7 +1259,8 @@ def salvages(tbd, folder, data, latches, count, rng):
     case("its backup holds a prefix", kept is None or dump.startswith(kept), kept and len(kept))
 
 
-def sound_copies(tbd, folder, data):
+@pytest.mark.quick
+def test_sound_copies(tbd, folder, data):
     """Copies of a whole file and of one with a torn end are equal to it, of the owner alone, and can be served."""
     whole = os.path.join(folder, "sound.tbk")
     dump = dumped(tbd, folder, whole)
@@ -1247,12 +1293,15 @@ def sound_copies(tbd, folder, data):
             case(f"{form}: it can be served", told == (0, b"", ""), told)
 
 
-def copies_of_no_ledger(tbd, folder):
+@pytest.mark.quick
+@pytest.mark.usefixtures("words_file")
+def test_copies_of_no_ledger(tbd, folder):
     """Of what is no ledger, and of names that cannot be, nothing is made."""
     with open(os.path.join(folder, "letter.txt"), "w", encoding="utf-8") as file:
         file.write("to whom it may concern\n")
     target = os.path.join(folder, "target.tbk")
     os.symlink(target, os.path.join(folder, "to_nothing.tbk"))
+    os.mkdir(os.path.join(folder, "folder.tbk"))
     with open(os.path.join(folder, "taken.tbk"), "wb") as file:
         file.write(b"another file")
     with open(os.path.join(folder, "no_byte.tbk"), "wb"):
@@ -1319,7 +1368,8 @@ def copies_of_no_ledger(tbd, folder):
         case("a file that exists is not overwritten", file.read() == b"another file")
 
 
-def copies_on_a_full_disk(tbd, folder, shim, data):
+@pytest.mark.slow
+def test_copies_on_a_full_disk(tbd, folder, shim, data):
     """A disk that is full amid a copy, and a sync of it that fails, are reported by their status; the file is as before."""
     path = os.path.join(folder, "sound.tbk")
     for number, (fault, status) in enumerate(
@@ -1334,7 +1384,8 @@ def copies_on_a_full_disk(tbd, folder, shim, data):
         case("the file is as before", file.read() == data)
 
 
-def backups(tbd, folder):
+@pytest.mark.slow
+def test_backups(tbd, folder):
     """Backups of a file that is served are prefixes of it, the later ones longer, and can be served."""
     ledger = Ledger(tbd, folder, "backed")
     ledger.open_accounts()
@@ -1353,8 +1404,10 @@ def backups(tbd, folder):
     case("a backup can be served", served == (0, b"", ""), served)
 
 
-def cuts(tbd, folder, data, latches, entries, count):
+@pytest.mark.slow
+def test_cuts(tbd, folder, data, latches, entries, pytestconfig):
     """The file cut at each of its last bytes, so many."""
+    count = pytestconfig.getoption("cuts")
     path, wrong = os.path.join(folder, "cut.tbk"), []
     for length in range(len(data) - count, len(data)):
         told = look_at(tbd, path, data[:length])
@@ -1364,8 +1417,10 @@ def cuts(tbd, folder, data, latches, entries, count):
     case(f"cut at each of the last {count} bytes", not wrong, wrong[:2])
 
 
-def flips(tbd, folder, data, latches, entries, count, rng):
+@pytest.mark.slow
+def test_flips(tbd, folder, data, latches, entries, rng, pytestconfig):
     """Bits that are turned, each reported as damage but for those of open latches, which stay open."""
+    count = pytestconfig.getoption("flips")
     path, wrong, damaged = os.path.join(folder, "flip.tbk"), [], 0
     for _ in range(count):
         at, bit = rng.randrange(len(data)), rng.randrange(8)
@@ -1378,71 +1433,3 @@ def flips(tbd, folder, data, latches, entries, count, rng):
         if not well or not told["same"]:
             wrong.append((at, bit, told))
     case(f"{count} bits turned, {damaged} of them outside latches", not wrong, wrong[:2])
-
-
-def main():
-    parser = tried.arguments(__doc__)
-    parser.add_argument(
-        "--tbd", type=os.path.abspath, default=os.path.join(ROOT, "crates", "tbd", "out", "tbd")
-    )
-    parser.add_argument("--kills", type=tried.count, default=1000)
-    parser.add_argument("--flips", type=tried.count, default=10000)
-    parser.add_argument("--cuts", type=tried.count, default=1000)
-    parser.add_argument("--seed", type=int, default=1)
-    parser.add_argument("--builds", action="store_true", help="builds that are wrong, too")
-    parser.add_argument(
-        "--texts", action="store_true", help="only whether these builds can be made"
-    )
-    asked = parser.parse_args()
-    if asked.texts:
-        return try_texts()
-    tried.built(asked.tbd)
-    rng = random.Random(asked.seed)
-    with tempfile.TemporaryDirectory() as folder:
-        shim = os.path.join(folder, "shim.so")
-        subprocess.run(
-            [
-                "gcc",
-                "-O1",
-                "-Wall",
-                "-Wextra",
-                "-shared",
-                "-fPIC",
-                "-o",
-                shim,
-                os.path.join(ROOT, "checks", "keep", "shim.c"),
-            ],
-            check=True,
-        )
-        told_of_words(asked.tbd, folder)
-        lost_replies(asked.tbd, folder)
-        told_of_ends(asked.tbd, folder)
-        told_by_check(asked.tbd, folder)
-        reported(asked.tbd, folder)
-        on_terminals(asked.tbd, folder)
-        told_at_once(asked.tbd, folder)
-        names(asked.tbd, folder)
-        read_only(asked.tbd, folder)
-        looks(asked.tbd, folder)
-        follows(asked.tbd, folder)
-        failing_dumps(asked.tbd, folder, shim)
-        orders(asked.tbd, folder, shim)
-        if asked.builds:
-            builds(asked.tbd, folder)
-        data, latches, entries = sample(asked.tbd, folder)
-        salvages(asked.tbd, folder, data, latches, 40, rng)
-        sound_copies(asked.tbd, folder, data)
-        copies_of_no_ledger(asked.tbd, folder)
-        copies_on_a_full_disk(asked.tbd, folder, shim, data)
-        backups(asked.tbd, folder)
-        cuts(asked.tbd, folder, data, latches, entries, asked.cuts)
-        flips(asked.tbd, folder, data, latches, entries, asked.flips, rng)
-        long_starts(asked.tbd, folder)
-        faults(asked.tbd, folder, shim)
-        reads(asked.tbd, folder, shim, data)
-        kills(asked.tbd, folder, asked.kills, rng)
-    return tried.status()
-
-
-if __name__ == "__main__":
-    tried.main(main)

@@ -1,36 +1,28 @@
-#!/usr/bin/env python3
 """Files that a power loss may leave of the built tbd's work, by the calls that it made, and a
 disk that is full.
 
-    checks/crashes.py [--tbd PROGRAM] [--rounds N] [--images N] [--seed N]
+    /usr/bin/python3 -m pytest tests/files/test_crashes.py [--rounds N] [--images N] [--seed N]
 
-checks/keep/shim.c, which wants gcc, writes down each write, cut and sync of the file and each write
-of replies. From them the files are made that the disk may have at each moment: what was synced, and
+shim.c, which wants gcc, writes down each write, cut and sync of the file and each write of replies.
+From them the files are made that the disk may have at each moment: what was synced, and
 of what was written since then any bytes and any length. Each has to be a prefix of the history
 with all that was acknowledged until then, and each tenth is opened by the program. A disk that
 drops syncs and a program that answers first have to be caught. A small file system is filled where
-this user may mount one. Ends in 'N passed, M failed', or with a line where the program holds a
-reply back, or does not end, for two minutes (CHECK_LONGER times as long).
+this user may mount one. The test fails where the program holds a reply back, or does not end, for
+two minutes (CHECK_LONGER times as long).
 """
+
 import contextlib
 import functools
 import os
-import random
 import shutil
 import struct
 import subprocess
-import sys
-import tempfile
 import threading
 
-sys.path.append(os.path.join(os.path.dirname(os.path.abspath(__file__)), "..", "tools"))
-
-import tried  # noqa: E402
-
-ROOT = os.path.dirname(os.path.dirname(os.path.abspath(__file__)))
-sys.path.insert(0, os.path.join(ROOT, "clients", "python", "src"))
-
-from tb_client import (  # noqa: E402
+import pytest
+import tried
+from tb_client import (
     HEADER,
     Account,
     Operation,
@@ -46,6 +38,7 @@ CASH, SALES = 1, 2
 SECONDS = 120 * tried.LONGER  # that a reply, an end and a check may take
 MAGIC, CLOSED = b"TBJRNL02", b"\x5a\xc3\x96\x69"
 FIRST = MAGIC + CLOSED
+pytestmark = [pytest.mark.slow, pytest.mark.usefixtures("counted")]
 
 
 def case(name, wrong):
@@ -97,7 +90,7 @@ def records_of(data):
 
 @contextlib.contextmanager
 def in_time(process):
-    """Ends the script where a program does not go on in time."""
+    """Ends the test where a program does not go on in time."""
     late = threading.Event()
     timer = threading.Timer(SECONDS, lambda: (late.set(), process.kill()))
     timer.start()
@@ -366,8 +359,9 @@ class Images:
 # Cases
 
 
-def losses(tbd, folder, shim, rounds, count, rng):
+def test_losses(tbd, tbs, folder, shim, rng, pytestconfig):
     """A run in several lives: all moments of it, and its dump."""
+    rounds, count = pytestconfig.getoption("rounds"), pytestconfig.getoption("images")
     run = Run(tbd, folder, "losses", rng)
     lives(run, shim, rounds)
     case(f"{len(run.first)} requests in lives that kills end: each has one reply", run.wrong)
@@ -376,10 +370,10 @@ def losses(tbd, folder, shim, rounds, count, rng):
         f"{images.judged} files that a power loss may leave, {images.opened} of them opened",
         images.wrong,
     )
-    dumped(run)
+    dumped(run, tbs)
 
 
-def dumped(run):
+def dumped(run, tbs):
     """The dump has each acknowledged request once, at the commit that its reply gave, and its
     replay gives each reply."""
     got = subprocess.run([run.tbd, "dump", run.file], capture_output=True, timeout=SECONDS)
@@ -397,10 +391,6 @@ def dumped(run):
     if len({record[16:] for record in records[1:]}) != len(records) - 1:
         wrong.append("a request is in the history twice")
     case(f"a dump of {len(records) - 1} entries has each acknowledged request at its commit", wrong)
-    tbs = os.path.join(ROOT, "crates", "tbs", "out", "tbs")
-    if not os.access(tbs, os.X_OK):
-        print("passed over: the replay of the dump, tbs is not built")
-        return
     replies = list(replies_in(tried.ran([tbs, "replay"], got.stdout)[1]))
     wrong = [
         key
@@ -410,7 +400,7 @@ def dumped(run):
     case(f"tbs replay gives the {len(run.first)} replies that were sent", wrong)
 
 
-def controls(tbd, folder, shim, rng):
+def test_controls(tbd, folder, shim, rng):
     """A disk that drops syncs, and a program that answers before it commits, are caught."""
     for fault in ("nosync", "early 1"):
         run = Run(tbd, folder, fault[:5], rng)
@@ -434,7 +424,7 @@ def controls(tbd, folder, shim, rng):
     case("caught by kills: early", [] if run.wrong else ["nothing was found"])
 
 
-def full(tbd, folder, rng):
+def test_full(tbd, tbs, folder, rng):
     """A file system of 64 KiB is filled. With more room all that was acknowledged is there."""
     room = os.path.join(folder, "room")
     os.mkdir(room)
@@ -444,8 +434,7 @@ def full(tbd, folder, rng):
             ["mount", "-t", "tmpfs", "-o", "size=64k", "none", room], capture_output=True
         ).returncode
     ):
-        print("passed over: a full file system, this user may mount none")
-        return
+        pytest.skip("this user may mount no file system")
     try:
         run = Run(tbd, room, "full", rng)
         process = run.start()
@@ -469,31 +458,4 @@ def full(tbd, folder, rng):
     if ended(process):
         run.wrong.append("a start with more room ends by a fault")
     case(f"with more room {len(run.first)} requests have one reply each", run.wrong)
-    dumped(run)
-
-
-def main():
-    parser = tried.arguments(__doc__)
-    parser.add_argument("--tbd", default=os.path.join(ROOT, "crates", "tbd", "out", "tbd"))
-    parser.add_argument("--rounds", type=tried.count, default=120)
-    parser.add_argument(
-        "--images", type=tried.count, default=20, help="files that are made at each write"
-    )
-    parser.add_argument("--seed", type=int, default=1)
-    given = parser.parse_args()
-    tried.built(given.tbd)
-    rng = random.Random(given.seed)
-    with tempfile.TemporaryDirectory() as folder:
-        shim = os.path.join(folder, "shim.so")
-        source = os.path.join(ROOT, "checks", "keep", "shim.c")
-        subprocess.run(
-            ["gcc", "-O1", "-Wall", "-Wextra", "-shared", "-fPIC", "-o", shim, source], check=True
-        )
-        losses(given.tbd, folder, shim, given.rounds, given.images, rng)
-        controls(given.tbd, folder, shim, rng)
-        full(given.tbd, folder, rng)
-    return tried.status()
-
-
-if __name__ == "__main__":
-    tried.main(main)
+    dumped(run, tbs)

@@ -1,38 +1,32 @@
-#!/usr/bin/env python3
 """Kills the built `tbd follow` amid its work: a start wants the log from the right position, and
 answers as a follower without a file that has read it all.
 
-    checks/keep_follow.py [--kept PROGRAM] [--followed PROGRAM] [--kills N] [--entries N] [--seed N]
+    /usr/bin/python3 -m pytest tests/files/test_keep_follow.py [--kills N] [--seed N]
 
-Build both first, by `rt run` in crates/tbd and crates/tb_follow. The log has as many
-entries as asked for, each of some requests, repeats among them. Behind each kill the file is
-opened again, its position is asked for, and the log goes on behind it. Ends in 'N passed, M
-failed'.
+The log has thirty entries, each of some requests, repeats among them. After each kill the file is
+opened again, its position is asked for, and the log goes on after it.
 """
+
 import contextlib
 import os
-import random
 import struct
 import subprocess
-import sys
-import tempfile
 import threading
 import time
 
-sys.path.append(os.path.join(os.path.dirname(os.path.abspath(__file__)), "..", "tools"))
+import pytest
+import tried
+from tb_client import Account, Operation, Transfer, request_frame
+from tb_host.checksums import crc32c
 
-import tried  # noqa: E402
-
-ROOT = os.path.dirname(os.path.dirname(os.path.abspath(__file__)))
-sys.path[:0] = [f"{ROOT}/clients/python/src", f"{ROOT}/apps/host/src"]
-
-from tb_client import Account, Operation, Transfer, request_frame  # noqa: E402
-from tb_host.checksums import crc32c  # noqa: E402
+from .cases import case
 
 CLIENTS = "8"
+ENTRIES = 30
 SECONDS = 120 * tried.LONGER  # that a program may take
 QUESTION = b"\2"
 STANDING = 73  # the bytes of its answer
+pytestmark = pytest.mark.usefixtures("counted")
 
 
 def pair(moment, session, number, operation, body=b""):
@@ -106,89 +100,73 @@ def killed(program, path, data, wanted, rng):
     return told, wanted.startswith(told)
 
 
-def kills(options, folder, log, rng):
+def items_of(rng):
+    """The entries of a log, as they are written."""
+    return [item(place + 1, pairs) for place, pairs in enumerate(contents(ENTRIES, rng))]
+
+
+@pytest.mark.slow
+def test_kills(tbd, program, folder, rng, pytestconfig):
     """One file that is killed and opened again, until it has the whole log."""
-    items = [item(place + 1, pairs) for place, pairs in enumerate(log)]
+    followed, items = program("tb_follow"), items_of(rng)
     answers = []  # to the entries, one by one, by a follower without a file
     before = b""
-    _, whole, _ = tried.ran([options.followed, CLIENTS], b"".join(items))
+    _, whole, _ = tried.ran([followed, CLIENTS], b"".join(items))
     for place in range(len(items) + 1):
         given = b"".join(items[:place])
-        _, output, _ = tried.ran([options.followed, CLIENTS], given + QUESTION)
+        _, output, _ = tried.ran([followed, CLIENTS], given + QUESTION)
         answers.append((len(output) - STANDING, output[-STANDING:]))
-        tried.case("a follower answers", whole.startswith(output[:-STANDING]), quietly=True)
+        case("a follower answers", whole.startswith(output[:-STANDING]))
         before = output
-    tried.case("the whole log is answered", before[:-STANDING] == whole, quietly=True)
-    for turn in range(options.kills):
+    case("the whole log is answered", before[:-STANDING] == whole)
+    for turn in range(pytestconfig.getoption("kills") or 20):
         path = os.path.join(folder, f"{turn}.tbl")
         position = 0
         for _ in range(3):
             begin = answers[position][0]
-            told, right = killed(options.kept, path, b"".join(items[position:]), whole[begin:], rng)
-            tried.case("what was sent is right", right, quietly=True)
-            answer, said = standing(options.kept, path)
-            if not tried.case("a start is answered", answer is not None, said, quietly=True):
+            told, right = killed(tbd, path, b"".join(items[position:]), whole[begin:], rng)
+            case("what was sent is right", right)
+            answer, said = standing(tbd, path)
+            if not case("a start is answered", answer is not None, said):
                 return
             found = struct.unpack_from("<Q", answer, 1)[0]
-            tried.case("no entry is lost", found >= position, quietly=True)
-            tried.case("the hashes are right", answer == answers[found][1], quietly=True)
-            tried.case(
+            case("no entry is lost", found >= position)
+            case("the hashes are right", answer == answers[found][1])
+            case(
                 "what was acknowledged is in the file",
                 begin + len(told) <= answers[found][0],
-                quietly=True,
             )
             position = found
         begin = answers[position][0]
-        status, output, _ = tried.ran(
-            [options.kept, "follow", path, CLIENTS], b"".join(items[position:])
-        )
+        status, output, _ = tried.ran([tbd, "follow", path, CLIENTS], b"".join(items[position:]))
         right = status == 0 and output == whole[begin:]
-        tried.case("the log goes on", right, quietly=True)
-    refused(options, folder, items)
+        case("the log goes on", right)
 
 
-def refused(options, folder, items):
+@pytest.mark.quick
+def test_refused(tbd, folder, rng):
     """Entries out of their turn, other rules and other files."""
-    path = os.path.join(folder, "0.tbl")
-    kept = options.kept
-    status, output, said = tried.ran([kept, "follow", path, CLIENTS], items[0])
-    tried.case("an entry again is refused", status == 2 and b"Repeat at 1" in said, said)
+    path, items = os.path.join(folder, "0.tbl"), items_of(rng)
+    tried.ran([tbd, "follow", path, CLIENTS], b"".join(items))
+    status, output, said = tried.ran([tbd, "follow", path, CLIENTS], items[0])
+    case("an entry again is refused", status == 2 and b"Repeat at 1" in said, said)
     path = os.path.join(folder, "new.tbl")
-    status, output, said = tried.ran([kept, "follow", path, CLIENTS], items[1])
+    status, output, said = tried.ran([tbd, "follow", path, CLIENTS], items[1])
     stands, made = b"tbd: has the log up to position 0\n", f"tbd: made {path}\n".encode()
     wanted = made + stands + b"tbd: Gap at 2\n"
-    tried.case("an entry too early is refused", status == 2 and said == wanted, said)
-    status, output, said = tried.ran([kept, "follow", path, CLIENTS], items[0])
-    tried.case("the first entry is taken", status == 0 and said == stands, said)
-    status, output, said = tried.ran([kept, "follow", path, "9"])
-    tried.case("other rules are refused", status == 7 and b"OtherRules" in said, said)
+    case("an entry too early is refused", status == 2 and said == wanted, said)
+    status, output, said = tried.ran([tbd, "follow", path, CLIENTS], items[0])
+    case("the first entry is taken", status == 0 and said == stands, said)
+    status, output, said = tried.ran([tbd, "follow", path, "9"])
+    case("other rules are refused", status == 7 and b"OtherRules" in said, said)
     with open(path, "r+b") as file:
         file.seek(100)
         byte = file.read(1)
         file.seek(100)
         file.write(bytes([byte[0] ^ 1]))
-    status, output, said = tried.ran([kept, "follow", path, CLIENTS])
-    tried.case("a damaged file is refused", status == 6, said)
-    status, output, said = tried.ran([kept, "follow", __file__, CLIENTS])
-    tried.case("another file is refused", status == 5, said)
-    status, output, said = tried.ran([kept, "follow", path])
-    tried.case("words that are wrong", status == 2 and b"Usage" in said, said)
-
-
-def main():
-    parser = tried.arguments(__doc__)
-    out = "crates/{0}/out/{0}"
-    parser.add_argument("--kept", default=os.path.join(ROOT, out.format("tbd")))
-    parser.add_argument("--followed", default=os.path.join(ROOT, out.format("tb_follow")))
-    parser.add_argument("--kills", type=tried.count, default=20)
-    parser.add_argument("--entries", type=tried.count, default=30)
-    parser.add_argument("--seed", type=int, default=1)
-    options = parser.parse_args()
-    tried.built(options.kept, options.followed)
-    rng = random.Random(options.seed)
-    with tempfile.TemporaryDirectory() as folder:
-        kills(options, folder, list(contents(options.entries, rng)), rng)
-    return tried.status()
-
-
-tried.main(main)
+    status, output, said = tried.ran([tbd, "follow", path, CLIENTS])
+    case("a damaged file is refused", status == 6, said)
+    status, output, said = tried.ran([tbd, "follow", __file__, CLIENTS])
+    case("another file is refused", status == 5, said)
+    status, output, said = tried.ran([tbd, "follow", path])
+    case("words that are wrong", status == 2 and b"Usage" in said, said)

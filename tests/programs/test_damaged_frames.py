@@ -1,34 +1,30 @@
-#!/usr/bin/env python3
-"""Damaged frames, scripts and dumps, through the readers and through the built program. First build
-both:
+"""Damaged frames, scripts and dumps, through the readers and through the built program.
 
-    (cd crates/tb_refusals && rt run -- take 2) < examples/first.script > /dev/null
-    (cd crates/tbs && rt run -- run 2) < examples/first.script > /dev/null
-    checks/damage.py [FRAMES [SEED]]
+    /usr/bin/python3 -m pytest tests/programs/test_damaged_frames.py [--frames N] [--seed N]
 
-FRAMES (20000 by default, 1000000 in the long form of docs/trust/TESTED.md) is how many damaged
-frames the readers are given, and how many the program is, in scripts and dumps. Bytes are flipped,
-cut off, put in and spliced; lengths, numbers, moments and commits go to their limits. A reader of
-the formats written here from docs/use/FORMATS.md and docs/use/RULES.md, apart from the crates, says
-what is right: the fault of each frame; and of each script and dump the status, the line of the
-fault, and of each reply all but the results. The program has room for one body as large as a header
-can claim, and no more; a signal, a minute's silence (CHECK_LONGER times as long) or another answer
-is a failure. Needs Linux.
+`--frames N` (20000, and 1000000 in the long form of docs/trust/TESTED.md) is how many damaged
+frames the readers are given (tb_refusals), and how many the program is (tbs), in scripts and dumps.
+Bytes are flipped, cut off, put in and spliced; lengths, numbers, moments and commits go to their
+limits. A reader of the formats written here from docs/use/FORMATS.md and docs/use/RULES.md, apart
+from the crates, says what is right: the fault of each frame; and of each script and dump the
+status, the line of the fault, and of each reply all but the results. The program has room for one
+body as large as a header can claim, and no more; a signal, a minute's silence (CHECK_LONGER times
+as long) or another answer is a failure. Needs Linux.
 """
-import os
+
 import random
 import resource
 import struct
 import subprocess
-import sys
+import tempfile
 import time
 
-sys.path.append(os.path.join(os.path.dirname(os.path.abspath(__file__)), "..", "tools"))
+import pytest
+import tried
 
-import tried  # noqa: E402
+from ..conftest import found
 
-TOP = os.path.dirname(os.path.dirname(os.path.abspath(__file__)))
-PROGRAM, READER = f"{TOP}/crates/tbs/out/tbs", f"{TOP}/crates/tb_refusals/out/tb_refusals"
+PROGRAM, READER = map(found, ("tbs", "tb_refusals"))
 SECONDS = 60 * tried.LONGER  # that one run may take
 MAX_TIME = 2**63 - 1
 ITEMS_MAX = 8190
@@ -514,8 +510,8 @@ def least_room():
         if status == 0:
             return kib
         if status is None:
-            sys.exit(f"the program does not answer a register in {kib} KiB")
-    sys.exit("the program does not serve a register in 64 MiB")
+            pytest.fail(f"the program does not answer a register in {kib} KiB")
+    return pytest.fail("the program does not serve a register in 64 MiB")
 
 
 def entries_of(entries, mark_above):
@@ -563,10 +559,9 @@ def one_run(chance, kib):
 
 def keep(given):
     """Writes down what was answered wrongly."""
-    name = f"{TOP}/checks/damage.{os.getpid()}.{time.monotonic_ns()}"
-    with open(name, "wb") as file:
+    with tempfile.NamedTemporaryFile(prefix="damage.", delete=False) as file:
         file.write(given)
-    return name
+    return file.name
 
 
 def through_program(chance, frames):
@@ -677,22 +672,33 @@ def through_readers(chance, frames):
     return failed
 
 
-def main():
-    parser = tried.arguments(__doc__)
-    parser.add_argument("frames", metavar="FRAMES", type=tried.count, nargs="?", default=20000)
-    parser.add_argument("seed", metavar="SEED", type=tried.count, nargs="?", default=1)
-    given = parser.parse_args()
-    tried.built(PROGRAM, READER)
-    frames = given.frames
-    print(f"seed {given.seed}")
-    chance, start = random.Random(given.seed), time.monotonic()
-    failed = read_worked() + through_readers(chance, frames) + through_program(chance, frames)
-    print(
-        f"{time.monotonic() - start:.0f} seconds; "
-        f"{'0 failed' if not failed else f'{failed} failed'}"
-    )
-    return 1 if failed else 0
+@pytest.fixture
+def chance(pytestconfig):
+    return random.Random(pytestconfig.getoption("seed"))
 
 
-if __name__ == "__main__":
-    tried.main(main)
+@pytest.fixture
+def count(pytestconfig):
+    return pytestconfig.getoption("frames")
+
+
+@pytest.mark.slow
+def test_worked_frames(program):
+    program("tb_refusals")
+    assert read_worked() == 0
+
+
+@pytest.mark.slow
+def test_damaged_frames_through_readers(program, chance, count):
+    program("tb_refusals")
+    assert through_readers(chance, count) == 0
+
+
+@pytest.mark.slow
+def test_damaged_frames_through_the_program(tbs, chance, count):
+    assert through_program(chance, count) == 0
+
+
+@pytest.mark.quick
+def test_a_few_damaged_frames_through_the_program(tbs, chance):
+    assert through_program(chance, 200) == 0

@@ -1,0 +1,42 @@
+"""What the tests over ledgers' files share."""
+
+import os
+import random
+import subprocess
+import tempfile
+from pathlib import Path
+
+import pytest
+import tried
+
+
+@pytest.fixture
+def folder():
+    """A folder that other users can reach too."""
+    with tempfile.TemporaryDirectory() as made:
+        os.chmod(made, 0o755)
+        yield made
+
+
+@pytest.fixture
+def rng(pytestconfig):
+    return random.Random(pytestconfig.getoption("seed"))
+
+
+@pytest.fixture
+def counted(capsys):
+    """A test's cases: some were tried, and all hold."""
+    tried.passed = tried.failed = 0
+    yield
+    with capsys.disabled():
+        print(f" {tried.passed} cases", end="", flush=True)
+    assert tried.passed and not tried.failed, f"{tried.failed} cases failed"
+
+
+@pytest.fixture(scope="session")
+def shim(tmp_path_factory):
+    """The library that lets a program's calls fail or lie, and writes them down. Wants gcc."""
+    made = tmp_path_factory.mktemp("shim") / "shim.so"
+    words = ["gcc", "-O1", "-Wall", "-Wextra", "-shared", "-fPIC", "-o", made]
+    subprocess.run([*words, Path(__file__).parent / "shim.c"], check=True)
+    return str(made)
