@@ -1,6 +1,6 @@
 -- Which words ask for a form over a log.
 -- Cited by public contracts of: arguments.
-use Rattle.std.specs.Prelude.{ℕ, Bool, true, ◌≡◌, List, [], ◌∷◌, Option, Some, None, codes, nat_eq, if◌then◌else◌, refl}
+use Rattle.std.specs.Prelude.{ℕ, Bool, true, false, ◌≡◌, List, [], ◌∷◌, Option, Some, None, codes, nat_eq, if◌then◌else◌, refl}
 use Rattle.std.specs.Cmp.Lexicographic.{pointwise}
 use Rattle.tb_records.specs.declared.limits.Profile.{Profile}
 use Rattle.tb_records.specs.declared.limits.Profile.TheVariants.{One, Two}
