@@ -137,21 +137,20 @@ def record(table, name):
         *wrapped(f"_{name.upper()} = {{{ranges}}}"),
         "",
         "",
-        "@dataclasses.dataclass",
+        "@dataclasses.dataclass(init=False)",
         f"class {kind}:",
     ]
-    for field in sorted(fields, key=lambda it: it["name"] == "reserved"):
-        is_flags = field["name"] == "flags"
-        what = f"{flags} = {flags}.NONE" if is_flags else "int = 0"
+    ordered = sorted(fields, key=lambda it: it["name"] == "reserved")
+    for field in ordered:
         unit = f"  # {field['unit']}" if "unit" in field else ""
-        lines.append(f"    {field['name']}: {what}{unit}")
+        lines.append(f"    {typed(field, flags)}{unit}")
     wide = ", ".join(f"self.{it['name']}" for it in fields if it["type"] == "u128")
     narrow = ", ".join(f"self.{it['name']}" for it in fields if it["type"] != "u128")
     settle = f"_settle(self, _{name.upper()}, {flags})"
     lines += [
         "",
-        "    def __post_init__(self) -> None:",
-        f"        {settle}",
+        *made(ordered, flags),
+        f"            {settle}",
         "",
         "    def to_bytes(self) -> bytes:",
         f"        {settle}  # again, since it may have been changed",
@@ -165,6 +164,31 @@ def record(table, name):
         "",
     ]
     return "\n".join(lines)
+
+
+def typed(field, flags):
+    """A field with its type and its default."""
+    is_flags = field["name"] == "flags"
+    return f"{field['name']}: {flags} = {flags}.NONE" if is_flags else f"{field['name']}: int = 0"
+
+
+def made(fields, flags):
+    """The beginning of a record's `__init__`, up to what it does if not all fields are plain
+    integers in range: one out of range leaves a bit above those of its width, also if negative."""
+    numbers = [it["name"] for it in fields if it["name"] != "flags"]
+    lines = ["    def __init__(", "        self,"]
+    lines += [f"        {typed(it, flags)}," for it in fields]
+    lines += ["    ) -> None:"]
+    lines += [f"        self.{it['name']} = {it['name']}" for it in fields]
+    lines += ["        if not (  # a number out of range leaves a bit above those of its width"]
+    lines += wrapped(f"            {{{', '.join(f'type({it})' for it in numbers)}}}")
+    lines += [f"            == INTEGER and type(flags) is {flags}"]
+    for bits, most in ((16, 1), (32, 3), (64, 2), (128, 3)):
+        names = [it["name"] for it in fields if it["type"] == f"u{bits}"]
+        for at in range(0, len(names), most):
+            joined = " | ".join(names[at : at + most])
+            lines += [f"            and not {f'({joined})' if most > 1 else joined} >> {bits}"]
+    return [*lines, "        ):"]
 
 
 def wrapped(line, width=100):

@@ -10,6 +10,7 @@ from .names import AccountFlags, CreateAccountResult, CreateTransferResult, Tran
 from .errors import InvalidType, InvalidValue
 from .values import U16, U32, U64, U128, kind_of, viewed, whole
 
+INTEGER = {int}
 Flags = TypeVar("Flags", AccountFlags, TransferFlags)
 Record = TypeVar("Record", "Account", "Transfer")
 
@@ -65,7 +66,7 @@ _ACCOUNT = {
 }
 
 
-@dataclasses.dataclass
+@dataclasses.dataclass(init=False)
 class Account:
     id: int = 0
     debits_pending: int = 0
@@ -81,8 +82,50 @@ class Account:
     timestamp: int = 0  # nanoseconds
     reserved: int = 0
 
-    def __post_init__(self) -> None:
-        _settle(self, _ACCOUNT, AccountFlags)
+    def __init__(
+        self,
+        id: int = 0,
+        debits_pending: int = 0,
+        debits_posted: int = 0,
+        credits_pending: int = 0,
+        credits_posted: int = 0,
+        user_data_128: int = 0,
+        user_data_64: int = 0,
+        user_data_32: int = 0,
+        ledger: int = 0,
+        code: int = 0,
+        flags: AccountFlags = AccountFlags.NONE,
+        timestamp: int = 0,
+        reserved: int = 0,
+    ) -> None:
+        self.id = id
+        self.debits_pending = debits_pending
+        self.debits_posted = debits_posted
+        self.credits_pending = credits_pending
+        self.credits_posted = credits_posted
+        self.user_data_128 = user_data_128
+        self.user_data_64 = user_data_64
+        self.user_data_32 = user_data_32
+        self.ledger = ledger
+        self.code = code
+        self.flags = flags
+        self.timestamp = timestamp
+        self.reserved = reserved
+        if not (  # a number out of range leaves a bit above those of its width
+            {
+                type(id), type(debits_pending), type(debits_posted), type(credits_pending),
+                type(credits_posted), type(user_data_128), type(user_data_64), type(user_data_32),
+                type(ledger), type(code), type(timestamp), type(reserved),
+            }
+            == INTEGER and type(flags) is AccountFlags
+            and not code >> 16
+            and not flags >> 16
+            and not (user_data_32 | ledger | reserved) >> 32
+            and not (user_data_64 | timestamp) >> 64
+            and not (id | debits_pending | debits_posted) >> 128
+            and not (credits_pending | credits_posted | user_data_128) >> 128
+        ):
+            _settle(self, _ACCOUNT, AccountFlags)
 
     def to_bytes(self) -> bytes:
         _settle(self, _ACCOUNT, AccountFlags)  # again, since it may have been changed
@@ -110,7 +153,7 @@ _TRANSFER = {
 }
 
 
-@dataclasses.dataclass
+@dataclasses.dataclass(init=False)
 class Transfer:
     id: int = 0
     debit_account_id: int = 0
@@ -126,8 +169,50 @@ class Transfer:
     flags: TransferFlags = TransferFlags.NONE
     timestamp: int = 0  # nanoseconds
 
-    def __post_init__(self) -> None:
-        _settle(self, _TRANSFER, TransferFlags)
+    def __init__(
+        self,
+        id: int = 0,
+        debit_account_id: int = 0,
+        credit_account_id: int = 0,
+        amount: int = 0,
+        pending_id: int = 0,
+        user_data_128: int = 0,
+        user_data_64: int = 0,
+        user_data_32: int = 0,
+        timeout: int = 0,
+        ledger: int = 0,
+        code: int = 0,
+        flags: TransferFlags = TransferFlags.NONE,
+        timestamp: int = 0,
+    ) -> None:
+        self.id = id
+        self.debit_account_id = debit_account_id
+        self.credit_account_id = credit_account_id
+        self.amount = amount
+        self.pending_id = pending_id
+        self.user_data_128 = user_data_128
+        self.user_data_64 = user_data_64
+        self.user_data_32 = user_data_32
+        self.timeout = timeout
+        self.ledger = ledger
+        self.code = code
+        self.flags = flags
+        self.timestamp = timestamp
+        if not (  # a number out of range leaves a bit above those of its width
+            {
+                type(id), type(debit_account_id), type(credit_account_id), type(amount),
+                type(pending_id), type(user_data_128), type(user_data_64), type(user_data_32),
+                type(timeout), type(ledger), type(code), type(timestamp),
+            }
+            == INTEGER and type(flags) is TransferFlags
+            and not code >> 16
+            and not flags >> 16
+            and not (user_data_32 | timeout | ledger) >> 32
+            and not (user_data_64 | timestamp) >> 64
+            and not (id | debit_account_id | credit_account_id) >> 128
+            and not (amount | pending_id | user_data_128) >> 128
+        ):
+            _settle(self, _TRANSFER, TransferFlags)
 
     def to_bytes(self) -> bytes:
         _settle(self, _TRANSFER, TransferFlags)  # again, since it may have been changed
