@@ -7,8 +7,8 @@ what the clients' pages show.
 
 The parts are one for each language that has a clients/*/conformance.json (its build, its tests,
 the kit, and the money), wrong (the wrong clients of each language, which the kit has to catch),
-scenarios (those that are there are those that are made), types, examples (on the built tbs) and
-pages (what the page shows). A language that is not installed is passed over by name.
+scenarios (those that are there are those that are made), types, embedded (the tests of the server's
+module in Python) and pages (what the page shows). A language that is not installed is passed over.
 Prints a line for each case, and 'N passed, M failed'. PROGRAM names another tbs, TBD another tbd.
 Where no tbd is built, clients/python/tests/stand_in_tbd.py is in its place. Where mypy is not
 there, no types are checked.
@@ -44,19 +44,6 @@ INTERRUPTED = 10  # seconds that one may take to end after Ctrl-C
 KEEPER = shlex.join(
     [TBD] if os.access(TBD, os.X_OK) else [sys.executable, "-SE", f"{CLIENT}/tests/stand_in_tbd.py"]
 )
-EXAMPLE = """accounts 1 and 2 are created
-a transfer of 100 was sent, and no reply came
-after a crash the same bytes are sent again: credits_posted 100
-after an eviction the same records are created again: credits_posted 110
-after a restart: credits_posted 110
-"""
-KILLS = """  the server is killed: the listener starts it again
-  a client is killed: it goes on from what it saved
-  the listener is killed: its server ends with it, and both are started again
-  4 clients made 60 transfers each: credits_posted 240
-  the listener is asked to end, and ends with status 0
-"""
-OVER_SOCKETS = f"on a Unix socket:\n{KILLS}on a port:\n{KILLS}"
 
 
 def ran(words, folder=TOP, **more):
@@ -81,7 +68,7 @@ def ran(words, folder=TOP, **more):
 
 
 def python(*words, folder=CLIENT):
-    return ran([sys.executable, "-B", *words], folder, PYTHONPATH=f"{CLIENT}/src:{EMBED}")
+    return ran([sys.executable, "-B", *words], folder, PYTHONPATH=f"{CLIENT}/src:{CLIENT}/tests")
 
 
 def tests(name, folder):
@@ -107,8 +94,7 @@ def types():
             "--strict",
             "--cache-dir",
             kept,
-            "src/tb_client",
-            f"{TOP}/apps/host/src/tb_host",
+            "--follow-imports=silent",  # packages are checked by their own settings
             "conformance_runner.py",
             "examples/program.py",
             "examples/sockets.py",
@@ -345,13 +331,8 @@ def scenarios():
     tests("the tests of the kit's words", f"{TOP}/clients/conformance")
 
 
-def examples():
-    tried.built(PROGRAM)
+def embedded():
     tests("the tests of the embedded server's module", EMBED)
-    output = script("the example of the client in Python", CLIENT, "examples/program.py", PROGRAM)
-    case("what the example says", output == EXAMPLE, "" if output == EXAMPLE else output)
-    output = script("the example over sockets", CLIENT, "examples/sockets.py", KEEPER)
-    case("what that says", output == OVER_SOCKETS, "" if output == OVER_SOCKETS else output)
 
 
 def pages():
@@ -366,7 +347,7 @@ def main():
     parts = {
         "scenarios": scenarios,
         "types": types,
-        "examples": examples,
+        "embedded": embedded,
         "pages": pages,
         "wrong": wrong,
     }

@@ -15,7 +15,7 @@ import platform
 import ssl
 import sys
 import threading
-from typing import Any, Callable, Dict, Iterator, List, Optional, Tuple
+from typing import TYPE_CHECKING, Any, Callable, Dict, Iterator, List, Optional, Tuple
 
 sys.path.insert(0, os.path.join(os.path.dirname(os.path.abspath(__file__)), "src"))
 
@@ -160,7 +160,8 @@ class Ended(Exception):
         self.answer = answer
 
 
-Begun = "concurrent.futures.Future[Any]"
+if TYPE_CHECKING:
+    Begun = concurrent.futures.Future[Any]
 LEFT = (asyncio.CancelledError, asyncio.TimeoutError, concurrent.futures.CancelledError)
 
 

@@ -209,7 +209,7 @@ def work_amid_kills(
 
     listening.process.terminate()
     status, said = listening.ended()
-    assert status == 0, f"the listener did not end well: {said}"
+    assert status == 0 and "has stopped: Stopping" in said, "the listener did not end well"
     print("  the listener is asked to end, and ends with status 0")
 
 

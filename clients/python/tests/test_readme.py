@@ -1,14 +1,15 @@
 #!/usr/bin/env python3
-"""The programs of this client's README, as they are printed, over tbs and a listener."""
+"""The programs of this client's README, as they are printed, and its examples, over tbs and a
+listener."""
 import os
+import shlex
 import re
 import subprocess
 import sys
 import tempfile
-import textwrap
 import unittest
 
-from paths import CLIENT, PYTHONPATH
+from paths import CLIENT, EXAMPLES, PYTHONPATH, STAND_IN
 from test_listen import Running
 from test_tb_client import PROGRAM, has_program
 
@@ -30,6 +31,20 @@ MEANWHILE = "\nrequire_ok(first.create_transfers([Transfer(id(), 1, 2, 5, ledger
 EVICT = "\nfor _ in range(2):\n    Session.register(transport)\n"
 END = "\nprint(session.lookup_accounts([2])[0].credits_posted)\ntransport.close()\n"
 
+EXAMPLE = """accounts 1 and 2 are created
+a transfer of 100 was sent, and no reply came
+after a crash the same bytes are sent again: credits_posted 100
+after an eviction the same records are created again: credits_posted 110
+after a restart: credits_posted 110
+"""
+KILLS = """  the server is killed: the listener starts it again
+  a client is killed: it goes on from what it saved
+  the listener is killed: its server ends with it, and both are started again
+  4 clients made 60 transfers each: credits_posted 240
+  the listener is asked to end, and ends with status 0
+"""
+OVER_SOCKETS = f"on a Unix socket:\n{KILLS}on a port:\n{KILLS}"
+
 
 def blocks():
     with open(os.path.join(CLIENT, "README.md"), encoding="utf-8") as readme:
@@ -37,11 +52,11 @@ def blocks():
 
 
 class Readme(unittest.TestCase):
-    def ran(self, program):
+    def ran(self, *words):
         """What a program prints, in a folder of its own."""
         with tempfile.TemporaryDirectory() as folder:
             ran = subprocess.run(
-                [sys.executable, "-B", "-c", textwrap.dedent(program)],
+                [sys.executable, "-B", *words],
                 cwd=folder,
                 env={**os.environ, "PYTHONPATH": PYTHONPATH},
                 capture_output=True,
@@ -53,12 +68,13 @@ class Readme(unittest.TestCase):
 
     @has_program
     def test_the_first_program(self):
-        said = self.ran(blocks()[0].replace("../../crates/tbs/out/tbs", PROGRAM))
+        said = self.ran("-c", blocks()[0].replace("../../crates/tbs/out/tbs", PROGRAM))
         self.assertEqual(said.count("posted=100"), 2)
 
     def test_the_client_that_callers_share(self):
         with Running() as listener:
-            self.assertEqual(self.ran(blocks()[1].replace("3001", listener.path)), "[10]\n")
+            said = self.ran("-c", blocks()[1].replace("3001", listener.path))
+        self.assertEqual(said, "[10]\n")
 
     @has_program
     def test_a_crash_and_an_eviction(self):
@@ -66,8 +82,15 @@ class Readme(unittest.TestCase):
         while a sale is in doubt."""
         sale, crash, lookup, eviction = blocks()[2:6]
         lives = [crash, lookup, SHOW, MEANWHILE, crash, lookup, SHOW, IN_DOUBT, EVICT, eviction]
-        said = self.ran("".join([BEGIN, sale, IN_DOUBT, *lives, END]))
+        said = self.ran("-c", "".join([BEGIN, sale, IN_DOUBT, *lives, END]))
         self.assertEqual(said, "110\n115\n125\n")
+
+    @has_program
+    def test_the_example(self):
+        self.assertEqual(self.ran(f"{EXAMPLES}/program.py", PROGRAM), EXAMPLE)
+
+    def test_the_example_over_sockets(self):
+        self.assertEqual(self.ran(f"{EXAMPLES}/sockets.py", shlex.join(STAND_IN)), OVER_SOCKETS)
 
 
 if __name__ == "__main__":
