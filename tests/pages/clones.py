@@ -3,6 +3,7 @@ the blocks of pages."""
 
 import os
 import re
+import shutil
 import signal
 import subprocess
 import time
@@ -17,6 +18,7 @@ RT = """#!/bin/sh
 case $1 in
 run) shift 2; exec ./out/"$(basename "$PWD")" "$@" ;;
 lib) test -e out/lib"$(basename "$PWD")".a ;;
+doc) exec {rt} doc ;;
 *) exit 9 ;;
 esac
 """
@@ -43,7 +45,7 @@ class Clone:
             (folder / name).symlink_to(ROOT / name)
         commands = folder / "bin"
         commands.mkdir()
-        (commands / "rt").write_text(RT)
+        (commands / "rt").write_text(RT.format(rt=shutil.which("rt")))
         (commands / "rt").chmod(0o755)
         self.env = {**os.environ, "PATH": f"{commands}:{os.environ['PATH']}"}
         self.env["PYTHONPATH"] = str(ROOT / "clients/python/src")
