@@ -1,29 +1,23 @@
 """The lines that pages show are run over the built programs, and print what the pages show.
 
-Blocks of other pages are run elsewhere: those of TELOVAMISH in apps/telovamish/tests, of OPERATING
-over installed packages by packaging/try, and those of the clients' pages by their own tests.
+Those that take a minute are in test_long_blocks.py. Blocks of other pages are run elsewhere: those
+of TELOVAMISH in apps/telovamish/tests, of OPERATING over installed packages by packaging/try, and
+those of the clients' pages by their own tests.
 """
 
 import argparse
 import json
-import os
 import re
 import shlex
 import sqlite3
-from pathlib import Path
 
 import pytest
 
 from ..conftest import ROOT
-from .clones import Clone, blocks, lines, until
+from .clones import blocks, lines, until
 
 pytestmark = pytest.mark.quick
 PLACE = {"LOG": "etcd://m1/ledger", "POSITION": "7", "..": "-- tb_script run 64"}
-
-
-@pytest.fixture
-def clone(tmp_path, program):
-    return Clone(tmp_path, program)
 
 
 def test_the_statements_of_readme_are_those_of_the_example():
@@ -54,26 +48,6 @@ def test_the_lines_of_tbd(clone):
     printed = clone.run(twice.replace("/tmp/", f"{clone.folder}/"), made).splitlines()
     half = len(printed) // 2
     assert half and printed[:half] == printed[half:]
-
-
-@pytest.mark.slow
-def test_money_over_sockets(clone):
-    clone.build("tbd")
-    line = lines(blocks("docs/use/TBD.md", "sh")[0])[2]
-    assert "credits_posted 240" in clone.run(f"{line} {clone.program('tbd')}")
-
-
-@pytest.mark.slow
-def test_the_lines_of_embedding(clone):
-    """Over the library that `rt lib` makes in crates/tb_embed, or that TB_EMBED_A names."""
-    made = Path(os.environ.get("TB_EMBED_A", ROOT / "crates/tb_embed/out/libtb_embed.a"))
-    assert made.exists(), "no library: `rt lib` in crates/tb_embed, or set TB_EMBED_A"
-    out = clone.folder / "crates/tb_embed/out"
-    out.mkdir(parents=True)
-    (out / made.name).symlink_to(made)
-    (block,) = blocks("docs/use/EMBEDDING.md", "sh")
-    (printed,) = blocks("docs/use/EMBEDDING.md", "text")
-    assert clone.run(f"set -e\n{block}") == 2 * printed
 
 
 def test_the_listener_and_a_client(clone):
