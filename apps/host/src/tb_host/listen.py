@@ -64,7 +64,7 @@ async def listen(given: argparse.Namespace) -> None:
 
 def words(given: Sequence[str]) -> argparse.Namespace:
     """The words of the command line. A wrong one is told, and ends the program with status 2."""
-    usage = "%(prog)s [OPTIONS] -- COMMAND [WORD ..]"
+    usage = "tb-listen [OPTIONS] -- COMMAND [WORD ..]"
     parser = argparse.ArgumentParser(
         prog="tb_listen",
         usage=usage,
