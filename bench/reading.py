@@ -8,17 +8,15 @@ apps/telovamish/telovamish (TELOVAMISH names another); for the pages, Flask. Scr
 transfers (1,000,000) between 10,000 accounts are made from a seed; --work FOLDER keeps them.
 
 CPU seconds, the best of --turns runs (2): of an audit, whose events a CPU second are marked with
-'<' below their bound (25,000). Seconds of one `tb-sql load` (30,000 events a second at least), with
-the memory of its largest process, and of one `tb-sql check` (120); the milliseconds of pages (200),
-the best of five.
+'<' below their bound (25,000). Seconds of one `tb-sql load` (30,000 events a second at least)
+and of one `tb-sql check` (120), with the CPU seconds and the memory (200 MiB) of tb-sql itself,
+without the replay; the milliseconds of pages (200), the best of five.
 """
 import contextlib
 import json
 import os
 import pathlib
-import resource
 import subprocess
-import time
 
 import measure
 import tried
@@ -27,9 +25,19 @@ from measure import TBS, whole
 TOP = pathlib.Path(__file__).resolve().parent.parent
 PYTHON = "/usr/bin/python3"
 TELOVAMISH = os.environ.get("TELOVAMISH", str(TOP / "apps/telovamish/telovamish"))
-TB_SQL = [PYTHON, "-B", str(TOP / "apps/books/tb-sql")]
 FOLDERS = ("apps/books/src", "apps/telovamish/src", "clients/python/src")
-LOAD_LEAST, CHECK_MOST, PAGE_MOST = 30_000, 120, 200
+LOAD_LEAST, CHECK_MOST, PAGE_MOST, MEMORY_MOST = 30_000, 120, 200, 200
+# runs tb-sql, and prints its seconds, its CPU seconds and its MiB, without those of other programs
+COMMAND = """
+import json, resource, sys, time
+from tb_sql.commands import main
+began = time.monotonic()
+status = main(sys.argv[1:])
+used = resource.getrusage(resource.RUSAGE_SELF)
+taken = [time.monotonic() - began, used.ru_utime + used.ru_stime, used.ru_maxrss / 1024]
+print(json.dumps(taken))
+sys.exit(status)
+"""
 PAGES = """
 import json, sys, time
 from tb_sql.pages.server import make_app
@@ -66,31 +74,41 @@ def audit(load, size, turns, folder):
     print(f"{load}: audit {best:.2f} s, {below}{speed:,} events a second", flush=True)
 
 
-def tables(load, size, turns, folder):
+def told(program, *words, **more):
+    """The last line that a program in Python prints, as JSON."""
+    packages = ":".join(str(TOP / it) for it in FOLDERS)
+    ran = subprocess.run(
+        [PYTHON, "-B", "-c", program, *words],
+        env={**os.environ, "PYTHONPATH": packages},
+        stdout=subprocess.PIPE,
+        check=True,
+        **more,
+    )
+    return json.loads(ran.stdout.splitlines()[-1])
+
+
+def tables(load, size, folder):
     """Loads a dump into SQLite, and prints what that, its check and its readers cost."""
     script = measure.make_script(folder, load, size, ACCOUNTS)
     dump, path = os.path.join(folder, "dump"), os.path.join(folder, "ledger.sqlite")
     whole([TBS, "dump", "64"], script, dump)
     with contextlib.suppress(FileNotFoundError):
         os.remove(path)
-    began = time.monotonic()
     with open(dump, "rb") as input:
-        subprocess.run([*TB_SQL, "load", path, "--quiet", "--tbs", TBS], stdin=input, check=True)
-    took = time.monotonic() - began
-    used = resource.getrusage(resource.RUSAGE_CHILDREN).ru_maxrss / 1024
+        took, *used = told(COMMAND, "load", path, "--quiet", "--tbs", TBS, stdin=input)
     speed = round((size + ACCOUNTS) / took)
     below = "" if speed >= LOAD_LEAST else "<"
-    print(f"tb-sql load: {took:.1f} s, {below}{speed:,} events a second, {used:,.0f} MiB")
-    began = time.monotonic()
-    subprocess.run([*TB_SQL, "check", path], stdout=subprocess.DEVNULL, check=True)
-    print(f"tb-sql check: {marked(time.monotonic() - began, CHECK_MOST, ' s')}", flush=True)
-    page = [PYTHON, "-B", "-c", PAGES, path, "/", "/accounts?sort=balance", "/account/1"]
-    packages = ":".join(str(TOP / it) for it in FOLDERS)
-    ran = subprocess.run(
-        page, env={**os.environ, "PYTHONPATH": packages}, stdout=subprocess.PIPE, check=True
-    )
-    for name, took in json.loads(ran.stdout).items():
+    print(f"tb-sql load: {took:.1f} s, {below}{speed:,} events a second, {costs(*used)}")
+    took, *used = told(COMMAND, "check", path)
+    print(f"tb-sql check: {marked(took, CHECK_MOST, ' s')}, {costs(*used)}", flush=True)
+    pages = told(PAGES, path, "/", "/accounts?sort=balance", "/account/1", "/transfers")
+    for name, took in pages.items():
         print(f"the page {name}: {marked(took, PAGE_MOST, ' ms')}")
+
+
+def costs(seconds, memory):
+    """What tb-sql itself took, without the replay."""
+    return f"CPU {seconds:.1f} s, {marked(memory, MEMORY_MOST, ' MiB')}"
 
 
 def measure_all(size, turns, folder):
@@ -98,7 +116,7 @@ def measure_all(size, turns, folder):
     tried.built(TBS, TELOVAMISH)
     for load in LOADS:
         audit(load, size, turns, folder)
-    tables(LOADS[0], size, turns, folder)
+    tables(LOADS[0], size, folder)
 
 
 def main():

@@ -17,7 +17,7 @@ from telovamish.streams import Entry
 from telovamish.words import RESULTS, SECOND
 
 from .errors import AGAIN, Refused
-from .numbers import HISTORY, PENDING, POST, VOID, Number, held
+from .numbers import HISTORY, INTEGER_END, PENDING, POST, VOID, Number, held
 
 Row = List[Any]
 Found = Optional[Sequence[Any]]  # a row that a database answers
@@ -259,31 +259,21 @@ class Rows:
         else:
             if flags & POST:
                 self._end_by(it, "posted")
-            self._post(debited, timestamp, id, credit, amount, 0)
-            self._post(credited, timestamp, id, debit, 0, amount)
+            self._post(debited, debit, timestamp, (id, credit, amount, 0))
+            self._post(credited, credit, timestamp, (id, debit, 0, amount))
         for account in (debited, credited):
             if account.flags & HISTORY:
                 sums = map(held, sums_of(account))
                 self.changes.balances.append((held(account.id), timestamp, *sums))
 
-    def _post(
-        self, of: Account, timestamp: int, id: Number, other: Number, debit: Number, credit: Number
-    ) -> None:
+    def _post(self, of: Account, account: Number, timestamp: int, made: Tuple[Any, ...]) -> None:
+        """Posts to an account what a transfer made: its id, the counterparty, debit and credit."""
         debits, credits = of.debits_posted, of.credits_posted
-        self.changes.postings.append(
-            (
-                held(of.id),
-                timestamp,
-                self._count(of.id),
-                id,
-                other,
-                debit,
-                credit,
-                held(debits),
-                held(credits),
-                held(debits - credits),
-            )
-        )
+        sums: Tuple[Number, ...] = (debits, credits, debits - credits)
+        if debits >= INTEGER_END or credits >= INTEGER_END:
+            sums = tuple(map(held, (debits, credits, debits - credits)))
+        count = self._count(of.id)
+        self.changes.postings.append((account, timestamp, count, *made, *sums))
 
     def _count(self, account: int) -> int:
         count = self._postings.get(account, 0) + 1

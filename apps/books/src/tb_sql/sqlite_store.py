@@ -2,6 +2,7 @@
 
 from __future__ import annotations
 
+import operator
 import os
 import pathlib
 import sqlite3
@@ -11,7 +12,7 @@ from .errors import Failed, Refused
 from .rows import Changes, Position
 from .schema import SCHEMA, TABLES, columns, sqlite_schema
 
-CACHE_KIB = 131_072
+CACHE_KIB = 81_920
 PATIENCE = 30.0  # seconds, for another process that writes
 
 
@@ -151,8 +152,8 @@ class SqliteStore:
         self._insert("accounts", changes.accounts)
         self._insert("transfers", changes.transfers)
         # in the order of their keys, so that neighbours are written together
-        self._insert("postings", sorted(changes.postings, key=_key_of))
-        self._insert("balances", sorted(changes.balances, key=_key_of))
+        self._insert("postings", by_key(changes.postings))
+        self._insert("balances", by_key(changes.balances))
         self._insert("refused", changes.refused)
         self._connection.executemany(
             "UPDATE accounts SET debits_pending = ?, debits_posted = ?, credits_pending = ?,"
@@ -194,8 +195,12 @@ class SqliteStore:
         self._connection.executemany(f"INSERT INTO {table} VALUES ({places})", rows)
 
 
-def _key_of(posting: Sequence[Any]) -> Tuple[bool, Any, int]:
-    return isinstance(posting[0], str), posting[0], posting[1]
+def by_key(rows: Sequence[Sequence[Any]]) -> List[Sequence[Any]]:
+    """Rows of accounts in the order of their keys."""
+    try:
+        return sorted(rows, key=operator.itemgetter(0, 1))
+    except TypeError:  # the ids of some are texts
+        return sorted(rows, key=lambda it: (isinstance(it[0], str), it[0], it[1]))
 
 
 def contents(connection: sqlite3.Connection) -> List[Tuple[str, List[Any]]]:
