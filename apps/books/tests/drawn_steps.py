@@ -37,20 +37,34 @@ def drawn(seed, events=60):
     ]
 
 
+SUMS = ("debits_pending", "debits_posted", "credits_pending", "credits_posted")
+
+
+def sums_of_ledgers(accounts):
+    """The number of each ledger, how many accounts it has, and their four sums."""
+    found = {}
+    for it in accounts:
+        before = found.get(it.ledger, [it.ledger, 0, 0, 0, 0, 0])
+        sums = [0, 1, *(getattr(it, name) for name in SUMS)]
+        found[it.ledger] = [one + other for one, other in zip(before, sums)]
+    return [found[it] for it in sorted(found)]
+
+
 class Plain:
-    """A history as lists: accounts, transfers, and the sums after each transfer."""
+    """A history as lists: accounts, transfers, the sums after each transfer, and those of each
+    ledger after each entry, by its time."""
 
     def __init__(self, steps):
-        self.transfers, self.times, self.balances = [], [], []
+        self.transfers, self.trials, self.balances = [], {}, []
         ledger = Ledger(1)
         for item, reply in steps:
             if isinstance(item, Head):
                 ledger = Ledger(item.clients_max)
             elif reply is not None:
-                self.times.append(item.time)
                 for fact in ledger.enter(item, reply):
                     if isinstance(fact, Event) and not fact.result:
                         self.enter(ledger, fact.record)
+                self.trials[item.time] = sums_of_ledgers(ledger.accounts.values())
         self.accounts = sorted(ledger.accounts.values(), key=lambda it: it.timestamp)
         self.history = {it.id for it in self.accounts if it.flags & 8}
 

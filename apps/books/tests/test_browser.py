@@ -352,6 +352,10 @@ class Browser(unittest.TestCase):
             self.size(*height)
             self.open(address)
             self.driver.save_screenshot(str(pathlib.Path(folder) / f"{name}.png"))
+        self.driver.execute_cdp_cmd("Emulation.setEmulatedMedia", {"media": "print"})
+        self.size(A4, 700)
+        self.open(f"/account/{BANK}/2026-10")
+        self.driver.save_screenshot(str(pathlib.Path(folder) / "books-paper.png"))
 
 
 if __name__ == "__main__":
