@@ -60,6 +60,22 @@ class Asking(Tables):
         self.assertEqual([it["id"] for it in found["results"]], ["12"])
         self.assertEqual(found["results"][0]["amount"], "125")
 
+    def test_dates(self):
+        """A timestamp as a date; the last one has its whole day."""
+        for words, count in (
+            (["timestamp_min=2026-09-21", "timestamp_max=2026-09-21"], 2),
+            (["timestamp_max=2026-09-20"], 0),
+            (["timestamp_min=2026-09-22"], 0),
+            (["timestamp_min=2026-09-21T14:13:20.000000006Z"], 1),
+            (["timestamp_max=2026-09-21T14:13:20.000000005Z"], 1),
+            (["limit=0x1"], 1),
+        ):
+            with self.subTest(words):
+                said = self.ask("query_transfers", *words)[1].splitlines()[-1]
+                self.assertEqual(said.split()[0], str(count))
+        said = self.ask("get_account_transfers", "account_id=1", "flags=debits|reversed")[1]
+        self.assertTrue(said.endswith("1 row, at commit 3\n"), said)
+
     def test_no_rows(self):
         for words in (["limit=0"], ["code=11"]):
             self.assertEqual(self.ask("query_transfers", *words), (0, "0 rows, at commit 3\n", ""))
@@ -70,6 +86,9 @@ class Asking(Tables):
             (["limit=1", "limit=2"], "'limit=2' is no field of its own"),
             (["colour=1"], "query_accounts has no field colour"),
             (["limit=-1"], "limit is a number from 0"),
+            (["limit=2026-09-21"], "limit is a number from 0 to 4294967295, and not '2026-09-21'"),
+            (["timestamp_min=2026-13-01"], "or a date in UTC, and not '2026-13-01'"),
+            (["timestamp_max=9999-01-01"], "timestamp_max is a number from 0 to"),
             (["flags=debits"], "no flag 'debits'"),
         ):
             status, out, said = self.ask("query_accounts", *words)
