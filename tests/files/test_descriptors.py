@@ -19,6 +19,7 @@ ROOT = Path(__file__).resolve().parent.parent.parent
 SCRIPT = ROOT / "examples/first.script"
 LOG = ROOT / "crates/tb_follow/stdin"
 TORN = b"\xff" * 5  # no block: a write that a crash cut off
+EMPTY = b"TBJRNL02" + bytes((90, 195, 150, 105))  # a journal without a record
 SECONDS = 60
 CLOSED = [them for count in (0, 1, 2, 3) for them in itertools.combinations(range(3), count)]
 # each form: its words, its input, and whether it writes to standard output. Without an input it
@@ -79,9 +80,10 @@ def fixture_made(program, tmp_path_factory):
 
 
 def is_whole(tbd, folder, name):
-    """Whether a file is a ledger or a log to its end."""
-    words = [tbd, "check", name] if b"TBK1" in (folder / name).read_bytes()[:32] else None
-    return ran(words or [tbd, "dump", name], folder)[0] == 0
+    """Whether a file is a ledger, a log, or a journal without a record to its end."""
+    data = (folder / name).read_bytes()
+    form = "check" if b"TBK1" in data[:32] else "dump"
+    return data == EMPTY or ran([tbd, form, name], folder)[0] == 0
 
 
 def tried(tbd, made, folder, form, closed):
