@@ -19,6 +19,7 @@ CLIENT = f"{TOP}/clients/python/src"
 HOST = f"{TOP}/apps/host"
 ENVIRONMENT = {**os.environ, "PYTHONPATH": f"{HOST}/src:{CLIENT}"}
 PYTHON = "/usr/bin/python3"  # Debian's, which sees its packages
+QUOTA = 8 << 30  # bytes that etcd takes at most, as docs/use/CLUSTER.md sets it
 # The server with its replies in a file: those of its last start. A status above 128 is that
 # of a signal. Where rates count and no reply is compared, the server runs as it is.
 KEEPING = 'set -o pipefail; program=$1 out=$2; shift 2; "$program" "$@" | tee "$out"'
@@ -236,7 +237,7 @@ class Cluster(Machines):
     def __init__(
         self,
         folder,
-        quota=0,
+        quota=QUOTA,
         count=3,
         is_linked=True,
         **options,
@@ -264,7 +265,7 @@ class Cluster(Machines):
         words += ["--initial-advertise-peer-urls", f"http://127.0.0.1:{self.peer_links[at]}"]
         serves = f"http://127.0.0.1:{self.serves[at]}"
         words += ["--listen-client-urls", serves, "--advertise-client-urls", serves]
-        words += ["--quota-backend-bytes", str(self.quota)] if self.quota else []
+        words += ["--quota-backend-bytes", str(self.quota)]
         return slowed(words, self.sync)
 
     def lose(self, at):
@@ -364,7 +365,8 @@ class Cluster(Machines):
                 request = rpc.RangeRequest(key=b"bank/log/", range_end=b"bank/log0")
                 request.serializable = True
                 more = self.metadata(channel)
-                for it in rpc.KVStub(channel).Range(request, timeout=60, metadata=more).kvs:
+                found = rpc.KVStub(channel).Range(request, 60, more, wait_for_ready=True)
+                for it in found.kvs:
                     entries[it.create_revision][it.value] += 1
         return [entries[it].most_common(1)[0][0] for it in sorted(entries)]
 
