@@ -42,6 +42,7 @@ def moved(cluster, traffic):
     named = restarted(cluster)
     assert not named, f"replicas named faults: {named}"
     assert not traffic.wrong, traffic.wrong[:3]
+    assert traffic.looked, "nothing was looked up"
     posted = traffic.posted()
     assert posted == traffic.made > 0, f"{traffic.made} acknowledged, {posted} posted"
 

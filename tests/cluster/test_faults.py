@@ -59,7 +59,10 @@ def test_faults(cluster_of, given, show):
         show(line)
     agreed(cluster, traffic)
     rare = sum(kind in Faults.RARE for kind, _, _ in faults.done)
-    show(f"{len(faults.done)} faults, {rare} of disks and clocks; {traffic.made} transfers")
+    show(
+        f"{len(faults.done)} faults, {rare} of disks and clocks; {traffic.made} transfers, "
+        f"{traffic.looked} lookups"
+    )
 
 
 def test_faults_with_positions(cluster_of, given):
