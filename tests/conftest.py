@@ -67,6 +67,7 @@ def pytest_addoption(parser):
     parser.addoption("--between", type=float, default=0.5, help="seconds between faults")
     parser.addoption("--pause", type=float, default=0.1, help="seconds between a client's requests")
     parser.addoption("--sync", type=float, default=0, help="ms that each sync takes longer (rates)")
+    parser.addoption("--seconds", type=int, default=10, help="of each load (rates)")
     parser.addoption("--requests", type=int, default=100_000, help="before a start over them")
     parser.addoption("--every", type=int, default=1, help="refuse the first call, each N-th")
     parser.addoption("--seeds", type=int, default=10_000, help="how many the simulator runs")

@@ -140,6 +140,7 @@ class Machines:
     """Replicas on the loopback interface, over the log of a subclass."""
 
     nodes = ()  # the engine's processes
+    log_user = None  # whom the engine asks for
 
     def __init__(
         self,
@@ -374,6 +375,8 @@ class Cluster(Machines):
 class Postgres(Machines):
     """A primary, one standby that each commit waits for, and replicas over them."""
 
+    log_user = "postgres"
+
     def __init__(self, folder, **options):
         self.ports = free_ports(2)
         super().__init__(folder, **options)
@@ -404,7 +407,7 @@ class Postgres(Machines):
         return f"postgresql://{places}/postgres/bank"
 
     def replica_words(self, at, words, more=()):
-        return super().replica_words(at, words, ["--log-user", "postgres", *more])
+        return super().replica_words(at, words, ["--log-user", self.log_user, *more])
 
     def start_engine(self):
         primary, standby = f"{self.data}/primary", f"{self.data}/standby"

@@ -1,15 +1,22 @@
-"""How fast a cluster is, next to the listener over a ledger in a file on the same machine."""
+"""How fast a cluster is, next to the listener over a ledger in a file and to the engine alone, on
+the same machine."""
 
+import asyncio
 import contextlib
 import os
 import statistics
 import subprocess
 import sys
 import tempfile
+import time
+
+from tb_host.entries import MOMENT
+from tb_host.log import Access, opened
 
 from .processes import HERE, HOST, PYTHON, Process, free_ports, slowed, until
 
 LOADS = (("24 clients with single transfers", 24, 1), ("1 client with batches of 8190", 1, 8190))
+HEADER, RECORD = 48, 128  # bytes of a request's header, and of a transfer
 
 
 @contextlib.contextmanager
@@ -38,15 +45,61 @@ def loaded(port, clients, batch, seconds):
     return done / took, *times
 
 
+def engine_alone(cluster, clients, batch, seconds):
+    """The same of an engine that gets entries of one request of each client, one entry after
+    another as a replica appends them, in a log that no replica reads."""
+    length = clients * (MOMENT.size + HEADER + RECORD * batch)
+    times = sorted(asyncio.run(_appended(cluster, length, seconds)))
+    halves = (1000 * times[len(times) * part // 100] for part in (50, 99))
+    return clients * batch * len(times) / sum(times), *halves
+
+
+async def _appended(cluster, length, seconds):
+    """How long each append took, in seconds."""
+    log = opened(f"{cluster.log()}_alone", Access(user=cluster.log_user))
+    writer, data, times = os.urandom(16), os.urandom(length), []
+    end = time.monotonic() + seconds
+    try:
+        await log.head(b"rates")
+        while time.monotonic() < end:
+            began = time.monotonic()
+            await log.append(writer, len(times) + 1, data)
+            times.append(time.monotonic() - began)
+    finally:
+        await log.close()
+    return times
+
+
+def sync_alone(folder, count=500):
+    """How many milliseconds the disk takes for a write of 4 KiB and its sync (median)."""
+    times = []
+    with tempfile.TemporaryFile(dir=folder, buffering=0) as file:
+        for _ in range(count):
+            began = time.monotonic()
+            file.write(bytes(4096))
+            os.fdatasync(file.fileno())
+            times.append(time.monotonic() - began)
+    return 1000 * statistics.median(times)
+
+
 def compared(cluster, seconds, turns, tbd):
-    """Lines of the rates of a replica and of the listener, taken in turns, and their ratio."""
+    """Lines of the rates of a replica, of the listener and of the engine alone, taken in turns, and
+    the ratios of the first to the others."""
     for name, clients, batch in LOADS:
         with listener(tbd, cluster.sync) as port:
-            ports, found = (cluster.tcp[0], port), ([], [])
+            found = [], [], []
             for _ in range(turns):
-                for port, rows in zip(ports, found):
-                    rows.append(loaded(port, clients, batch, seconds))
-        mine, other = ([statistics.median(it) for it in zip(*rows)] for rows in found)
-        said = "{:.0f} transfers/s (p50 {:.2f} ms, p99 {:.2f} ms)".format
-        load = f"load {os.getloadavg()[0]:.1f}"
-        yield f"{name}: {said(*mine)}; listener {said(*other)}; {mine[0] / other[0]:.2f}, {load}"
+                found[0].append(loaded(cluster.tcp[0], clients, batch, seconds))
+                found[1].append(loaded(port, clients, batch, seconds))
+                found[2].append(engine_alone(cluster, clients, batch, seconds / 3))
+        yield line(name, *([statistics.median(it) for it in zip(*rows)] for rows in found))
+    yield f"a sync of the disk alone {sync_alone(cluster.folder):.2f} ms"
+
+
+def line(name, mine, other, engine):
+    said = "{:.0f} transfers/s (p50 {:.2f} ms, p99 {:.2f} ms)".format
+    return (
+        f"{name}: {said(*mine)}; listener {said(*other)}, ratio {mine[0] / other[0]:.2f}; "
+        f"engine alone {said(*engine)}, ratio {mine[0] / engine[0]:.2f}; "
+        f"load {os.getloadavg()[0]:.1f}"
+    )

@@ -1,6 +1,6 @@
-"""How fast a cluster is, next to the listener over a ledger in a file on the same machine. A
-machine that does something else meanwhile has other rates: compare the ratios. `--sync MS` has
-each sync of the engine and of tbd take longer."""
+"""How fast a cluster is, next to the listener over a ledger in a file and to the engine alone, on
+the same machine. A machine that does something else meanwhile has other rates: compare the ratios.
+`--sync MS` has each sync of the engine and of tbd take longer."""
 
 import pytest
 
@@ -8,20 +8,22 @@ from . import rates
 from .processes import Postgres
 
 pytestmark = pytest.mark.slow
+SERVERS = ["tb_script", "tbd"]
 
 
 @pytest.mark.needs_etcd
-@pytest.mark.parametrize("server", ["tb_script", "tbd"])
+@pytest.mark.parametrize("server", SERVERS)
 def test_rates_over_etcd(cluster_of, given, show, server, tbd):
     cluster = cluster_of(
         server=server, is_linked=False, keeps_replies=False, sync=given.sync / 1000
     )
-    for line in rates.compared(cluster, 10, 3, tbd):
+    for line in rates.compared(cluster, given.seconds, 3, tbd):
         show(f"etcd, {server}: {line}")
 
 
 @pytest.mark.needs_postgresql
-def test_rates_over_postgresql(cluster_of, given, show, tbd):
-    cluster = cluster_of(kind=Postgres, keeps_replies=False, sync=given.sync / 1000)
-    for line in rates.compared(cluster, 10, 3, tbd):
-        show(f"PostgreSQL: {line}")
+@pytest.mark.parametrize("server", SERVERS)
+def test_rates_over_postgresql(cluster_of, given, show, server, tbd):
+    cluster = cluster_of(kind=Postgres, server=server, keeps_replies=False, sync=given.sync / 1000)
+    for line in rates.compared(cluster, given.seconds, 3, tbd):
+        show(f"PostgreSQL, {server}: {line}")
