@@ -33,6 +33,8 @@ from tb_client import (
     request_frame,
 )
 
+from .cases import drop_copies
+
 CLIENTS = 24
 CASH, SALES = 1, 2
 SECONDS = 120 * tried.LONGER  # that a reply, an end and a check may take
@@ -113,6 +115,7 @@ class Run:
         self.sent, self.first, self.sessions, self.done, self.wrong = {}, {}, {}, {}, []
 
     def start(self, shim=None, fault=""):
+        drop_copies(self.file)
         env = dict(os.environ)
         if shim:
             env.update(LD_PRELOAD=shim, KEEP_FILE=self.file, KEEP_LOG=self.log, KEEP_FAULT=fault)

@@ -35,7 +35,7 @@ from tb_client import (
 )
 
 from ..conftest import ROOT
-from .cases import case
+from .cases import case, drop_copies
 
 pytestmark = pytest.mark.usefixtures("counted")
 
@@ -142,6 +142,7 @@ class Ledger:
 
     def start(self, fault=None, log=None, shim=None):
         """The program over the file."""
+        drop_copies(self.file)
         env = dict(os.environ)
         if shim:
             env.update(LD_PRELOAD=shim, KEEP_FILE=self.file, KEEP_FAULT=fault or "")
@@ -749,8 +750,10 @@ def test_told_of_ends(tbd, folder):
 @pytest.mark.slow
 @pytest.mark.usefixtures("words_file")
 def test_failing_dumps(tbd, folder, shim):
-    """A read that fails, at each place in turn, ends a dump in Device; once none is left to fail, the dump is whole."""
-    path, number = os.path.join(folder, "words.tbk"), 0
+    """A read that fails, at each place in turn, ends a dump in Device; once none is left to fail, the dump is whole. Before them one
+    read looks whether the file is a ledger's or a log's: where it fails, the file is read as a ledger's.
+    """
+    path, number = os.path.join(folder, "words.tbk"), 1
     whole = told_of(tbd, folder, ["dump", path])
     status = 1
     while status:
