@@ -81,9 +81,10 @@ class Watcher(Client):
         self.traffic, self.looked = traffic, 0
 
     def _step(self, session):
-        least = self.traffic.made
+        before, least = self.traffic.before, self.traffic.made
         session, found, _ = self._asked(session, Operation.lookup_accounts, [PAYER, PAYEE])
-        shown, most = [found[0].debits_posted, found[1].credits_posted], self.traffic.begun
+        most = self.traffic.begun
+        shown = [found[0].debits_posted - before, found[1].credits_posted - before]
         if not least <= min(shown) == max(shown) <= most:
             self.wrong.append(f"shown are {shown}, not {least} to {most}")
         self.looked += 1
@@ -96,6 +97,7 @@ class Traffic:
     def __init__(self, ports, count, pause=0.0, spread=False, batch=1, tls=None):
         addresses = [("127.0.0.1", it) for it in ports]
         self.addresses, self.stop, self.tls = addresses, threading.Event(), tls
+        self.before = 0  # what the ledger had posted
         turned = [addresses[at:] + addresses[:at] for at in range(len(addresses))]
         self.clients = [
             Client(turned[it % len(turned) if spread else 0], self.stop, pause, batch, tls)
@@ -115,6 +117,7 @@ class Traffic:
         return [*self.clients, *self.watchers]
 
     def start(self):
+        self.before = self.posted()
         for it in self.all:
             it.start()
 
