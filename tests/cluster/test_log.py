@@ -120,11 +120,13 @@ def test_full(cluster_of):
     until(lambda: "LogFull" in "".join(it.said() for it in cluster.replicas), 240, "LogFull")
     status, said = cluster.part("status", "--log", cluster.log())
     assert status == FULL, said
-    cluster.replicas[2].kill()
-    cluster.replicas[2].start()
-    cluster.until_listens(2)  # a replica starts nevertheless
+    third = cluster.replicas[2]
+    third.kill()
+    third.start()
+    until(lambda: "waits: LogFull" in third.said(third.since), 60, "a start says why it waits")
     status, said = cluster.part("trim", "--log", cluster.log(), seconds=180)
     assert status == 0 and "still full" not in said, said
+    cluster.until_listens(2)
     before = traffic.made
     until(lambda: traffic.made > before, 60, "transfers go on")
     traffic.stop.set()

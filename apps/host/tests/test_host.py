@@ -181,6 +181,10 @@ class MemoryLog:
         self.places, self.changed, self.away = ["n0", "n1", "n2"], {}, set()
         self.passed = []  # what was taken as another node has it
         self.time = None  # what its own clock tells, if it has one
+        self.said_of_room = ""  # why it takes no more
+
+    async def full(self):
+        return self.said_of_room
 
     async def head(self, wanted):
         self._test()
@@ -2055,6 +2059,17 @@ class Replicas(OverALog):
             await self.answers(-5)
             await asyncio.sleep(0.05)
         self.assertEqual((await asked)[0], 6)
+        await self.closed(it)
+
+    @mock.patch.multiple(replica, CLOCK_AGAIN=0.01, ANSWERS=0.1)
+    async def test_who_begins_while_the_log_is_full(self):
+        """It says why it waits: no other replica can write an answer."""
+        self.log.said_of_room = "no space"
+        it = await self.began(alone=False)
+        said = "waits: LogFull: no space, so no other replica can answer\n"
+        while said not in self.told.getvalue():
+            await asyncio.sleep(0.01)
+        self.assertFalse(it.is_met or self.running.done())
         await self.closed(it)
 
     @mock.patch.multiple(replica, CLOCK_AGAIN=0.01, ANSWERS=0.05)

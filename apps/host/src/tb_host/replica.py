@@ -689,12 +689,19 @@ class Replica:
             if self.right is not None or self.given.alone:
                 break
             if not is_said:
-                say(f"waits: {UNCONFIRMED}", "warning")
+                say(f"waits: {await self._why_unconfirmed()}", "warning")
             is_said = True
             await came(self.reporting, CLOCK_AGAIN)
         self.moments = Moments(self.copy.last_moment)  # the clock may have been set meanwhile
         self.is_met = True
         self.reporting.set()
+
+    async def _why_unconfirmed(self) -> str:
+        """Why nobody confirms this clock. A full log takes no question and no answer."""
+        full = ""
+        with contextlib.suppress(NoLog):
+            full = await self.log.full()
+        return f"LogFull: {full}, so no other replica can answer" if full else UNCONFIRMED
 
     async def _ask_for_clocks(self) -> None:
         """Compares the clock with those of replicas that answer in time, or else with the engine's.
