@@ -260,6 +260,8 @@ def the_log_is_trimmed(cluster, traffic):
 
 def files_are_refused(cluster):
     it, words = cluster.replicas[1], cluster.replicas[1].words
+    at = words.index("--copy")
+    words = [*words[:at], "--alone", *words[at:]]  # no other one has this log
     same = str(cluster.clients_max)
     for name, clients, status in (("ahead", same, 22), ("other", "8", 23), ("rot", same, DAMAGED)):
         shutil.rmtree(cluster.copy(1))
