@@ -105,11 +105,11 @@ def requests():
             wide(n + 5, top),
             n + 6,
             n + 7,
-            n + 8,
             n + 9,
             n + 10,
             flags,
             n + 11,
+            reserved=n + 8,
         )
 
     def transfer(n):
