@@ -22,6 +22,7 @@ const { bytesOf, kindOf, milliseconds, narrow, optionsOf, pathOf } = require("./
 const TIMEOUT = 5000; // milliseconds
 const FIRST_PAUSE = 20; // milliseconds, before the server is called again; doubled each time
 const LAST_PAUSE = 500;
+const FIRST_WORD = 2; // milliseconds in which a server that takes no more says so
 const TICKET_MAX = 100; // milliseconds: not all servers send one
 const TICKET_PART = 4; // of the time that is left a ticket is waited for a fourth at most
 const PATH_MAX = { linux: 107, win32: 255 }[process.platform] ?? 103; // bytes of a socket's path
@@ -108,7 +109,10 @@ class Connection {
 
   async #ticket(ms, signal) {
     const it = this.#socket;
-    if (it.getProtocol?.() !== "TLSv1.3") return;
+    if (it.getProtocol?.() !== "TLSv1.3") {
+      await new Promise((resolve) => setTimeout(resolve, Math.min(FIRST_WORD, ms)));
+      return;
+    }
     await new Promise((resolve) => {
       let off = () => {};
       const end = () => {
