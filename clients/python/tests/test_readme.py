@@ -7,6 +7,7 @@ import re
 import subprocess
 import sys
 import tempfile
+import textwrap
 import unittest
 
 from paths import CLIENT, EXAMPLES, PYTHONPATH, STAND_IN
@@ -21,12 +22,12 @@ from tb_client import id
 transport = Program({PROGRAM!r}, 2)
 first = Session.register(transport)
 require_ok(first.create_accounts([Account(it, ledger=700, code=10) for it in (1, 2)]))
+session = Session.register(transport)
 """
 IN_DOUBT = """
 session.prepare(Operation.create_transfers, [Transfer(id(), 1, 2, 10, ledger=700, code=10)])
 session.save("session.json")
 """
-SHOW = "\nprint(sales.credits_posted)\n"
 MEANWHILE = "\nrequire_ok(first.create_transfers([Transfer(id(), 1, 2, 5, ledger=700, code=10)]))\n"
 EVICT = "\nfor _ in range(2):\n    Session.register(transport)\n"
 END = "\nprint(session.lookup_accounts([2])[0].credits_posted)\ntransport.close()\n"
@@ -66,22 +67,23 @@ class Readme(unittest.TestCase):
         self.assertEqual((ran.returncode, ran.stderr), (0, ""))
         return ran.stdout
 
-    @has_program
-    def test_the_first_program(self):
-        said = self.ran("-c", blocks()[0].replace("../../crates/tbs/out/tbs", PROGRAM))
-        self.assertEqual(said.count("posted=100"), 2)
-
     def test_the_client_that_callers_share(self):
         with Running() as listener:
-            said = self.ran("-c", blocks()[1].replace("3001", listener.path))
+            said = self.ran("-c", blocks()[0].replace("3001", listener.path))
         self.assertEqual(said, "[10]\n")
+
+    @has_program
+    def test_the_program_of_a_session(self):
+        said = self.ran("-c", blocks()[1].replace("../../crates/tbs/out/tbs", PROGRAM))
+        self.assertEqual(said, "100\n")
 
     @has_program
     def test_a_crash_and_an_eviction(self):
         """A sale, a crash before its reply came, a lookup in each of two lives, and an eviction
         while a sale is in doubt."""
-        sale, crash, lookup, eviction = blocks()[2:6]
-        lives = [crash, lookup, SHOW, MEANWHILE, crash, lookup, SHOW, IN_DOUBT, EVICT, eviction]
+        program, crash, eviction = blocks()[1:4]
+        sale, lookup = map(textwrap.dedent, program.split("\n\n")[2:])
+        lives = [crash, lookup, MEANWHILE, crash, lookup, IN_DOUBT, EVICT, eviction]
         said = self.ran("-c", "".join([BEGIN, sale, IN_DOUBT, *lives, END]))
         self.assertEqual(said, "110\n115\n125\n")
 
