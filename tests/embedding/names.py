@@ -460,7 +460,7 @@ def in_pages(page):
             by_number[name],
             {int(bit): flag for bit, flag in re.findall(r"(\d+) (\w+)", listed)},
         )
-    (listed,) = re.findall(r"`FrameFault::number` answers (.*?);", page, re.S)
+    (listed,) = re.findall(r"`FrameFault::number` returns (.*?);", page, re.S)
     faults = {int(number): name for number, name in re.findall(r"(\d+) (\w+)", listed)}
     yield same(
         "faults on the page of formats",
