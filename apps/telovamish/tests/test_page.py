@@ -30,13 +30,6 @@ def test_the_page_prints_the_grammar():
     assert blocks("text", "start:") == grammar.printed()
 
 
-def test_the_page_has_the_fields_and_flags():
-    for kind, operation in (("account", "create_accounts"), ("transfer", "create_transfers")):
-        row = re.search(rf"^\| {kind} \| (.*) \| (.*) \|$", PAGE, re.M)
-        assert re.findall(r"`(\w+)`", row[1]) == [*grammar.KINDS[operation]]
-        assert re.findall(r"`(\w+)`", row[2]) == grammar.FLAGS[operation].split()
-
-
 def test_the_first_statements(tbs):
     text = blocks("text", "at=10 client=7 register;").encode()
     _, out, _ = ran("run", "--clients-max", "2", given=text, env={"TBS": tbs})
