@@ -171,29 +171,17 @@ def test_each_alert_is_on_the_operators_page() -> None:
     watching.explained()
 
 
-@pytest.mark.parametrize("unit, page", [("listen", "OPERATING"), ("replica", "CLUSTER")])
+@pytest.mark.parametrize("unit, page", [("listen", "TBD"), ("replica", "CLUSTER")])
 def test_each_status_that_ends_a_unit_is_on_its_page(unit: str, page: str) -> None:
+    """Those of the server that it starts are on TBD."""
     text = (units.UNITS / f"tb-{unit}.service").read_text()
     ends = re.search(r"^RestartPreventExitStatus=(.*)$", text, re.M)
     assert ends
-    for name in {"OPERATING", page}:
+    for name in {"TBD", page}:
         shown = (ROOT / f"docs/use/{name}.md").read_text()
         rows = set(re.findall(r"^\| (\d+) \|", shown, re.M))
-        wanted = {it for it in ends[1].split() if (int(it) < 20) == (name == "OPERATING")}
+        wanted = {it for it in ends[1].split() if (int(it) < 20) == (name == "TBD")}
         assert wanted <= rows
-
-
-def test_each_status_of_tbd_is_on_the_operators_page() -> None:
-    """With the same faults; the listener's own are 0, 1 and 2."""
-    tables = []
-    for name in ("TBD", "OPERATING"):
-        shown = (ROOT / f"docs/use/{name}.md").read_text()
-        tables.append(dict(re.findall(r"^\| (\d+) \| ([^|]*) \|", shown, re.M)))
-    of_tbd, known = tables
-    assert of_tbd and set(of_tbd) <= set(known)
-    for status, named in of_tbd.items():
-        faults = set(re.findall(r"\b[A-Z][a-z]\w+", named))
-        assert faults - {"Usage"} <= set(re.findall(r"\w+", known[status])), status
 
 
 def test_each_metric_of_a_query_is_one_of_the_listener() -> None:
