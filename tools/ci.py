@@ -4,12 +4,12 @@ in Markdown.
 
     python3 tools/ci.py [--log FILE] [WORD ..]
 
-The words are given to `rt ci` (`--anew` proves all; names prove these crates and those below them
-alone). What it prints goes to FILE, its last lines and the table to standard output. "Proof" is the
-proof of a library or program and its building, "tests" the second proof of a crate with its tests,
-"base" the proof over which its edits are tried, "edits" all tries of its edits. Twice a second the
-script looks at the provers that run and at what they have used, so what a prover uses in its last
-half second is not counted.
+The words are given to `rt ci`; some kits take none, and prove everything each time. What it prints
+goes to FILE, its last lines and the table to standard output. "Proof" is the proof of a library or
+program and its building, "tests" the second proof of a crate with its tests, "base" the proof over
+which its edits are tried, "edits" all tries of its edits. Twice a second the script looks at the
+provers that run and at what they have used, so what a prover uses in its last half second is not
+counted.
 """
 import os
 import re
