@@ -453,7 +453,9 @@ def in_pages(page):
     }
     yield same("statuses on the page of formats", by_number["Status"], statuses)
     for name, listed in zip(
-        ("AccountFlags", "TransferFlags"), re.findall(r"^Flags: (.*?)\.$", page, re.M | re.S)
+        ("AccountFlags", "TransferFlags"),
+        re.findall(r"^Flags of an? \w+: (.*?)\.$", page, re.M),
+        strict=True,
     ):
         yield same(
             f"{name} on the page of formats",

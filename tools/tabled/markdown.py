@@ -34,11 +34,13 @@ def pages(table):
             ("What", "Limit"), [(it["says"], shown(it["value"])) for it in table["limits"]]
         ),
         "sizes": rows(("What", "Bytes"), [(it["says"], it["bytes"]) for it in table["sizes"]]),
-        "frames": frames(table),
+        "frames": side_by_side(
+            table, {"Request header": "request_header", "Reply header": "reply_header"}
+        ),
+        "records": side_by_side(table, {"Account": "account", "Transfer": "transfer"}),
         "failed-for-good": ", ".join(table["failed_for_good"]) + "\n",
     }
     for kind in ("account", "transfer"):
-        found[kind] = record(table, kind)
         found[f"{kind}-flags"] = rows(
             ("Bit", "Flag", "It says"),
             [(it["bit"], it["name"], it["says"]) for it in table[f"{kind}_flags"]],
@@ -90,34 +92,18 @@ def frame_tests(table):
     return rows(("Order", "Fault", "A request has it if", "A reply has it if"), lines)
 
 
-def named(field):
-    unit = f", {field['unit']}" if field.get("unit") == "seconds" else ""
-    return f"{field['name']}{unit}"
-
-
-def record(table, name):
-    lines = [(it["at"], named(it), it["type"]) for it in t.layout(table, name)["fields"]]
-    half = (len(lines) + 1) // 2
-    pairs = [(*one, *other) for one, other in zip(lines[:half], lines[half:] + [("", "", "")])]
-    return rows(("At", "Field", "Type") * 2, pairs)
-
-
-def frames(table):
-    """Both headers: what is at each place where one of them has a field."""
-    sides = [
-        {it["at"]: it for it in t.layout(table, name)["fields"]}
-        for name in ("request_header", "reply_header")
-    ]
-    lines = []
-    for at in sorted(set(sides[0]) | set(sides[1])):
-        lines.append((at, *(cell(side.get(at)) for side in sides)))
-    return rows(("At", "Request header", "Reply header"), lines)
+def side_by_side(table, layouts):
+    """Layouts by their heads: what is at each place where one of them has a field."""
+    sides = [{it["at"]: it for it in t.layout(table, it)["fields"]} for it in layouts.values()]
+    lines = [(at, *(cell(side.get(at)) for side in sides)) for at in sorted(set().union(*sides))]
+    return rows(("At", *layouts), lines)
 
 
 def cell(field):
     if field is None:
         return ""
-    return f"{field['name']} {field['type']}" if field["name"] else field["type"]
+    unit = ", seconds" if field.get("unit") == "seconds" else ""
+    return f"{field['name']} {field['type']}{unit}" if field["name"] else field["type"]
 
 
 def tests(table, kind, groups):
