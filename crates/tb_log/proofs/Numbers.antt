@@ -1,13 +1,10 @@
--- Numbers as bytes, and the checksum of an entry in parts.
-use Rattle.std.proofs.Common.{◌≡◌, ℕ, ◌<◌, List, length, slice_index, refl, sym, ap, ◌∙◌, arith, take_all}
-use Rattle.std.specs.Prelude.{bit_xor}
+-- Numbers as bytes.
+use Rattle.std.proofs.Common.{◌≡◌, ℕ, ◌<◌, List, length, slice_index, refl, sym, ◌∙◌, arith, take_all}
 use Rattle.std.specs.Int.{w32, w64, to_le_bytes}
 use Rattle.byteorder.specs.Endian.{little_number}
 use Rattle.tb_records.specs.Numbers.{le_bytes, le_at}
 use Rattle.tb_records.proofs.NumberBytes.{number_spelled}
-use Rattle.tb_journal.specs.Checksum.{remainder}
-use Rattle.tb_journal.proofs.Remainders.{remainder_append}
-use Rattle.tb_log.specs.Format.{number_bytes, numbers, checksum_of}
+use Rattle.tb_log.specs.Format.{number_bytes}
 
 same_bytes : (n x : ℕ) → number_bytes n x ≡ le_bytes n x
 unfolding number_bytes le_bytes
@@ -32,14 +29,3 @@ eight_written x = refl
 pub four_written : (x : ℕ) → to_le_bytes w32 x ≡ number_bytes 4 x
 unfolding number_bytes
 four_written x = refl
-
--- the checksum, part by part
-pub sum_of_parts : (position : ℕ) (content : List ℕ)
-    → bit_xor (remainder content (remainder (to_le_bytes w32 (length content)) (remainder (to_le_bytes w64 position) 0xFFFFFFFF))) 0xFFFFFFFF ≡ checksum_of position content
-sum_of_parts position content =
-    ap (λ (s : ℕ). bit_xor s 0xFFFFFFFF)
-    (ap (λ (s : ℕ). remainder content s)
-    (ap (λ (bs : List ℕ). remainder bs (remainder (to_le_bytes w64 position) 0xFFFFFFFF)) (four_written (length content))
-    ∙ ap (λ (bs : List ℕ). remainder (number_bytes 4 (length content)) (remainder bs 0xFFFFFFFF)) (eight_written position)
-    ∙ sym (remainder_append (number_bytes 8 position) (number_bytes 4 (length content)) 0xFFFFFFFF))
-    ∙ sym (remainder_append (numbers position (length content)) content 0xFFFFFFFF))

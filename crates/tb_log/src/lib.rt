@@ -4,7 +4,7 @@
 //! Modules, each over those before it:
 //!
 //! - `faults`: why a follower ends before its log does.
-//! - `checksums`: CRC-32C.
+//! - `checksums`: the checksum of an entry.
 //! - `chains`: `Chain`, a hash of parts that came one after another.
 //! - `inputs`: bytes and numbers from a reader.
 //! - `entries`: an entry's content from a reader, tested.
