@@ -344,8 +344,6 @@ class Browser(unittest.TestCase):
             ("books-dark", f"/transfer/{GREAT}", "dark", (1000, 560)),
             ("books-narrow", "/accounts", "light", (375, 900)),
             ("books-narrow-account", f"/account/{SALES}", "light", (375, 1800)),
-            ("books-768", "/accounts", "light", (768, 1024)),
-            ("books-1280", "/accounts?sort=balance", "light", (1280, 900)),
             ("books-month", f"/account/{SALES}/2026-10", "light", (768, 900)),
         ):
             self.show(scheme)
