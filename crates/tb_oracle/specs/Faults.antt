@@ -1,0 +1,20 @@
+-- The name and the exit status of each fault.
+-- Cited by private contracts of: faults.
+use Rattle.std.specs.Prelude.{ℕ, List, codes}
+use Rattle.tb_records.specs.declared.faults.FrameFault.TheVariants as frame
+use Rattle.tb_records.specs.Faults.{fault_name as frame_fault_name}
+use Rattle.tb_caller.specs.Faults.{field_fault_name}
+use Rattle.tb_oracle.specs.declared.faults.OracleFault.{OracleFault}
+use Rattle.tb_oracle.specs.declared.faults.OracleFault.TheVariants.{Frame, Field, UnknownPhase, UnknownStep}
+
+abbrev pub fault_name : OracleFault → List ℕ
+fault_name (Frame f) = frame_fault_name f
+fault_name (Field f) = field_fault_name f
+fault_name UnknownPhase = codes "UnknownPhase"
+fault_name UnknownStep = codes "UnknownStep"
+
+-- 1 if a device or memory failed, 2 if the input is wrong
+abbrev pub fault_exit_status : OracleFault → ℕ
+fault_exit_status (Frame frame.Device) = 1
+fault_exit_status (Frame frame.NoMemory) = 1
+fault_exit_status other = 2
