@@ -9,8 +9,8 @@
 
 With --drawn it runs so many scenarios that are drawn, each by a seed of its own, in place of those
 of scenarios/ (made/sequences.py): what callers do, and what a server does at each sending. What the
-client has to send and to report is what the proved session does (made/oracle.py), by the library
-that `rt lib` makes in crates/tb_embed, or by the shared object that TB_EMBED_SO names. A seed draws
+client has to send and to report is what the proved session does (made/oracle.py), by the program
+tb_oracle: that of the variable TB_ORACLE, then on PATH, then in crates/tb_oracle/out. A seed draws
 the same scenario again. The first one that fails is shortened, without --first: as long as it fails
 without one of its steps this is left out, for a minute at most.
 
@@ -30,7 +30,6 @@ import json
 import os
 import queue
 import re
-import subprocess
 import sys
 import tempfile
 import threading
@@ -246,9 +245,9 @@ def main():
     found, begins = scenarios()
     if given.drawn:
         try:
-            oracle.library()
-        except (OSError, AttributeError, subprocess.SubprocessError) as why:
-            parser.error(f"there is no library to compare with: {why}")
+            oracle.program()
+        except OSError as why:
+            parser.error(f"no program tb_oracle to compare with: {why}")
         found = list(drawn(given))
     chosen = [
         it

@@ -1,8 +1,7 @@
 """Each client against drawn schedules: what it sends, takes for a reply and keeps is what the
-proved session does (clients/conformance/made/oracle.py). Needs cc and tb_embed's library:
-`rt lib` in crates/tb_embed, which proves all below it, or a shared object in TB_EMBED_SO.
-`--drawn N` says how many schedules, `--seed N` which is the first; a failure prints the words to
-repeat it."""
+proved session does (clients/conformance/made/oracle.py). CI draws 200 for each (tools/check.py).
+`--drawn N` says how many, `--seed N` which is the first; a failure prints the words that repeat it.
+"""
 
 import subprocess
 import sys
@@ -17,7 +16,8 @@ pytestmark = pytest.mark.slow
 
 
 @pytest.mark.parametrize("folder", CLIENTS, ids=lambda it: it.name)
-def test_drawn_schedules(folder, seeds):
+def test_drawn_schedules(folder, seeds, program):
+    program("tb_oracle")
     drawn = ["--drawn", seeds["drawn"], "--seed", seeds["seed"]]
     words = [sys.executable, str(KIT), *drawn, "--", *built(folder)]
     ran = subprocess.run(words, cwd=folder, stdout=subprocess.PIPE, text=True, timeout=SECONDS)

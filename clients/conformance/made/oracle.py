@@ -1,56 +1,120 @@
 """What a client may send and return at each point, by the proved session of crates/tb_caller: the
 expectations of drawn scenarios are what it does.
 
-tb_embed exports it; `library` finds or makes its shared object."""
+The program tb_oracle does a step of it: a client's fields, and a call or bytes that came, go in;
+the outcome and the fields after it come out. crates/tb_oracle/src/steps.rt has the bytes."""
 
 import dataclasses
+import enum
 import functools
 import os
 import pathlib
+import shutil
+import struct
 import subprocess
-import sys
-import tempfile
+import threading
 from typing import Optional
 
 from .frames import NAMES, REGISTER, TABLE, TOP, error
 
-sys.path.append(f"{TOP}/clients/embed/python")
+# The head of a step: client, session, last number, phase, kind, the length of what comes after it.
+STEP = struct.Struct("<16sQIBBQ")
+# That of an answer: client, session, last number, phase, outcome, the lengths of the frame of the
+# client's request, which comes after it, and of the reply's frame.
+ANSWER = struct.Struct("<16sQIBBQQ")
+CALL, RECEIVE = 0, 1  # kinds of a step
 
-from tb_caller import Caller, Fault, Fields, Heard, Library, Phase  # noqa: E402
 
-ARCHIVE = pathlib.Path(TOP, "crates/tb_embed/out/libtb_embed.a")
+class Phase(enum.IntEnum):
+    """The phase of a session."""
+
+    UNREGISTERED = 0
+    OPEN = 1  # a request waits for its reply
+    IDLE = 2
+    ENDED = 3  # the session is over, with a request in doubt
+
+
+class Outcome(enum.IntEnum):
+    """What a step makes of a session."""
+
+    MADE = 0  # the next request is made
+    RETURNED = 1  # the bytes begin with the reply to the request
+    SESSION_ENDED = 2
+    REFUSED = 3
+    OTHER = 4  # a reply to no request that waits
+    NO_REPLY = 5
+    NOT_REGISTERED = 6  # from here on the call makes no request
+    REGISTERED = 7
+    UNANSWERED = 8
+    ENDED = 9
+    NO_NUMBER = 10
+    WRONG_FRAME = 11
+
+
 STATUSES = {row["number"]: row["name"] for row in TABLE["statuses"]}
 STATUS = 29  # its place in a reply
-# How a client names what tb_caller refuses to call.
-REFUSED = {
-    "Unanswered": error("InDoubt", sent=False),
-    "Ended": error("InDoubt", sent=False),
-    "NotRegistered": error("InvalidValue", sent=False, field="session"),
-    "Registered": error("InvalidValue", sent=False, field="session"),
-    "NoNumber": error("InvalidValue", sent=False, field="number"),
+# How a client names what makes no request.
+NO_CALL = {
+    Outcome.UNANSWERED: error("InDoubt", sent=False),
+    Outcome.ENDED: error("InDoubt", sent=False),
+    Outcome.NOT_REGISTERED: error("InvalidValue", sent=False, field="session"),
+    Outcome.REGISTERED: error("InvalidValue", sent=False, field="session"),
+    Outcome.NO_NUMBER: error("InvalidValue", sent=False, field="number"),
 }
 
 
+@dataclasses.dataclass(frozen=True)
+class Fields:
+    """All that a session is. `frame` is that of the request that waits, or was left in doubt."""
+
+    client: int
+    session: int = 0
+    last: int = 0
+    phase: Phase = Phase.UNREGISTERED
+    frame: bytes = b""
+
+
+class Ended(Exception):
+    """The program ended: its standard error says why."""
+
+
+class Program:
+    """The program as a process, which threads may share."""
+
+    def __init__(self, path):
+        pipes = {"stdin": subprocess.PIPE, "stdout": subprocess.PIPE}
+        self.process = subprocess.Popen([path], start_new_session=True, **pipes)
+        self.lock = threading.Lock()
+
+    def step(self, fields: Fields, kind: int, given: bytes):
+        """Does a step: its outcome, the fields after it, and the length of the reply's frame."""
+        client, length = fields.client.to_bytes(16, "little"), len(fields.frame) + len(given)
+        head = STEP.pack(client, fields.session, fields.last, fields.phase, kind, length)
+        with self.lock:
+            try:
+                self.process.stdin.write(head + fields.frame + given)
+                self.process.stdin.flush()
+            except BrokenPipeError:
+                raise Ended(f"status {self.process.wait()}") from None
+            client, session, last, phase, outcome, length, read = ANSWER.unpack(
+                self._taken(ANSWER.size)
+            )
+            frame = self._taken(length)
+        client = int.from_bytes(client, "little")
+        return Outcome(outcome), Fields(client, session, last, Phase(phase), frame), read
+
+    def _taken(self, length):
+        data = self.process.stdout.read(length)
+        if len(data) < length:
+            raise Ended(f"status {self.process.wait()}")
+        return data
+
+
 @functools.lru_cache(maxsize=None)
-def library():
-    """The shared object that TB_EMBED_SO names, else one that is linked from tb_embed's archive."""
-    named = os.environ.get("TB_EMBED_SO")
-    if named:
-        return Library(named)
-    if not ARCHIVE.exists():
-        raise FileNotFoundError(f"no {ARCHIVE}: `rt lib` in crates/tb_embed, or set TB_EMBED_SO")
-    with tempfile.TemporaryDirectory(prefix="oracle") as folder:
-        made = f"{folder}/libtb_embed.so"
-        whole = ["-Wl,--whole-archive", str(ARCHIVE), "-Wl,--no-whole-archive"]
-        words = ["cc", "-shared", *whole, f"{_kit()}/c/liblibc_c.a", "-Wl,-z,defs", "-o", made]
-        subprocess.run(words, check=True)
-        return Library(made)
-
-
-def _kit():
-    """The toolchain's folder."""
-    said = subprocess.run(["rt", "doc"], stdout=subprocess.PIPE, check=True, text=True).stdout
-    return os.environ.get("KIT") or os.path.dirname(said.strip())
+def program():
+    """The program: that of TB_ORACLE, then on PATH, then in crates/tb_oracle/out."""
+    built = pathlib.Path(TOP, "crates/tb_oracle/out/tb_oracle")
+    return Program(os.environ.get("TB_ORACLE") or shutil.which("tb_oracle") or built)
 
 
 @dataclasses.dataclass(frozen=True)
@@ -68,7 +132,7 @@ class Held:
     request in doubt as the caller gave them."""
 
     def __init__(self, fields: Fields, items=()):
-        self.caller, self.items = Caller(library(), fields), items
+        self.fields, self.items = fields, items
 
     @classmethod
     def new(cls, client: int):
@@ -77,26 +141,26 @@ class Held:
     def copy(self):
         """The same session once more, by its fields: what a file has, and a next process reads. A
         file has no word for the end of a session, so that the request in doubt waits there."""
-        fields = self.caller.fields
+        fields = self.fields
         if fields.phase == Phase.ENDED:
             fields = dataclasses.replace(fields, phase=Phase.OPEN)
         return Held(fields, self.items)
 
     @property
     def client(self):
-        return self.caller.fields.client
+        return self.fields.client
 
     @property
     def session(self):
-        return self.caller.fields.session
+        return self.fields.session
 
     @property
     def last(self):
-        return self.caller.fields.last
+        return self.fields.last
 
     @property
     def asked(self) -> Optional[Asked]:
-        fields = self.caller.fields
+        fields = self.fields
         if not fields.frame:
             return None
         return Asked(fields.last, fields.frame[28], self.items, fields.frame)
@@ -104,7 +168,7 @@ class Held:
     @property
     def shown(self):
         """As `saved` shows it: with the number of the last request that was answered."""
-        fields = self.caller.fields
+        fields = self.fields
         waits = bool(fields.frame) and fields.frame[28] != REGISTER
         numbers = {
             "client": fields.client,
@@ -123,10 +187,9 @@ class Held:
 
     def call(self, items, frame: bytes):
         """Makes the next request, with the body of a frame. None, or the client's error."""
-        try:
-            self.caller.call(frame)
-        except Fault as fault:
-            return REFUSED[fault.name]
+        outcome, self.fields, _ = program().step(self.fields, CALL, frame)
+        if outcome != Outcome.MADE:
+            return NO_CALL[outcome]
         self.items = items
         return None
 
@@ -134,13 +197,10 @@ class Held:
         """Takes bytes that a server sent: whether the call goes on, and what it reports. It returns
         `says` if they are the reply, and fails with the refusal's name if they are one; bytes that
         are no reply to this request are a BadReply."""
-        try:
-            heard, length = self.caller.received(frame)
-        except Fault:
+        outcome, self.fields, length = program().step(self.fields, RECEIVE, frame)
+        if outcome in (Outcome.NO_REPLY, Outcome.OTHER) or length != len(frame):
             return False, error("BadReply", sent=True)
-        if heard == Heard.OTHER or length != len(frame):
-            return False, error("BadReply", sent=True)
-        if heard == Heard.RETURNED:
+        if outcome == Outcome.RETURNED:
             return False, {"ok": says}
         name = STATUSES[frame[STATUS]]
         return name == "NotYet", error(name, sent=True)
