@@ -72,17 +72,25 @@ def by_status(_: str) -> Counts:
     return 1, 0
 
 
-def kit(client: str) -> Part:
-    """The stored scenarios of the conformance kit over a client, built by its own tests or here."""
+def kit(client: str, drawn: str = "") -> Part:
+    """The stored scenarios of the conformance kit over a client, built by its own tests or here; or
+    so many drawn ones, compared with the proved session."""
     folder = f"clients/{client}"
     about = json.loads((ROOT / folder / "conformance.json").read_text())
-    words = [sys.executable, "-B", "../conformance/kit.py", "--", *about["runner"]]
+    more = ["--drawn", drawn] if drawn else []
+    words = [sys.executable, "-B", "../conformance/kit.py", *more, "--", *about["runner"]]
     if client == "go":
         words = ["sh", "-c", f"go build -o out/ ./... && {shlex.join(words)}"]
-    return Part(f"kit over {about['language']}", folder, words, closing_line)
+    name = "drawn schedules" if drawn else "kit"
+    return Part(f"{name} over {about['language']}", folder, words, closing_line)
 
 
 PYTEST = [PYTHON, "-m", "pytest", "-q"]
+CLIENTS = ["python", "go", "java", "node"]
+DRAWN = "200"  # schedules for each client
+CALLERS = ["conformance_runner.py", "examples/program.py", "examples/sockets.py"]
+CALLERS += ["../embed/python/tb_embed.py", "../embed/python/tb_caller.py"]
+TYPES = ["env", "MYPYPATH=src:../../apps/host/src", "mypy", "--follow-imports=silent", *CALLERS]
 PACKAGES = ["clients/python", "apps/telovamish", "apps/host", "apps/books"]
 WORDS = [f"tests/test_{it}.py" for it in ("run", "page", "sending", "recorded_texts")]
 HOST = [f"tests/test_{it}.py" for it in ("shares", "early", "pipes", "host")]
@@ -92,17 +100,21 @@ PARTS = [
     Part("format of Python", ".", ["black", "--check", "--quiet", "."], by_status),
     Part("lint of Python", ".", ["flake8"], by_status),
     *(Part(f"types of {it}", it, ["mypy"], by_status) for it in PACKAGES),
+    Part("types of callers of the clients", "clients/python", TYPES, by_status),
     Part("quick tests", ".", [*PYTEST, "-n", "4", "-m", "quick", "tests"], pytest_counts),
     Part("packages", ".", [*PYTEST, "-n", "2", "-m", "quick", "packaging/tests"], pytest_counts),
     Part("telovamish", "apps/telovamish", [*PYTEST, *WORDS], pytest_counts),
     Part("books", "apps/books", [*PYTEST, "-n", "2", *BOOKS], pytest_counts),
     Part("host", "apps/host", [*PYTEST, "-n", "2", *HOST], pytest_counts),
     Part("client in Python", "clients/python", [*PYTEST, "-n", "2", "tests"], pytest_counts),
+    Part("embedded in Python", "clients/embed/python", PYTEST, pytest_counts),
+    Part("conformance kit", "clients/conformance", [*PYTEST, "-n", "2"], pytest_counts),
     Part("format of Go", "clients/go", ["sh", "-c", 'test -z "$(gofmt -l .)"'], by_status),
     Part("Go", "clients/go", ["go", "test", "-v", "./..."], go_counts),
     Part("Java", "clients/java", ["./build.sh", "test"], java_counts),
     Part("Node", "clients/node", ["node", "--test"], node_counts),
-    *(kit(it) for it in ("python", "go", "java", "node")),
+    *(kit(it) for it in CLIENTS),
+    *(kit(it, DRAWN) for it in CLIENTS),
 ]
 
 

@@ -13,9 +13,8 @@ import unittest
 
 HERE = os.path.dirname(os.path.abspath(__file__))
 TOP = os.path.dirname(os.path.dirname(HERE))
-sys.path[:0] = [HERE, f"{TOP}/checks"]
+sys.path.insert(0, HERE)
 
-import clients  # noqa: E402
 import wrong_clients  # noqa: E402
 from made import sequences  # noqa: E402
 from server import Connections, readable  # noqa: E402
@@ -189,37 +188,6 @@ class Drawn(unittest.TestCase):
             status, said, faults = ran("kit.py", "--first", "--drawn", "100", *runner)
         self.assertEqual((status, faults), (1, ""), said)
         self.assertRegex(said, r"(?m)^FAILED: drawn-(\d+): .*\n.*--drawn 1 --seed \1$")
-
-
-class Check(unittest.TestCase):
-    """The commands that checks/clients.py runs."""
-
-    def test_what_a_late_command_started_is_ended(self):
-        kept = clients.SECONDS
-        self.addCleanup(setattr, clients, "SECONDS", kept)
-        clients.SECONDS = 1
-        with tempfile.TemporaryDirectory() as folder:
-            words = ["sh", "-c", "sleep 600 & echo $! > started; wait"]
-            self.assertEqual(clients.ran(words, folder), (None, "", "no end after 1 seconds"))
-            with open(f"{folder}/started") as it:
-                started = int(it.read())
-        deadline = time.monotonic() + 10
-        while is_running(started) and time.monotonic() < deadline:
-            time.sleep(0.02)
-        self.assertFalse(is_running(started))
-
-    def test_the_answer_of_a_command(self):
-        words = ["sh", "-c", "echo said; echo told >&2; exit 3"]
-        self.assertEqual(clients.ran(words), (3, "said\n", "told\n"))
-
-
-def is_running(number):
-    """Whether a process still runs: one that was killed may stay as a zombie for a moment."""
-    try:
-        with open(f"/proc/{number}/stat") as it:
-            return it.read().rpartition(")")[2].split()[0] != "Z"
-    except FileNotFoundError:
-        return False
 
 
 class Throughput(unittest.TestCase):

@@ -1,5 +1,5 @@
 /* Stands between a program and the system: writes down what the program does to one file and to its output, and lets one call
-   fail, or lie. checks/keep.py loads it by LD_PRELOAD.
+   fail, or lie. tests/files/test_keep.py loads it by LD_PRELOAD.
 
    KEEP_FILE  the file. Where it is not set, nothing is done.
    KEEP_LOG   where the calls are written down: a letter, two numbers of 8 bytes, and the bytes of a write. W at, length; T length, 0;

@@ -29,7 +29,7 @@ CRATES = ROOT / "crates"
 BLOCK = re.compile(r"```rust\n(.*?)```", re.S)
 NAME = re.compile(r"`([A-Za-z_]+(?:::[A-Za-z_]+)+)`|\b(tb_\w+|avl_tree|tbs|tbd)\b")
 PATH = re.compile(
-    r"(?<![\w/.*])((?:docs|apps|checks|bench|clients|crates|packaging|tables|tests|tools)/"
+    r"(?<![\w/.*])((?:docs|apps|bench|clients|crates|packaging|tables|tests|tools)/"
     r"[\w./-]*\w)(?![\w*/])"
 )
 # Of a folder out/, and what a page says may not be there.

@@ -111,7 +111,6 @@ def stored() -> list[Row]:
         *TOP.glob("examples/*.text"),
         *TOP.glob("docs/use/*.md"),
         TOP / "README.md",
-        TOP / "checks/text.py",
     ]
     paths += TOP.glob("crates/tb_text_tests/src/**/*.rt")
     texts = dict.fromkeys(it for path in sorted(paths) for it in texts_of(path) if len(it) < 5000)

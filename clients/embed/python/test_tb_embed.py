@@ -2,7 +2,7 @@
 """Tests of the module over a library that answers what it is told to.
 tests/embedding/test_embedded.py has those over the true one.
 
-    PYTHONPATH=../../python/src python3 -m unittest
+    /usr/bin/python3 -m pytest -q
 """
 import ctypes
 import ctypes.util
@@ -20,9 +20,8 @@ import time
 import unittest
 import unittest.mock
 
-sys.path.append(
-    os.path.join(os.path.dirname(os.path.abspath(__file__)), "..", "..", "python", "src")
-)
+PYTHON = pathlib.Path(__file__).resolve().parents[2] / "python"
+sys.path += [str(PYTHON / "src"), str(PYTHON / "tests")]
 
 import tb_client  # noqa: E402
 import tb_embed  # noqa: E402
