@@ -18,9 +18,9 @@ Prints a line for each scenario that fails, what was passed over, and 'N passed,
 over'. Status 0 where none failed, 1 where one did, 2 where the runner does not start or the words
 are wrong.
 
-A scenario whose client has to keep a short limit is tried again once, with times 10 times as long,
-where it fails: on a busy computer a right client may miss it, and a wrong one misses both. Those
-that were tried again are named at the end.
+If a scenario whose client has to keep a short limit fails, it is tried again with times 10 times as
+long, and then 40 times: on a busy computer a right client may miss a short limit, and a wrong one
+misses all. Those that were tried again are named at the end.
 """
 import argparse
 import fnmatch
@@ -39,7 +39,7 @@ sys.dont_write_bytecode = True
 HERE = os.path.dirname(os.path.abspath(__file__))
 SHORTENING = 60.0  # seconds
 STEPS = r"none|\d+(,\d+)*"
-FACTORS = (1, 10)  # how many times as long the times of a timed scenario are at each try
+FACTORS = (1, 10, 40)  # how many times as long the times of a timed scenario are at each try
 sys.path.insert(0, HERE)
 
 import certificates  # noqa: E402
@@ -287,7 +287,7 @@ def report(kit, said, chosen, seconds):
     if kit.unrepresentable:
         print(f"{kit.unrepresentable} values are refused by the types of {said.get('language')}")
     if kit.repeated:
-        print(f"tried again with longer times: {', '.join(sorted(kit.repeated))}")
+        print(f"tried again with longer times: {', '.join(sorted(set(kit.repeated)))}")
     skipped = sum(map(len, kit.skipped.values()))
     if kit.passed + len(kit.failed) + skipped != chosen and not kit.given.first:
         print(f"FAILED: {chosen} scenarios were to run")
