@@ -109,7 +109,7 @@ def test_the_statements_of_sql(books):
     with sqlite3.connect(clone.folder / "ledger.sqlite") as it:
         found = [len(it.execute(one).fetchall()) for one in text.split(";\n") if one.strip()]
     # No transfer is of November, and the ledger balances.
-    assert found == [0, 0, 1, 0]
+    assert found == [0, 1, 0]
 
 
 def test_an_answer_in_json(books):
