@@ -10,6 +10,7 @@ import sys
 import pytest
 
 from ..conftest import ROOT, ran
+from ..programs.test_refusals import Refuser
 
 sys.path.append(str(ROOT / "clients/conformance"))
 
@@ -159,3 +160,25 @@ def test_a_failed_read(oracle, tmp_path):
     finally:
         os.close(folder)
     assert (it.returncode, it.stdout, it.stderr) == (1, b"", b"tb_oracle: Device\n")
+
+
+@pytest.mark.parametrize("kind", ["growth", "read", "write"])
+def test_each_call_refused_in_turn(oracle, kind, tmp_path):
+    """The fault is named, what is written are whole answers, and all memory is given back."""
+    begun = [b"".join(answer(*it[3:]) for it in STEPS[:count]) for count in range(len(STEPS) + 1)]
+    fault, runs = "NoMemory" if kind == "growth" else "Device", 0
+    for _, ran_so in Refuser(tmp_path, 1).in_turn(oracle, [], INPUT, kind=kind):
+        assert ran_so.blocks == 0
+        if ran_so.refused:
+            runs += 1
+            assert (ran_so.status, ran_so.lines) == (1, [f"tb_oracle: {fault}"])
+            assert ran_so.output in begun
+        else:
+            assert (ran_so.status, ran_so.output, ran_so.lines) == (0, OUTPUT, [])
+    print(f"{runs} calls of {kind} refused")
+    assert runs >= {"growth": 3 * len(STEPS), "read": 2, "write": len(STEPS)}[kind]
+
+
+def test_reads_and_writes_of_one_byte(oracle, tmp_path):
+    in_parts = Refuser(tmp_path, 1).run(oracle, [], INPUT, "growth", 0, read=1, write=1)
+    assert in_parts[:3] == (0, OUTPUT, [])
