@@ -21,11 +21,11 @@ legal_snoc : (S : State) (h : List Entry) (e : Entry) → LegalFrom S h → IsTr
 legal_snoc S [] e legal next = (next, tt)
 legal_snoc S (x ∷ xs) e legal next = (legal.0, legal_snoc (step S x) xs e legal.1 next)
 
-recorded_snoc : (h : List Entry) (e : Entry) → AreRecorded h → IsRecord (dumped e) e → AreRecorded (h ++ e ∷ [])
+pub recorded_snoc : (h : List Entry) (e : Entry) → AreRecorded h → IsRecord (dumped e) e → AreRecorded (h ++ e ∷ [])
 recorded_snoc [] e are is = (is, tt)
 recorded_snoc (x ∷ xs) e are is = (are.0, recorded_snoc xs e are.1 is)
 
-dumped_snoc : (h : List Entry) (e : Entry) → map dumped h ++ dumped e ∷ [] ≡ map dumped (h ++ e ∷ [])
+pub dumped_snoc : (h : List Entry) (e : Entry) → map dumped h ++ dumped e ∷ [] ≡ map dumped (h ++ e ∷ [])
 dumped_snoc [] e = refl
 dumped_snoc (x ∷ xs) e = ap (λ (r : List (List ℕ)). dumped x ∷ r) (dumped_snoc xs e)
 

@@ -21,3 +21,4 @@ pub mod OneHistory
 pub mod Spelled
 pub mod Stopping
 pub mod Unrefused
+pub mod Orders

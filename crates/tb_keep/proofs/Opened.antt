@@ -5,7 +5,7 @@ use Rattle.tb_records.specs.declared.limits.Profile.{Profile}
 use Rattle.std.specs.Prelude.{drop}
 use Rattle.tb_journal.specs.Device.{Disk, LeavesOnly, SetsAside}
 use Rattle.tb_journal.specs.Reading.{extent_of}
-use Rattle.tb_journal.specs.Contents.{Records, contents, recorded, records_end}
+use Rattle.tb_journal.specs.Contents.{Records, contents, recorded}
 use Rattle.tb_journal.specs.Creating.{is_blank}
 use Rattle.tb_journal.specs.Opening.{IsAsBefore}
 use Rattle.tb_journal.specs.declared.reading.Extent.{Extent}

@@ -35,7 +35,7 @@ fits_none S e is = no_cause (e.commit == S.commit + 1) (nat_le (least_time S e.r
 fails_not : (cause : Unfit) (S : State) (e : Entry) → cause_of S e ≡ None → Fails cause S e → ⊥
 fails_not cause S e none is = grind (arith, common_steps)
 
-no_record : (fault : FrameFault) (bytes : List ℕ) (e : Entry) → IsRecord bytes e → IsNoRecord fault bytes → ⊥
+pub no_record : (fault : FrameFault) (bytes : List ℕ) (e : Entry) → IsRecord bytes e → IsNoRecord fault bytes → ⊥
 no_record fault bytes e is none = grind (arith, common_steps)
 
 stops_not : (fault : StartFault) (S : State) (e : Entry) → IsRecord (dumped e) e → fits S e ≡ true → StopsAt fault S (dumped e) → fault ≡ start.NoMemory
@@ -90,10 +90,10 @@ only_memory (start.Entry f) h keepable (head, rest, is, why) = stopped_not (star
 only_memory start.NoMemory h keepable stops = refl
 only_memory (start.TornTooLong at bytes) h keepable (head, rest, is, why) = stopped_not (start.TornTooLong at bytes) h head rest keepable is why
 
-refused_not : (why : Refusal) (records : List (List ℕ)) → Records records ≡ refused_as why → ⊥
+pub refused_not : (why : Refusal) (records : List (List ℕ)) → Records records ≡ refused_as why → ⊥
 refused_not why records is = grind (arith, common_steps)
 
-named_outside : (fault : StartFault) → fault ≡ start.NoMemory → IsNotOfFile fault
+pub named_outside : (fault : StartFault) → fault ≡ start.NoMemory → IsNotOfFile fault
 named_outside fault is = subst IsNotOfFile (sym is) tt
 
 -- what stops records that a file of such a history begins with stops all of them

@@ -5,7 +5,7 @@ use Rattle.tb_records.specs.declared.limits.Profile.{Profile}
 use Rattle.tb_records.specs.DumpBytes.{head_bytes}
 use Rattle.tb_records.proofs.Sendings.{sent_few}
 use Rattle.tb_journal.specs.declared.reading.Extent.{Extent}
-use Rattle.tb_journal.specs.Contents.{Contents, NotAJournal, Damaged, Records, contents, records_of, recorded}
+use Rattle.tb_journal.specs.Contents.{Contents, Records, contents, records_of, recorded}
 use Rattle.tb_journal.specs.Reading.{extent_of}
 use Rattle.tb_journal.specs.Scans.{BeginsWith}
 use Rattle.tb_journal.proofs.Growths.{begins_part}

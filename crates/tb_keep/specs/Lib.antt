@@ -4,6 +4,7 @@ pub mod Recovering
 pub mod Creating
 pub mod Reading
 pub mod Following
+pub mod Quick
 pub mod Salvaging
 pub mod ReadingOn
 pub mod Rounds

@@ -2,6 +2,7 @@
 pub mod Sources
 pub mod Entering
 pub mod Sending
+pub mod Passing
 pub mod Taking
 pub mod Behind
 pub mod Headed

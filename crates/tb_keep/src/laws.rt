@@ -1,6 +1,7 @@
 //! What holds of every kept ledger.
 ghost use Rattle.tb_keep.specs.Again.{OneHistory, OneLedger, GoesOnAfter, AnyCrash, AfterKill};
 ghost use Rattle.tb_keep.specs.Following.{EntriesAreAbove, EntriesOnce};
+ghost use Rattle.tb_keep.specs.Quick.{HistoriesAreInOrder, QuickRefusesNone};
 ghost use Rattle.tb_keep.specs.Reading.{DumpIsOfHistory, WholeRules, WholeNoHead, WholeDumps};
 ghost use Rattle.tb_keep.specs.Recovering.{OnlyMemory, FileOnlyMemory, WholeStops};
 ghost use Rattle.tb_keep.specs.Salvaging.{IsLongest};
@@ -65,6 +66,13 @@ pub fn whole_files()
 pub fn entries_above()
     ensures above { EntriesAreAbove }
     ensures once { EntriesOnce }
+{}
+
+/// What a start accepts, [`read_quick`](crate::read_quick) accepts: of a file that represents a history it finds the rules and the time of the
+/// last entry, and refuses none such, unless memory runs out or the device fails.
+pub fn quick_takes_histories()
+    ensures in_order { HistoriesAreInOrder }
+    ensures accepted { QuickRefusesNone }
 {}
 
 /// What `salvage` takes of a file is the longest legal history with whose records the file begins: each other begins so.

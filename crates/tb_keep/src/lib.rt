@@ -10,12 +10,13 @@
 //! - `replies`: replies held in memory until the entries that they rest on are durable.
 //! - `rounds`: `keep`, pairs served, entries committed, and then replies sent.
 //! - `dumps`: the rules, the history, the dump and the later entries of a file, read without a write.
+//! - `quick`: the numbers and times of a file's entries, read without the ledger that they make.
 //! - `salvaging`: the entries of a file taken over into a new one.
 //! - `reading_on`: the entries that stand in a file behind its damage, taken over too.
 //! - `laws`: what holds of every kept ledger: functions that do nothing.
 //! - `worked_rows`: small files, and what the definitions make of them.
 //!
-//! specs/Keeping is what a file represents, specs/Rounds what serving does, specs/Creating, Recovering and Reading what the
+//! specs/Keeping is what a file represents, specs/Rounds what serving does, specs/Creating, Recovering, Reading and Quick what the
 //! others do, specs/private/Sources of which bytes they speak, specs/Moments and Again what holds at each moment and after
 //! a crash.
 #![tactic(auto)]
@@ -25,6 +26,7 @@ mod dumps;
 mod faults;
 mod keepers;
 pub mod laws;
+mod quick;
 mod reading_on;
 mod recovering;
 mod replies;
@@ -36,6 +38,7 @@ pub use creating::{NotKept, create};
 pub use dumps::{read_history, read_rules, write_dump, write_entries};
 pub use faults::{DumpFault, KeepFault, SalvageFault, StartFault};
 pub use keepers::Keeper;
+pub use quick::read_quick;
 pub use reading_on::{ReadOn, read_on};
 pub use recovering::{Rules, read_head, restored, write_head};
 pub use rounds::{BATCH_BYTES_MAX, HELD_BYTES_MAX, keep};
