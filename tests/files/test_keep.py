@@ -629,7 +629,7 @@ WORDS = [
         "run ledger.tbk 2 1 --reports",
         "run ledger.tbk 2 1 --reports: PROFILE is 1 or 2, and only options may follow it, each once",
     ),
-    ("check ledger.tbk 2", "check: too many words"),
+    ("check ledger.tbk 2", "check: only --quick may follow FILE"),
     ("serve", "serve: unknown; tbd --help shows the forms"),
 ]
 

@@ -1,5 +1,5 @@
 -- What was read of a whole file.
-use Rattle.std.proofs.Common.{◌≡◌, ℕ, List, length, Result, Ok, refl, sym, ap, ◌∙◌, subst}
+use Rattle.std.proofs.Common.{◌≡◌, ◌-◌, ℕ, List, length, Result, Ok, refl, sym, ap, ◌∙◌, subst}
 use Rattle.tb_journal.specs.declared.reading.Extent.{Extent}
 use Rattle.tb_journal.specs.declared.reading.Refusal.{Refusal}
 use Rattle.tb_journal.specs.Contents.{Contents, Records, contents, records_of, recorded, records_end}
@@ -7,8 +7,9 @@ use Rattle.tb_journal.specs.Reading.{extent_of}
 use Rattle.tb_machine.specs.Histories.{State}
 use Rattle.tb_machine.proofs.RepeatLaws.{commit_is}
 use Rattle.tb_keep.specs.declared.recovering.Rules.{Rules}
+use Rattle.tb_keep.specs.Quick.{IsInOrder}
 use Rattle.tb_keep.specs.Reading.{IsHistory}
-use Rattle.tb_keep_commands.specs.Summaries.{IsFound}
+use Rattle.tb_keep_commands.specs.Summaries.{IsFound, IsFoundQuick}
 
 same_extent : (a b : Extent) (found : Result Extent Refusal) → found ≡ Ok a → found ≡ Ok b → b ≡ a
 same_extent a b found one two = cc
@@ -38,3 +39,10 @@ module _ (rules : Rules) (S : State) (extent : Extent) (entries time : ℕ) (fil
         time = as_time ∙ ap (λ (T : State). T.books.time) is.state;
         end = ends.1;
       }
+
+module _ (rules : Rules) (time entries : ℕ) (extent : Extent) (file : List ℕ) where
+  pub quick_is : IsInOrder rules time file → extent_of (contents file) ≡ Ok extent → entries ≡ extent.count - 1
+      → IsFoundQuick (record { rules = rules; records = extent.count; entries = entries; time = time; end = extent.end }) file
+  quick_is is read few =
+      let ends = extent_is file _ extent is.reads read in
+      record { in_order = is; records = ends.0; entries = few ∙ ap (λ (n : ℕ). n - 1) ends.0; end = ends.1 }

@@ -54,8 +54,8 @@ module _ {O D E : Type 0} (its : KnownFiles O D E) (ends : Terminals) (before : 
       first last start written quiet told
   Performs (form.Dump from follows) outcome first last start written quiet told =
       (last ≡ first) × (told ≡ quiet) × DumpsOver its name before left from follows outcome start written
-  Performs form.Check outcome first last start written quiet told =
-      (last ≡ first) × (told ≡ quiet) × ChecksOver its name before left outcome start written
+  Performs (form.Check quick) outcome first last start written quiet told =
+      (last ≡ first) × (told ≡ quiet) × ChecksOver its name before left quick outcome start written
   Performs form.Salvage outcome first last start written quiet told =
       (last ≡ first) × (told ≡ quiet) × CopiesOver its new name before left false outcome start written
   Performs form.Backup outcome first last start written quiet told =

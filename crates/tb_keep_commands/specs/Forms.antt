@@ -23,11 +23,15 @@ form_alone word =
 abbrev pub is_dump : List ℕ → Bool
 is_dump word = pointwise nat_eq word (codes "dump")
 
+-- the word of checks
+abbrev pub is_check : List ℕ → Bool
+is_check word = pointwise nat_eq word (codes "check")
+
 -- `dump FILE` or `check FILE`
 abbrev pub form_over : List ℕ → Option Form
 form_over word =
     if is_dump word then Some (form.Dump None false)
-    else if pointwise nat_eq word (codes "check") then Some form.Check
+    else if is_check word then Some (form.Check false)
     else None
 
 abbrev pub run_by : Option ℕ → Option Profile → Option Options → Option Form
@@ -118,10 +122,18 @@ is_no_file word = is_option word || is_number word
 abbrev pub copy_form : Form → List ℕ → Option Form
 copy_form asked new = if is_no_file new then None else Some asked
 
--- `dump FILE --follow`, `salvage FILE NEW`, `backup FILE NEW`, or `run FILE CLIENTS_MAX`
+-- the word that has a file checked quickly
+abbrev pub is_quick : List ℕ → Bool
+is_quick word = pointwise nat_eq word (codes "--quick")
+
+abbrev pub form_where : Bool → Form → Option Form
+form_where asked form = if asked then Some form else None
+
+-- `dump FILE --follow`, `check FILE --quick`, `salvage FILE NEW`, `backup FILE NEW`, or `run FILE CLIENTS_MAX`
 abbrev pub form_three : List ℕ → List ℕ → Option Form
 form_three word third =
-    if is_dump word then (if is_follow third then Some (form.Dump None true) else None)
+    if is_dump word then form_where (is_follow third) (form.Dump None true)
+    else if is_check word then form_where (is_quick third) (form.Check true)
     else if pointwise nat_eq word (codes "salvage") then copy_form form.Salvage third
     else if pointwise nat_eq word (codes "backup") then copy_form form.Backup third
     else run_form word third (Some One) (Some no_options)
@@ -216,7 +228,7 @@ wrong_follow words = if nat_lt 5 (length words) then so_wrong (take 1 words) (co
 
 -- what is wrong behind a word and its file
 abbrev pub wrong_behind : List ℕ → List ℕ
-wrong_behind word = if is_dump word then codes "only --after COMMIT and --follow may follow FILE" else codes "too many words"
+wrong_behind word = if is_dump word then codes "only --after COMMIT and --follow may follow FILE" else codes "only --quick may follow FILE"
 
 -- words that begin with one that takes a file, of which the second may name one
 abbrev pub wrong_count : List (List ℕ) → Wrong
@@ -284,6 +296,9 @@ later_entries_are_followed = refl
 pub the_options_have_no_order : form_of (codes "dump" ∷ codes "ledger" ∷ codes "--follow" ∷ codes "--after" ∷ codes "40" ∷ []) ≡ Some (form.Dump (Some 40) true)
 the_options_have_no_order = refl
 
+pub a_check_is_quick : form_of (codes "check" ∷ codes "ledger" ∷ codes "--quick" ∷ []) ≡ Some (form.Check true)
+a_check_is_quick = refl
+
 pub a_file_is_salvaged : form_of (codes "salvage" ∷ codes "ledger" ∷ codes "./64" ∷ []) ≡ Some form.Salvage
 a_file_is_salvaged = refl
 
@@ -299,7 +314,7 @@ profile_is_wrong = refl
 pub a_number_is_no_file : form_of (codes "run" ∷ codes "64" ∷ codes "1" ∷ []) ≡ None
 a_number_is_no_file = refl
 
-pub a_path_of_digits_is_one : form_of (codes "check" ∷ codes "./64" ∷ []) ≡ Some form.Check
+pub a_path_of_digits_is_one : form_of (codes "check" ∷ codes "./64" ∷ []) ≡ Some (form.Check false)
 a_path_of_digits_is_one = refl
 
 pub the_file_is_wrong : (wrong (codes "run" ∷ codes "64" ∷ codes "1" ∷ [])).what ≡ codes "FILE is a number or begins with -; write ./FILE"

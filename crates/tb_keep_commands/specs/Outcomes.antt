@@ -28,7 +28,7 @@ use Rattle.tb_keep_commands.specs.ExitStatuses.{disk_fault, reason_fault, starte
 use Rattle.tb_keep_commands.specs.Live.{IsWholeLength, MeasuresWhole}
 use Rattle.tb_keep_commands.specs.Following.{WritesPart, HasPartCause, dump_outcome}
 use Rattle.tb_keep_commands.specs.Naming.{Names, NamesAsked}
-use Rattle.tb_keep_commands.specs.Summaries.{ReadsWhole, summary_of, summary_text}
+use Rattle.tb_keep_commands.specs.Summaries.{ReadsQuick, ReadsWhole, summary_of, summary_text}
 
 -- done, or not to its end
 abbrev pub Outcome : Type 0
@@ -105,12 +105,23 @@ module _ {D : Type 0} (its : devices.Ghosts D) where
   DumpsPart Ended None false outcome device after start written = DumpsFile outcome device after start written
   DumpsPart Ended from follows outcome device after start written = FollowsFile Ended from follows outcome device after start written
 
-  -- a file of so many bytes was read to its end before its summary was printed. One that is no history is refused, and nothing was
-  pub record ChecksLong (len : ℕ) (outcome : Outcome) (device after : D) (start written : Output) : Type 0 where
+  -- a device was read to the end of its file, by the numbers and times of its entries alone, or it is reported why not; the file stays
+  pub record IsReadQuick (found : Result Found StartFault) (device after : D) : Type 0 where
+    pub found_is : OfFile device (ReadsQuick found)
+    pub same : OfFile device (its.holds after)
+    pub cause : its.tells → HasStartCause found (its.disk device) (its.disk after)
+
+  -- quickly, or as one history
+  abbrev pub IsReadBy : Bool → Result Found StartFault → D → D → Type 0
+  IsReadBy true = IsReadQuick
+  IsReadBy false = IsReadWhole
+
+  -- a file of so many bytes was read to its end before its summary was printed. One that is refused is named, and nothing was
+  pub record ChecksLong (len : ℕ) (quick : Bool) (outcome : Outcome) (device after : D) (start written : Output) : Type 0 where
     pub found : Result Found StartFault
     pub between : D
-    pub whole : IsReadWhole found device between
-    pub checks : MatchResult found (λ it. PrintsText (summary_text (summary_of it len)) outcome start written)
+    pub read : IsReadBy quick found device between
+    pub checks : MatchResult found (λ it. PrintsText (summary_text (summary_of it len quick)) outcome start written)
         (λ fault. IsRefused fault outcome between after × (written ≡ start))
 
   -- a device was asked for the length of its file, which stays
@@ -129,11 +140,11 @@ module _ {D : Type 0} (its : devices.Ghosts D) where
     pub looks : its.tells → Looks len (its.disk device) (its.disk after)
 
   -- a file's length was asked for, and then it was checked
-  pub record ChecksFile (whole : D → List ℕ → Type 0) (outcome : Outcome) (device after : D) (start written : Output) : Type 0 where
+  pub record ChecksFile (whole : D → List ℕ → Type 0) (quick : Bool) (outcome : Outcome) (device after : D) (start written : Output) : Type 0 where
     pub len : Result ℕ JournalFault
     pub between : D
     pub asked : IsMeasured whole len device between
-    pub checks : MatchResult len (λ n. ChecksLong n outcome between after start written)
+    pub checks : MatchResult len (λ n. ChecksLong n quick outcome between after start written)
         (λ fault. (outcome ≡ Err (disk_fault fault)) × (written ≡ start))
 
   -- that its start made a file where there were no bytes was reported, and what it cut off behind the records of one of so many bytes, and that
@@ -243,7 +254,7 @@ module _ {O D E : Type 0} (its : KnownFiles O D E) (name : List ℕ) (before lef
       Opens Opening (its.opener.opens before name) left outcome (written ≡ start)
       (λ device. (after : E) × DumpsPart its.reading (its.opener.ended left) from follows outcome device after start written)
 
-  abbrev pub ChecksOver : Outcome → Output → Output → Type 0
-  ChecksOver outcome start written =
+  abbrev pub ChecksOver : Bool → Outcome → Output → Output → Type 0
+  ChecksOver quick outcome start written =
       Opens Opening (its.opener.opens before name) left outcome (written ≡ start)
-      (λ device. (after : E) × ChecksFile its.reading its.whole outcome device after start written)
+      (λ device. (after : E) × ChecksFile its.reading its.whole quick outcome device after start written)

@@ -1,6 +1,6 @@
 //! What the words of the command line ask for, and what is wrong with words that ask for nothing.
 ghost use Rattle.std.specs.Prelude.{◌≡◌, map, take, string_bytes};
-ghost use Rattle.tb_keep_commands.specs.Forms.{form_alone, form_by, form_of, form_over, form_three, form_four, form_five, dump_from, dump_later, is_follow, is_drop_torn, is_existing, follow_option, no_options, with_option, two_options, run_form, run_four, run_five, run_six, file_word, new_word, copy_form, is_copy, wrong_new, wrong_copy, is_number, is_no_file, is_progress, wrong_last, wrong_more, wrong_clients, wrong_run, wrong_follow, wrong_behind, wrong_count, wrong_over, wrong};
+ghost use Rattle.tb_keep_commands.specs.Forms.{form_alone, form_by, form_of, form_over, form_three, form_four, form_five, form_where, is_quick, dump_from, dump_later, is_follow, is_drop_torn, is_existing, follow_option, no_options, with_option, two_options, run_form, run_four, run_five, run_six, file_word, new_word, copy_form, is_copy, wrong_new, wrong_copy, is_number, is_no_file, is_progress, wrong_last, wrong_more, wrong_clients, wrong_run, wrong_follow, wrong_behind, wrong_count, wrong_over, wrong};
 ghost use Rattle.tb_commands.specs.Forms.{clients_of};
 
 use tb_commands::{number, read_clients_max, read_profile, with_clients_range};
@@ -25,8 +25,8 @@ pub enum Form {
     /// Write the history of a file as a dump: all of it, or the entries above a commit number, without a head. The flag has more waited
     /// for.
     Dump(Option<u64>, bool),
-    /// Read a file, and report what is in it.
-    Check,
+    /// Read a file, and report what is in it. With the flag only checksums, commit numbers and times are checked.
+    Check(bool),
     /// Copy the longest legal history that a file begins with into a new file.
     Salvage,
     /// Copy a file that is whole into a new file.
@@ -43,7 +43,7 @@ fn form_over(word: &str) -> Option<Form>
 {
     match word {
         "dump" => Some(Form::Dump(None, false)),
-        "check" => Some(Form::Check),
+        "check" => Some(Form::Check(false)),
         _ => None,
     }
 }
@@ -206,18 +206,27 @@ fn is_follow(word: &str) -> bool
     word == "--follow"
 }
 
+/// Says that a word has a file checked quickly.
+fn is_quick(word: &str) -> bool
+    ensures { result ≡ is_quick word.now }
+{
+    word == "--quick"
+}
+
+/// The form, where a word asks for it.
+fn form_where(asked: bool, form: Form) -> Option<Form>
+    ensures { result ≡ form_where asked form }
+{
+    if asked { Some(form) } else { None }
+}
+
 /// What a word with a file and one more word asks for.
 fn form_three(word: &str, third: &str) -> Option<Form>
     ensures { result ≡ form_three word.now third.now }
 {
-    if word == "dump" {
-        return if is_follow(third) {
-            Some(Form::Dump(None, true))
-        } else {
-            None
-        };
-    }
     match word {
+        "dump" => form_where(is_follow(third), Form::Dump(None, true)),
+        "check" => form_where(is_quick(third), Form::Check(true)),
         "salvage" => copy_form(Form::Salvage, third),
         "backup" => copy_form(Form::Backup, third),
         _ => run_form(word, third, Some(Profile::One), Some(no_options())),
@@ -443,7 +452,7 @@ fn wrong_behind(word: &str) -> &'static str
     if word == "dump" {
         return "only --after COMMIT and --follow may follow FILE";
     }
-    "too many words"
+    "only --quick may follow FILE"
 }
 
 /// What is wrong with words that begin with one that takes a file, of which the second may name one, and those of them that are

@@ -138,15 +138,16 @@ fn check_over<O: Opener, W: Sink>(
     alloc: Global,
     opener: &mut O,
     name: &str,
+    quick: bool,
     writer: &mut W,
 ) -> Result<(), KeepCommandFault>
-    ensures { ChecksOn ⟦<O as Files>⟧.its W.Sink name.now result opener writer }
+    ensures { ChecksOn ⟦<O as Files>⟧.its W.Sink name.now quick result opener writer }
 {
     let found = opener.open(name);
     match found {
         Ok(device) => {
             let mut device = device;
-            let checked = check(alloc, &mut device, writer);
+            let checked = check(alloc, &mut device, quick, writer);
             drop(device);
             checked
         }
@@ -209,7 +210,7 @@ fn perform<O: Opener, R: Source, W: Outlet, E: Sink>(
         Form::Dump(after, follows) => {
             dump_over(alloc, opener, name, writer, Part { after, follows })
         }
-        Form::Check => check_over(alloc, opener, name, writer),
+        Form::Check(quick) => check_over(alloc, opener, name, quick, writer),
         Form::Salvage => copy_over(alloc, opener, name, asked.new, false, writer),
         Form::Backup => copy_over(alloc, opener, name, asked.new, true, writer),
         Form::Help => print(writer, USAGE),

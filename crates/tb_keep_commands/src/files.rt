@@ -2,8 +2,8 @@
 ghost use Rattle.std.specs.Prelude.{◌≡◌, ℕ, List, Ok};
 ghost use Rattle.tb_keep.specs.Creating.{IsUntouched};
 ghost use Rattle.tb_keep.specs.Recovering.{HasStartCause};
-ghost use Rattle.tb_keep_commands.specs.Summaries.{ReadsWhole, summary_text};
-ghost use Rattle.tb_keep_commands.specs.Outcomes.{DumpsFound, DumpsFile, ChecksLong, ChecksFile, PrintsText};
+ghost use Rattle.tb_keep_commands.specs.Summaries.{ReadsQuick, ReadsWhole, summary_text};
+ghost use Rattle.tb_keep_commands.specs.Outcomes.{DumpsFound, DumpsFile, IsReadBy, ChecksLong, ChecksFile, PrintsText};
 ghost use Rattle.tb_keep_commands.specs.private.Changes.{OnDevice};
 
 use crate::faults::{Failed, KeepCommandFault, disk_fault, dumped_fault};
@@ -13,7 +13,7 @@ use crate::summaries::{Found, Summary};
 use std::alloc::Global;
 use std::format;
 use tb_journal::Device;
-use tb_keep::{StartFault, read_history, write_dump};
+use tb_keep::{StartFault, read_history, read_quick, write_dump};
 use tb_records::{Sink, put_all};
 
 /// Reads a whole file, whose records are those of one history.
@@ -38,6 +38,35 @@ pub(crate) fn read_whole<D: Device>(alloc: Global, device: &mut D) -> Result<Fou
         }
         Err(fault) => Err(fault),
     }
+}
+
+/// Reads a whole file, of whose entries only the numbers and times are checked.
+fn read_quickly<D: Device>(alloc: Global, device: &mut D) -> Result<Found, StartFault>
+    ensures found { (file : List ℕ) → D.holds device.old file → ReadsQuick result file }
+    ensures same { (file : List ℕ) → D.holds device.old file → D.holds device.new file }
+    ensures untouched { D.tells → IsUntouched (D.disk device.old) (D.disk device.new) }
+    ensures cause { D.tells → HasStartCause result (D.disk device.old) (D.disk device.new) }
+{
+    match read_quick(alloc, device) {
+        Ok((rules, time, extent)) => Ok(Found {
+            rules,
+            records: extent.count,
+            entries: (extent.count as u64).saturating_sub(1),
+            time,
+            end: extent.end,
+        }),
+        Err(why) => Err(why),
+    }
+}
+
+/// Reads a whole file, quickly or as one history.
+fn read_by<D: Device>(alloc: Global, device: &mut D, quick: bool) -> Result<Found, StartFault>
+    ensures { IsReadBy D.Device quick result device.old device.new }
+{
+    if quick {
+        return read_quickly(alloc, device);
+    }
+    read_whole(alloc, device)
 }
 
 /// Writes the dump of a file of which this was read.
@@ -87,12 +116,13 @@ fn check_long<D: Device, W: Sink>(
     alloc: Global,
     device: &mut D,
     len: usize,
+    quick: bool,
     writer: &mut W,
 ) -> Result<(), KeepCommandFault>
-    ensures { OnDevice W.Sink (ChecksLong D.Device len result) device writer }
+    ensures { OnDevice W.Sink (ChecksLong D.Device len quick result) device writer }
 {
-    match read_whole(alloc, device) {
-        Ok(found) => report(alloc, found.summary(len), writer),
+    match read_by(alloc, device, quick) {
+        Ok(found) => report(alloc, found.summary(len, quick), writer),
         Err(fault) => Err(named(device, fault)),
     }
 }
@@ -101,12 +131,13 @@ fn check_long<D: Device, W: Sink>(
 pub(crate) fn check<D: Live, W: Sink>(
     alloc: Global,
     device: &mut D,
+    quick: bool,
     writer: &mut W,
 ) -> Result<(), KeepCommandFault>
-    ensures { OnDevice W.Sink (ChecksFile D.Device D.whole result) device writer }
+    ensures { OnDevice W.Sink (ChecksFile D.Device D.whole quick result) device writer }
 {
     match device.file_len() {
-        Ok(len) => check_long(alloc, device, len, writer),
+        Ok(len) => check_long(alloc, device, len, quick, writer),
         Err(fault) => Err(disk_fault(fault)),
     }
 }

@@ -27,7 +27,9 @@ Keeps a ledger in a file: what was answered is in the file, whenever the program
                                   serves a log of entries with positions as tb_follow does; each
                                   reply goes out when its entry is on the disk. Its start says
                                   up to which position FILE has the log
-  check FILE                      reads all of FILE and prints what is in it, or the damage
+  check FILE [--quick]            reads all of FILE and prints what is in it, or the damage. With
+                                  --quick only checksums, commit numbers and times are checked,
+                                  in little memory: the ledger is not replayed
   salvage FILE NEW                copies what is whole before the first damage into NEW, and
                                   prints what is lost and where. NEW must not exist
   backup FILE NEW                 the same of a FILE that is whole, else status 6

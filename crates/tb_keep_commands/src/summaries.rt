@@ -1,13 +1,13 @@
 //! What `check` reports of a file.
 ghost use Rattle.std.specs.Prelude.{◌≡◌, ◌-◌};
 ghost use Rattle.tb_records.specs.DumpBytes.{profile_number};
-ghost use Rattle.tb_keep_commands.specs.Summaries.{summary_of, behind_text};
+ghost use Rattle.tb_keep_commands.specs.Summaries.{summary_of, behind_text, replayed_text};
 
 use std::fmt;
 use tb_keep::Rules;
 use tb_records::Profile;
 
-/// What was read of a file whose records are all those of one history.
+/// What was read of a file whose records are all those of one history, or of entries in order.
 #[derive(Clone, Copy)]
 pub(crate) struct Found {
     pub rules: Rules,
@@ -20,9 +20,9 @@ pub(crate) struct Found {
 }
 
 impl Found {
-    /// What is in such a file of so many bytes.
-    pub fn summary(self, len: usize) -> Summary
-        ensures { result ≡ summary_of self len }
+    /// What is in such a file of so many bytes, which was read quickly or as one history.
+    pub fn summary(self, len: usize, quick: bool) -> Summary
+        ensures { result ≡ summary_of self len quick }
     {
         Summary {
             rules: self.rules,
@@ -30,6 +30,7 @@ impl Found {
             entries: self.entries,
             time: self.time,
             behind: len.saturating_sub(self.end).saturating_sub(4),
+            replayed: !quick,
         }
     }
 }
@@ -45,6 +46,8 @@ pub struct Summary {
     pub time: u64,
     /// The bytes behind the records: not committed yet, or torn. A start would cut them off.
     pub behind: usize,
+    /// Whether the entries were replayed, or only their numbers and times checked.
+    pub replayed: bool,
 }
 
 /// The number of a profile.
@@ -68,6 +71,17 @@ pub(crate) fn behind_text(bytes: usize) -> &'static str
     }
 }
 
+/// What is printed of a file whose entries were not replayed.
+fn replayed_text(replayed: bool) -> &'static str
+    ensures { result.now ≡ replayed_text replayed }
+{
+    if replayed {
+        ""
+    } else {
+        "not replayed: only checksums, commit numbers and times were checked\n"
+    }
+}
+
 impl fmt::Display for Summary {
     ghost use Rattle.std.specs.Prelude.{Some};
     ghost use Rattle.tb_keep_commands.specs.Summaries.{summary_text};
@@ -78,9 +92,10 @@ impl fmt::Display for Summary {
         let profile = profile_number(self.rules.profile);
         let clients_max = self.rules.clients_max.get();
         let what = behind_text(self.behind);
+        let note = replayed_text(self.replayed);
         write!(
             f,
-            "records {}\nentries {}\nprofile {profile}\nclients_max {clients_max}\nlast time {}\nbytes behind {}{what}\n",
+            "records {}\nentries {}\nprofile {profile}\nclients_max {clients_max}\nlast time {}\nbytes behind {}{what}\n{note}",
             self.records, self.entries, self.time, self.behind
         )
     }

@@ -47,8 +47,8 @@ module _ {O D E W : Type 0} (its : KnownFiles O D E) (sink : sinks.Ghosts W) whe
   abbrev pub DumpsOn : List ℕ → Part → Outcome → Change O → Change W → Type 0
   DumpsOn name part outcome opener writer = OnWriter sink (DumpsOver its name (old opener) (new opener) part.after part.follows outcome) writer
 
-  abbrev pub ChecksOn : List ℕ → Outcome → Change O → Change W → Type 0
-  ChecksOn name outcome opener writer = OnWriter sink (ChecksOver its name (old opener) (new opener) outcome) writer
+  abbrev pub ChecksOn : List ℕ → Bool → Outcome → Change O → Change W → Type 0
+  ChecksOn name quick outcome opener writer = OnWriter sink (ChecksOver its name (old opener) (new opener) quick outcome) writer
 
   abbrev pub CopiesOn : List ℕ → List ℕ → Bool → Outcome → Change O → Change W → Type 0
   CopiesOn into name whole outcome opener writer = OnWriter sink (CopiesOver its into name (old opener) (new opener) whole outcome) writer

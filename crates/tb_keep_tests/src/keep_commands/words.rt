@@ -134,7 +134,11 @@ const WRONG: &[Row] = &[
     wrong!(&["check"], "tbd: Usage: check: FILE is missing\n"),
     wrong!(
         &["check", "ledger", "2"],
-        "tbd: Usage: check: too many words\n",
+        "tbd: Usage: check: only --quick may follow FILE\n",
+    ),
+    wrong!(
+        &["check", "ledger", "--quick", "--quick"],
+        "tbd: Usage: check: only --quick may follow FILE\n",
     ),
     wrong!(&["--help", "run"], "tbd: Usage: --help: too many words\n"),
     wrong!(&["--help", "64"], "tbd: Usage: --help: too many words\n"),

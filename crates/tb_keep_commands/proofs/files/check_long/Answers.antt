@@ -4,15 +4,15 @@ use Rattle.tb_keep_commands.proofs.files.check_long.Goals as goal
 pub returns-in-Ok : goal.returns-in-Ok
 returns-in-Ok g c = record {
   found = Ok c.in-Ok.found;
-  between = c.read_whole.new.device;
-  whole = record { found_is = c.in-Ok.ensures.found; same = c.in-Ok.ensures.same; cause = c.in-Ok.ensures.cause };
+  between = c.read_by.new.device;
+  read = c.in-Ok.ensures;
   checks = rw c.summary.ensures at c.report.ensures;
 }
 
 pub returns-in-Err : goal.returns-in-Err
 returns-in-Err g c = record {
   found = Err c.in-Err.fault;
-  between = c.read_whole.new.device;
-  whole = record { found_is = c.in-Err.ensures.found; same = c.in-Err.ensures.same; cause = c.in-Err.ensures.cause };
+  between = c.read_by.new.device;
+  read = c.in-Err.ensures;
   checks = (record { named = c.named.result; outcome_is = refl; names = c.named.ensures }, refl);
 }
