@@ -23,7 +23,9 @@ def pages(table):
         "classes": rows(("Case", "Class"), [(it["holds"], it["name"]) for it in table["classes"]]),
         "frame-tests": frame_tests(table),
         "fault-numbers": numbered(table["frame_faults"], "Fault"),
-        "dump-faults": numbered(table["dump_faults"], "Fault"),
+        "dump-faults": rows(
+            ("Fault", "It says"), [(it["name"], it["says"]) for it in table["dump_faults"]]
+        ),
         "run-faults": numbered(table["run_faults"], "Fault"),
         "embed-statuses": numbered(table["embed_statuses"], "Status"),
         "told": rows(
@@ -85,11 +87,8 @@ def operations(table):
 
 
 def frame_tests(table):
-    lines = [
-        (place, it["name"], it["request"], it["reply"])
-        for place, it in enumerate(table["frame_tests"], 1)
-    ]
-    return rows(("Order", "Fault", "A request has it if", "A reply has it if"), lines)
+    lines = [(it["name"], it["request"], it["reply"]) for it in table["frame_tests"]]
+    return rows(("Fault", "A request has it if", "A reply has it if"), lines)
 
 
 def side_by_side(table, layouts):
