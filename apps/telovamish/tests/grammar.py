@@ -4,7 +4,6 @@ from __future__ import annotations
 
 import datetime
 import pathlib
-import re
 from typing import NamedTuple
 
 from lark import Lark, Transformer
@@ -149,8 +148,3 @@ def meant(text: str):
         return PARSER.parse(text)
     except (UnexpectedInput, VisitError, Broken):
         return None
-
-
-def printed() -> str:
-    """The grammar without its first comment."""
-    return re.sub(r"\A//[^\n]*\n", "", FILE.read_text())

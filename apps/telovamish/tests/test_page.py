@@ -1,4 +1,4 @@
-"""The page docs/use/TELOVAMISH.md: its grammar, examples and words."""
+"""The page docs/use/TELOVAMISH.md: its examples."""
 from __future__ import annotations
 
 import json
@@ -7,7 +7,6 @@ import re
 import shutil
 import subprocess
 
-import grammar
 import pytest
 from conftest import APP, COMMAND, ran
 
@@ -24,10 +23,6 @@ def blocks(kind: str, begins: str) -> str:
 
 def without_dates(text: str) -> str:
     return re.sub(r"\d{4}-\d\d-\d\dT[0-9:.]+Z", "DATE", text)
-
-
-def test_the_page_prints_the_grammar():
-    assert blocks("text", "start:") == grammar.printed()
 
 
 def test_the_first_statements(tbs):
