@@ -135,15 +135,9 @@ class Run:
             self.runner.start()
             return
         self.test(step.get("wants", {"ok": None}), answer)
-        for name, holds in (
-            ("at_least", took >= step.get("at_least", 0)),
-            ("at_most", took <= step.get("at_most", CALL)),
-        ):
-            if not holds:
-                raise Failed(
-                    f"the call took {took:.3f} s, {name.replace('_', ' ')}"
-                    f" {step[name]:g} are wanted"
-                )
+        least, most = step.get("at_least", 0), step.get("at_most", CALL)
+        if not least <= took <= most:
+            raise Failed(f"the call took {took:.3f} s: {least:g} to {most:g} are wanted")
 
     def kill(self):
         """Kills the runner within a call."""
