@@ -3,7 +3,7 @@
 
    KEEP_FILE  the file. Where it is not set, nothing is done.
    KEEP_LOG   where the calls are written down: a letter, two numbers of 8 bytes, and the bytes of a write. W at, length; T length, 0;
-              S 0, 0 after a sync that was done; O 0, length before a write to standard output.
+              S 0, 0 after a sync that was done; F inode, 0 after that of a folder; O 0, length before a write to standard output.
    KEEP_FAULT one of
               write N E      the Nth write or cut of the file fails with errno E, and does nothing
               torn N K E     the Nth write takes K bytes, and the write behind it fails with E
@@ -12,6 +12,7 @@
               sync N E       the Nth sync fails with E, and does nothing
               read N E       the Nth read of the file fails with errno E
               few K          each read of the file gives K bytes at most
+              out L          standard output takes L bytes: what does not fit fails with ENOSPC
               full L         no write makes the file longer than L bytes: what does not fit fails with ENOSPC
               nosync         syncs answer, and do nothing
               early MS       writes that make the file no longer, and syncs after them, answer at once, and are done MS milliseconds after
@@ -32,7 +33,7 @@
 #include <time.h>
 #include <unistd.h>
 
-static long calls, syncs, reads, first, second, third;
+static long calls, syncs, reads, out, first, second, third;
 static char fault[16];
 static int failing, log_fd = -1, ready;
 
@@ -141,7 +142,9 @@ static int sync_file(int fd, long call) {
     if (is("sync") && n == first) return fail(second);
     if (is("nosync") || (is("early") && held_first)) return 0;
     int answer = syscall(call, fd);
+    struct stat found;
     if (answer == 0 && is_file(fd)) note('S', 0, 0, 0);
+    else if (answer == 0 && fstat(fd, &found) == 0 && S_ISDIR(found.st_mode)) note('F', found.st_ino, 0, 0);
     return answer;
 }
 
@@ -154,8 +157,21 @@ int ftruncate(int fd, off_t len) { return ftruncate64(fd, len); }
 int fsync(int fd) { return sync_file(fd, SYS_fsync); }
 int fdatasync(int fd) { return sync_file(fd, SYS_fdatasync); }
 
+static ssize_t write_out(const void *bytes, size_t len) {
+    begin();
+    if (is("out") && out + (long)len > first) {
+        if (out >= first) return fail(ENOSPC);
+        len = first - out;
+    }
+    note('O', 0, len, bytes);
+    ssize_t done = syscall(SYS_write, 1, bytes, len);
+    if (done > 0) out += done;
+    let_go();
+    return done;
+}
+
 ssize_t write(int fd, const void *bytes, size_t len) {
-    if (fd == 1) { note('O', 0, len, bytes); ssize_t done = syscall(SYS_write, fd, bytes, len); let_go(); return done; }
+    if (fd == 1) return write_out(bytes, len);
     if (is_file(fd)) return write_file(fd, bytes, len, lseek(fd, 0, SEEK_CUR));
     return syscall(SYS_write, fd, bytes, len);
 }

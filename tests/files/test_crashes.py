@@ -260,7 +260,7 @@ def torn(image, write, rng):
 
 
 def events(log):
-    """The calls: writes and cuts of the file, syncs, and replies that were written."""
+    """The calls: writes and cuts of the file, its syncs, and replies that were written."""
     with open(log, "rb") as file:
         data = file.read()
     at = 0
@@ -270,7 +270,7 @@ def events(log):
         if letter in (b"W", b"O"):
             yield letter, place, data[at : at + length]
             at += length
-        else:
+        elif letter != b"F":
             yield letter, place, b""
 
 

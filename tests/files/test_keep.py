@@ -414,7 +414,8 @@ def logged(log):
     while at < len(data):
         letter, length = chr(data[at]), struct.unpack_from("<Q", data, at + 9)[0]
         at += 17
-        yield letter, letter == "W" and data[at : at + length] == b"\xff" * 4
+        if letter != "F":
+            yield letter, letter == "W" and data[at : at + length] == b"\xff" * 4
         at += length if letter in "WO" else 0
 
 

@@ -171,6 +171,12 @@ def test_frames():
         ("BadLength", changed(32, 1)),
         ("TooMany", FIRST + pair(10, 7, 1, 1, 129, b"", 8191 * 128)),
         ("Short", FIRST + pair(10, 7, 1, 1, 129, b"", 8190 * 128)),
+        # of two faults the first one by the order of the tests
+        ("ClientZero", FIRST + pair(10, 0, 0, 0, 3)),
+        ("UnknownOperation", FIRST + pair(10, 7, 1, 1, 3, b"", 1)),
+        ("RegisterNumbers", FIRST + pair(10, 7, 1, 0, 2, b"", 1)),
+        ("RequestZero", FIRST + pair(10, 7, 1, 0, 129, b"", 255)),
+        ("BadLength", FIRST + pair(10, 7, 1, 1, 129, b"", 255)),
     ]
     for fault, script in faults:
         case(f"{fault} in the second frame", ended(script), (2, FIRST_REPLY, line(fault)))
@@ -303,6 +309,15 @@ def many_items():
 def test_many_items():
     script, replies = many_items()
     case("8190 accounts and their lookup", ended(script), (0, replies, b""))
+
+
+def test_many_results():
+    """8190 transfers that are refused: the longest list of results."""
+    numbers = range(1, 8191)
+    refused = pair(10, 7, 1, 2, 130, b"".join(transfer(id, 99, 2, 1) for id in numbers))
+    codes = b"".join(result(at, 21) for at in range(8190))
+    wanted = REPLIES[:96] + reply(7, 1, 2, 130, 0, 3, codes)
+    case("8190 results", ended(SCRIPT[:368] + refused), (0, wanted, b""))
 
 
 def test_outputs():

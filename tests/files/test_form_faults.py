@@ -1,0 +1,145 @@
+"""Each read, write and sync of a form of `tbd` fails in turn: the exit status and the line name it,
+and the ledger loses nothing. Calls fail by shim.c, which wants gcc.
+
+    python3 -m pytest -m quick tests/files/test_form_faults.py
+"""
+
+import errno
+import itertools
+import os
+import re
+
+import pytest
+
+from . import kinds
+from .kinds import AGAIN, REPLIES, SCRIPT
+
+pytestmark = pytest.mark.quick
+FAILED = 1, "tbd: Device: {}: a read or write failed; look at the disk, and start again\n"
+FULL = (
+    8,
+    "tbd: Full: {}: the disk is full, or the file has its greatest length; free space, and start"
+    " again\n",
+)
+SYNC = (
+    9,
+    "tbd: SyncFailed: {}: restart the machine or copy the file before the next start\n",
+)
+# The call that fails and with what, and how that is told.
+FAULTS = [
+    ("read", errno.EIO, FAILED),
+    ("write", errno.EIO, FAILED),
+    ("write", errno.ENOSPC, FULL),
+    ("sync", errno.EIO, SYNC),
+]
+NEWS = "", "tbd: made ledger\n"
+CUT = "tbd: cut {} bytes of a batch that was not committed, behind byte {}\n"
+
+
+@pytest.fixture(name="tbd")
+def fixture_tbd(program):
+    return str(program("tbd").resolve())
+
+
+class Failing:
+    """A form in a folder, of which one call on one file fails."""
+
+    def __init__(self, tbd, shim, folder, words, file="ledger"):
+        self.tbd, self.folder, self.words, self.file = tbd, folder, words.split(), file
+        self.env = {**os.environ, "LD_PRELOAD": shim, "KEEP_FILE": file}
+
+    def ran(self, call, number, why):
+        """The form with this call failing; without one where the number is 0."""
+        fault = f"{call} {number} {why}" if number else ""
+        return kinds.ran(
+            self.tbd, self.folder, self.words, SCRIPT, env={**self.env, "KEEP_FAULT": fault}
+        )
+
+    def turns(self, kind, call, why, first=1):
+        """What is answered where the first such call fails, then the second, up to the last; each
+        time over a new file of this kind."""
+        for number in itertools.count(first):
+            for it in self.folder.iterdir():
+                it.unlink()
+            kinds.made(self.folder, kind)
+            told = self.ran(call, number, why)
+            if told[0] == 0:
+                return
+            yield number, told
+
+
+def is_told(told, fault, file, news=("",)):
+    """The exit status and the line are those of a fault, behind what a start reports."""
+    status, line = fault
+    return told[0] == status and told[2] in [it + line.format(file) for it in news]
+
+
+@pytest.mark.parametrize("call, why, fault", FAULTS)
+@pytest.mark.parametrize("words", ["check ledger", "dump ledger", "dump ledger --after 1"])
+def test_a_form_that_reads(tbd, shim, tmp_path, words, call, why, fault):
+    """It syncs and writes nothing. The first read of a dump looks whether the file is a log's; if
+    it fails the file is read as a ledger's."""
+    failing = Failing(tbd, shim, tmp_path, words)
+    told = list(failing.turns("a ledger", call, why, 2 if words.startswith("dump") else 1))
+    assert bool(told) == (call == "read")
+    whole = {"check ledger": b"", "dump ledger": kinds.DUMP}.get(words, kinds.ENTRIES[1])
+    for number, it in told:
+        assert is_told(it, fault, "ledger") and whole.startswith(it[1]), (number, it)
+    assert (tmp_path / "ledger").read_bytes() == kinds.LEDGER
+
+
+@pytest.mark.parametrize("call, why, fault", FAULTS)
+@pytest.mark.parametrize("kind", ["nothing", "no byte", "no record", "a ledger", "torn"])
+def test_a_start_and_a_commit(tbd, shim, tmp_path, kind, call, why, fault):
+    """What went out begins the replies. The next start cuts off what was not committed."""
+    failing = Failing(tbd, shim, tmp_path, "run ledger 2 --drop-torn")
+    count = 0
+    for number, told in failing.turns(kind, call, why):
+        assert is_told(told, fault, "ledger", (*NEWS, CUT.format(5, 191))), (number, told)
+        assert REPLIES.startswith(told[1]) or AGAIN.startswith(told[1])
+        status, out, said = failing.ran(call, 0, 0)
+        assert status == 0 and out in (REPLIES, AGAIN), (number, out)
+        assert said in NEWS or re.fullmatch(CUT.format("[0-9]+", "(8|25|191)"), said), (
+            number,
+            said,
+        )
+        assert (tmp_path / "ledger").read_bytes() == kinds.LEDGER
+        count = number
+    # Over the ledger itself nothing is written: what is sent was answered before.
+    assert count or (kind, call) == ("a ledger", "write")
+
+
+@pytest.mark.parametrize("call, why, fault", [FAULTS[0], FAULTS[3]])
+@pytest.mark.parametrize("form", ["salvage", "backup"])
+def test_a_copy_whose_file_fails(tbd, shim, tmp_path, form, call, why, fault):
+    failing = Failing(tbd, shim, tmp_path, f"{form} ledger new")
+    count = 0
+    for number, told in failing.turns("a ledger", call, why):
+        assert is_told(told, fault, "ledger") or is_told(told, fault, "new"), (number, told)
+        assert told[1] == b"" and (tmp_path / "ledger").read_bytes() == kinds.LEDGER
+        count = number
+    assert count
+
+
+# What a new file has where a call on it fails: nothing, a journal's first bytes, a ledger without
+# entries, or with all of them; behind each what is not committed yet.
+STAGES = [b"", kinds.MAGIC + kinds.CLOSED, kinds.up_to(kinds.HEAD_END), kinds.LEDGER]
+
+
+def is_stage(data):
+    """Up to its closed latch the bytes are those of a stage."""
+    return any(data[: len(it)] == it for it in STAGES[1:]) or len(data) < len(STAGES[1])
+
+
+@pytest.mark.parametrize("call, why, fault", FAULTS[1:3])
+@pytest.mark.parametrize("form", ["salvage", "backup"])
+def test_a_copy_whose_new_file_fails(tbd, shim, tmp_path, form, call, why, fault):
+    failing = Failing(tbd, shim, tmp_path, f"{form} ledger new", "new")
+    seen = []
+    for number, told in failing.turns("a ledger", call, why):
+        assert is_told(told, fault, "new") and told[1] == b"", (number, told)
+        data = (tmp_path / "new").read_bytes()
+        assert is_stage(data), (number, data)
+        seen.append(next(n for n, it in reversed(list(enumerate(STAGES))) if data.startswith(it)))
+    assert seen == sorted(seen) and {0, 1, 2} <= set(seen)
+    assert (tmp_path / "new").read_bytes() == kinds.LEDGER

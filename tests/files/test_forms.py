@@ -1,0 +1,512 @@
+"""Each form of `tbd` over each kind of file: the exit status, standard output, the lines of
+standard error, and whether a file is made or changed.
+
+    python3 -m pytest -m quick tests/files/test_forms.py
+"""
+
+import os
+import pty
+import subprocess
+
+import pytest
+
+from . import kinds
+from .kinds import AGAIN, DUMP, EMPTY_DUMP, ENTRIES, FILES, REPLIES, SCRIPT
+
+pytestmark = pytest.mark.quick
+CLIENTS = "CLIENTS_MAX is 1 to 64"
+OPTIONS = "PROFILE is 1 or 2, and only options may follow it, each once"
+DUMP_OPTIONS = "dump: only --after COMMIT and --follow may follow FILE"
+NO_FILE = "FILE is a number or begins with -; write ./FILE"
+NO_NEW = "NEW is a number or begins with -; write ./NEW"
+UNKNOWN = "unknown; tbd --help shows the forms"
+# Words that are no form, and what is said of them.
+WRONG = [
+    ("serve", f"serve: {UNKNOWN}"),
+    ("serve ledger", f"serve: {UNKNOWN}"),
+    ("serve 64", f"serve: {UNKNOWN}"),
+    ("folow ledger 2", f"folow: {UNKNOWN}"),
+    ("run", "run: FILE and CLIENTS_MAX are missing"),
+    ("run ledger", "run ledger: CLIENTS_MAX is missing, 1 to 64"),
+    ("run ledger 0", f"run ledger 0: {CLIENTS}"),
+    ("run ledger 65 1", f"run ledger 65 1: {CLIENTS}"),
+    ("run ledger 64 3", "run ledger 64 3: PROFILE is 1 or 2"),
+    ("run ledger 64 --follow", "run ledger 64 --follow: PROFILE is 1 or 2"),
+    ("run ledger 2 1 x", f"run ledger 2 1 x: {OPTIONS}"),
+    ("run ledger 2 1 --progress x", f"run ledger 2 1 --progress x: {OPTIONS}"),
+    ("run ledger 2 --existing --existing", f"run ledger 2 --existing --existing: {OPTIONS}"),
+    ("run ledger 2 1 --progress --existing x", "run: too many words"),
+    ("run ledger 65 --progress", f"run ledger 65 --progress: {CLIENTS}"),
+    ("run ledger 64 3 --progress", f"run ledger 64 3 --progress: {OPTIONS}"),
+    ("run ledger 64 --progress 2", f"run ledger 64 --progress 2: {OPTIONS}"),
+    ("follow", "follow: FILE and CLIENTS_MAX are missing"),
+    ("follow ledger", "follow ledger: CLIENTS_MAX is missing, 1 to 64"),
+    ("follow ledger 65", f"follow ledger 65: {CLIENTS}"),
+    ("follow ledger 2 3", "follow ledger 2 3: PROFILE is 1 or 2"),
+    ("follow ledger 2 1 --progress", f"follow ledger 2 1 --progress: {OPTIONS}"),
+    ("follow ledger 2 1 --existing x", "follow: too many words"),
+    ("dump", "dump: FILE is missing"),
+    ("dump ledger 65", DUMP_OPTIONS),
+    ("dump ledger --after", DUMP_OPTIONS),
+    ("dump ledger --after 9223372036854775808", DUMP_OPTIONS),
+    ("dump ledger --follow --after x", DUMP_OPTIONS),
+    ("dump ledger --follow 1 --after", DUMP_OPTIONS),
+    ("dump ledger --after --follow 1", DUMP_OPTIONS),
+    ("check", "check: FILE is missing"),
+    ("check ledger 2", "check: too many words"),
+    ("salvage", "salvage: FILE and NEW are missing"),
+    ("backup ledger", "backup ledger: NEW is missing"),
+    ("salvage ledger 64", f"salvage ledger 64: {NO_NEW}"),
+    ("backup ledger -o", f"backup ledger -o: {NO_NEW}"),
+    ("salvage ledger new more", "salvage: too many words"),
+    ("--help run", "--help: too many words"),
+    ("--help 64", "--help: too many words"),
+    # A number or an option is no FILE.
+    ("run 64 1", f"run 64: {NO_FILE}"),
+    ("run 0 64 2", f"run 0: {NO_FILE}"),
+    ("run --help", f"run --help: {NO_FILE}"),
+    ("run - 64", f"run -: {NO_FILE}"),
+    ("follow 64 2", f"follow 64: {NO_FILE}"),
+    (f"dump {'9876543210' * 4}", f"dump {'9876543210' * 4}: {NO_FILE}"),
+    ("check -h", f"check -h: {NO_FILE}"),
+    ("check 1 2", f"check 1: {NO_FILE}"),
+    ("salvage 64 new", f"salvage 64: {NO_FILE}"),
+    ("backup -h", f"backup -h: {NO_FILE}"),
+]
+
+
+def named(value):
+    """A value in a test's name: words and kinds of files, and neither bytes nor lines."""
+    return value if isinstance(value, str) and "\n" not in value else ""
+
+
+@pytest.fixture(name="tbd")
+def fixture_tbd(program):
+    return str(program("tbd").resolve())
+
+
+@pytest.mark.parametrize("words, said", WRONG, ids=[words for words, _ in WRONG])
+def test_words_that_are_no_form(tbd, tmp_path, words, said):
+    told = kinds.ran(tbd, tmp_path, words.split())
+    assert told == (2, b"", f"tbd: Usage: {said}\n")
+    assert not list(tmp_path.iterdir())
+
+
+def test_pages_are_printed(tbd, tmp_path):
+    status, page, said = kinds.ran(tbd, tmp_path, ["--help"])
+    assert (status, said) == (0, "") and page.startswith(b"Usage: tbd FORM\n")
+    assert kinds.ran(tbd, tmp_path, ["-h"]) == (0, page, "")
+    assert kinds.ran(tbd, tmp_path, []) == (2, b"", page.decode())
+    assert kinds.ran(tbd, tmp_path, ["--version"]) == (0, b"tbd 0.1.0\n", "")
+
+
+# Words that may name a file, and the name that is said of one that is not there. Each control
+# character is shown as `?`: an escape code, a line end, a tab, U+007F, U+009B.
+NAMES = [
+    (["run", "./64", "1", "--existing"], "./64"),
+    (["dump", "64."], "64."),
+    (["check", "6-4"], "6-4"),
+    (["check", "0x40"], "0x40"),
+    (["check", ""], ""),
+    (["check", "check"], "check"),
+    (["check", "a\x1b[2J\nb"], "a?[2J?b"),
+    (["dump", "\u009b\tä\x7f"], "??ä?"),
+    (["run", "a\nb", "2", "--existing"], "a?b"),
+    (["backup", "\x01", "new"], "?"),
+]
+
+
+def missing(name):
+    return f"tbd: Device: cannot find {name}; look at its name and at its folder\n"
+
+
+@pytest.mark.parametrize("words, name", NAMES)
+def test_files_that_are_not_there(tbd, tmp_path, words, name):
+    kinds.made(tmp_path, "a ledger")
+    assert kinds.ran(tbd, tmp_path, words) == (1, b"", missing(name))
+    assert [it.name for it in tmp_path.iterdir()] == ["ledger"]
+
+
+@pytest.mark.parametrize(
+    "words, said",
+    [
+        (["run", "a\r\n", "\x1b]0;"], f"run a?? ?]0;: {CLIENTS}"),
+        (["\x07"], f"?: {UNKNOWN}"),
+        ([b"check", b"\xff"], "a word is not UTF-8"),
+    ],
+)
+def test_no_control_character_is_printed(tbd, tmp_path, words, said):
+    assert kinds.ran(tbd, tmp_path, words) == (2, b"", f"tbd: Usage: {said}\n")
+
+
+SALVAGE = "; tbd salvage makes a new file of the entries before it"
+TORN_LONG = (
+    f"tbd: Damaged: ledger: {kinds.TOO_LONG} bytes are behind byte 191, more than one batch can"
+    f" have{SALVAGE}\n"
+)
+CHANGED = f"tbd: Damaged: ledger: the block at byte 100 is not what was written{SALVAGE}\n"
+MADE = "tbd: made ledger\n"
+READY = "tbd: ready: commit 2, time 11\n"
+CUT = (
+    "tbd: copied 5 bytes, from byte 195 on, to ledger.cut-195-{}\n"
+    "tbd: cut 5 bytes of a batch that was not committed, behind byte 191\n"
+).format(f"{kinds.crc32c(bytes(range(1, 6))):08x}")
+DROPPED = "tbd: cut 5 bytes of a batch that was not committed, behind byte 191\n"
+
+
+def summary(behind):
+    return (
+        "records 3\nentries 2\nprofile 1\nclients_max 2\nlast time 11\n" f"bytes behind {behind}\n"
+    ).encode()
+
+
+# What is asked for, the file, what goes out, and what is said.
+DONE = [
+    ("run ledger 2", "nothing", REPLIES, MADE),
+    ("run ledger 2", "no byte", REPLIES, MADE),
+    ("run ledger 2", "no record", REPLIES, ""),
+    ("run ledger 2", "a ledger", AGAIN, ""),
+    ("run ledger 2", "torn", AGAIN, CUT),
+    ("run ledger 2 1", "no byte", REPLIES, MADE),
+    ("run ledger 2 --existing", "no record", REPLIES, ""),
+    ("run ledger 2 --existing", "a ledger", AGAIN, ""),
+    ("run ledger 2 --progress", "a ledger", AGAIN, READY),
+    ("run ledger 2 1 --progress", "a ledger", AGAIN, READY),
+    ("run ledger 2 --existing --progress", "a ledger", AGAIN, READY),
+    ("run ledger 2 1 --progress --existing", "a ledger", AGAIN, READY),
+    ("run ledger 2 --progress", "nothing", REPLIES, f"{MADE}tbd: ready: commit 0, time 0\n"),
+    ("run ledger 2 --drop-torn --progress", "torn", AGAIN, DROPPED + READY),
+    ("dump ledger", "a ledger", DUMP, ""),
+    ("dump ledger", "torn", DUMP, ""),
+    ("dump ledger --after 1", "a ledger", ENTRIES[1], ""),
+    ("dump ledger --after 2", "a ledger", b"", ""),
+    ("dump ledger --after 9223372036854775807", "a ledger", b"", ""),
+    ("check ledger", "a ledger", summary("0"), ""),
+    ("check ledger", "torn", summary("5, not committed yet or torn"), ""),
+]
+
+
+@pytest.mark.parametrize("words, kind, out, said", DONE, ids=named)
+def test_what_is_asked_for_is_done(tbd, tmp_path, words, kind, out, said):
+    path = kinds.made(tmp_path, kind)
+    assert kinds.ran(tbd, tmp_path, words.split(), SCRIPT) == (0, out, said)
+    if words.startswith("run"):
+        assert path.read_bytes() == kinds.LEDGER
+    else:
+        assert path.read_bytes() == FILES[kind]
+
+
+@pytest.mark.parametrize("kind", ["a ledger", "torn"])
+@pytest.mark.parametrize(
+    "options, out", [([], DUMP), (["--after", "1"], ENTRIES[1]), (["--after", "2"], b"")]
+)
+def test_a_dump_that_goes_on(tbd, tmp_path, kind, options, out):
+    """It writes all that is there at once, by options in each order, and waits then."""
+    kinds.made(tmp_path, kind)
+    for words in (["--follow", *options], [*options, "--follow"]):
+        dump = subprocess.Popen(
+            [tbd, "dump", "ledger", *words], cwd=tmp_path, stdout=subprocess.PIPE
+        )
+        try:
+            assert dump.stdout.read(len(out)) == out
+            with pytest.raises(subprocess.TimeoutExpired):
+                dump.wait(0.2)
+        finally:
+            dump.terminate()
+            rest = dump.communicate(timeout=kinds.SECONDS)[0]
+        assert rest == b""
+
+
+def none(why):
+    return 5, f"tbd: NotAJournal: ledger {why}\n"
+
+
+A_TEXT = none("is a text; telovamish script makes request frames of statements")
+A_DUMP = none("is a dump; tbs replay and telovamish dump read it")
+A_SCRIPT = none("is a script; tbs and tbd run read it as standard input")
+OTHERS = none("does not begin as a ledger's file")
+NO_HEAD = none("has no ledger's head; tbd follow serves a log")
+EMPTY = none("is empty; tbd run makes a ledger in it")
+RULES = "tbd: OtherRules: ledger was made with CLIENTS_MAX 2 and PROFILE 1, not with"
+FORMS = ("run ledger 2", "dump ledger", "check ledger")
+REFUSED = [
+    *((form, "a text", *A_TEXT) for form in FORMS),
+    *((form, "a dump", *A_DUMP) for form in FORMS),
+    *((form, "a script", *A_SCRIPT) for form in FORMS),
+    *((form, "other bytes", *OTHERS) for form in FORMS),
+    *((form, "no head", *NO_HEAD) for form in FORMS),
+    *((form, "torn long", 6, TORN_LONG) for form in FORMS),
+    *((form, "second entry changed", 6, CHANGED) for form in FORMS),
+    *((form, "no byte", *EMPTY) for form in FORMS[1:]),
+    *((form, "no record", *NO_HEAD) for form in FORMS[1:]),
+    *((form, "nothing", 1, missing("ledger")) for form in FORMS[1:]),
+    ("run ledger 2 --existing", "nothing", 1, missing("ledger")),
+    (
+        "run ledger 2 --existing",
+        "no byte",
+        *none("is empty; tbd run without --existing makes a ledger in it"),
+    ),
+    (
+        "run ledger 2 --progress",
+        "torn long",
+        6,
+        f"tbd: reading ledger, 0 of 4 MB\n{TORN_LONG}",
+    ),
+    ("run ledger 3", "a ledger", 7, f"{RULES} CLIENTS_MAX 3 and PROFILE 1\n"),
+    ("run ledger 2 2", "a ledger", 7, f"{RULES} CLIENTS_MAX 2 and PROFILE 2\n"),
+]
+
+
+def only(folder, *names):
+    """These are the files of a folder."""
+    return sorted(it.name for it in folder.iterdir()) == sorted(names)
+
+
+@pytest.mark.parametrize("words, kind, status, said", REFUSED, ids=named)
+def test_a_file_is_refused(tbd, tmp_path, words, kind, status, said):
+    """Nothing is written: neither to the output nor to the file."""
+    path = kinds.made(tmp_path, kind)
+    assert kinds.ran(tbd, tmp_path, words.split(), SCRIPT) == (status, b"", said)
+    if FILES[kind] is None:
+        assert only(tmp_path)
+    else:
+        assert path.read_bytes() == FILES[kind] and only(tmp_path, "ledger")
+
+
+@pytest.mark.parametrize("words", ["check ledger/x", "dump ledger/x", "run ledger/x 2"])
+def test_a_file_that_cannot_be_opened(tbd, tmp_path, words):
+    kinds.made(tmp_path, "a ledger")
+    line = "tbd: Device: cannot open ledger/x; look at its disk and at its folder\n"
+    assert kinds.ran(tbd, tmp_path, words.split()) == (1, b"", line)
+
+
+@pytest.mark.parametrize("word", ["run", "follow"])
+def test_one_program_serves_a_file(tbd, tmp_path, word):
+    kinds.made(tmp_path, "a ledger" if word == "run" else "no record")
+    words = [tbd, word, "ledger", "2"]
+    first = subprocess.Popen(
+        words, cwd=tmp_path, stdin=subprocess.PIPE, stdout=subprocess.PIPE, stderr=subprocess.PIPE
+    )
+    try:
+        if word == "run":
+            first.stdin.write(SCRIPT)
+            first.stdin.flush()
+            assert first.stdout.read(len(AGAIN)) == AGAIN
+        else:
+            assert first.stderr.readline() == b"tbd: has the log up to position 0\n"
+        line = "tbd: Locked: ledger is open in another program; end that one first\n"
+        assert kinds.ran(tbd, tmp_path, words[1:]) == (4, b"", line)
+    finally:
+        assert first.communicate(timeout=kinds.SECONDS) is not None
+    assert first.returncode == 0
+
+
+def on_terminal(tbd, folder, words, **how):
+    """What words say where one of their streams is a terminal at its end."""
+    ours, theirs = pty.openpty()
+    try:
+        os.write(ours, b"\x04")  # Ctrl-D
+        streams = {name: theirs for name in how}
+        streams = {"stdin": subprocess.DEVNULL, **streams}
+        done = subprocess.run(
+            [tbd, *words],
+            cwd=folder,
+            stdout=subprocess.PIPE,
+            stderr=streams.pop("stderr", subprocess.PIPE),
+            timeout=kinds.SECONDS,
+            check=False,
+            **streams,
+        )
+        said = done.stderr
+        if said is None:
+            os.write(theirs, b"\0")
+            said = b""
+            while not said.endswith(b"\0"):
+                said += os.read(ours, 4096)
+            said = said.rstrip(b"\0").replace(b"\r\n", b"\n").replace(b"^D\x08\x08", b"")
+        return done.returncode, done.stdout, said.decode()
+    finally:
+        os.close(ours)
+        os.close(theirs)
+
+
+TYPED = (
+    "tbd: standard input is a terminal, and run reads request frames there;"
+    " telovamish repl and telovamish script take words\n"
+)
+
+
+def test_requests_from_a_terminal(tbd, tmp_path):
+    """Where words are read is said once, by the form that reads requests."""
+    kinds.made(tmp_path, "a ledger")
+    assert on_terminal(tbd, tmp_path, ["run", "ledger", "2"], stdin=True) == (0, b"", TYPED)
+    assert on_terminal(tbd, tmp_path, ["check", "ledger"], stdin=True) == (0, summary("0"), "")
+
+
+@pytest.mark.parametrize(
+    "words, kind, said",
+    [
+        ("run ledger 2", "a ledger", READY),
+        ("run ledger 2", "torn", CUT + READY),
+        ("run ledger 2", "nothing", f"{MADE}tbd: ready: commit 0, time 0\n"),
+    ],
+)
+def test_a_start_is_reported_to_a_terminal(tbd, tmp_path, words, kind, said):
+    kinds.made(tmp_path, kind)
+    assert on_terminal(tbd, tmp_path, words.split(), stderr=True) == (0, b"", said)
+
+
+# Forms whose output takes so many bytes, or none at all.
+LOST = "tbd: Device: standard output\n"
+OUTPUTS = [
+    ("run ledger 2", "no byte", 0, REPLIES, MADE + LOST),
+    ("run ledger 2", "no byte", 95, REPLIES, MADE + LOST),
+    ("run ledger 2", "no record", 95, REPLIES, LOST),
+    ("dump ledger", "a ledger", 0, DUMP, LOST),
+    ("dump ledger", "a ledger", 159, DUMP, LOST),
+    ("dump ledger --follow", "a ledger", 159, DUMP, LOST),
+    ("dump ledger", "no head", 0, b"", NO_HEAD[1]),
+    ("check ledger", "a ledger", 0, summary("0"), LOST),
+    ("check ledger", "a ledger", 69, summary("0"), LOST),
+    ("--help", "nothing", 0, b"", LOST),
+    ("--version", "nothing", 9, b"tbd 0.1.0", LOST),
+    ("salvage ledger new", "a ledger", 9, b"entries 2\n", LOST),
+    ("backup ledger new", "a ledger", 0, b"", LOST),
+]
+
+
+@pytest.mark.parametrize("words, kind, room, whole, said", OUTPUTS, ids=named)
+def test_an_output_that_fails(tbd, shim, tmp_path, words, kind, room, whole, said):
+    """What went out is a prefix, and no more than it takes; what was kept or copied stays."""
+    kinds.made(tmp_path, kind)
+    env = {**os.environ, "LD_PRELOAD": shim, "KEEP_FILE": "ledger", "KEEP_FAULT": f"out {room}"}
+    status, out, told = kinds.ran(tbd, tmp_path, words.split(), SCRIPT, env=env)
+    assert (status, told) == (1 if said.endswith(LOST) else 5, said)
+    assert whole.startswith(out) and len(out) <= room
+    if words.endswith("new"):
+        assert (tmp_path / "new").read_bytes() == kinds.LEDGER
+
+
+@pytest.mark.parametrize("words", ["run ledger 2", "dump ledger", "check ledger", "--version"])
+def test_an_output_that_takes_nothing(tbd, tmp_path, words):
+    kinds.made(tmp_path, "a ledger")
+    with open("/dev/full", "wb") as full:
+        told = kinds.ran(tbd, tmp_path, words.split(), SCRIPT, stdout=full)
+    assert told == (1, None, LOST)
+
+
+def test_an_input_that_fails(tbd, tmp_path):
+    """A folder is opened, and each read of it fails: it is the input that is named."""
+    kinds.made(tmp_path, "a ledger")
+    folder = os.open(tmp_path, os.O_RDONLY)
+    try:
+        done = subprocess.run(
+            [tbd, "run", "ledger", "2"],
+            cwd=tmp_path,
+            stdin=folder,
+            capture_output=True,
+            timeout=kinds.SECONDS,
+            check=False,
+        )
+    finally:
+        os.close(folder)
+    assert (done.returncode, done.stdout) == (1, b"")
+    assert done.stderr == b"tbd: Device: standard input\n"
+
+
+# What a copy prints, of which kind of file, and how much of the ledger the new file has.
+WHOLE = "entries 2\nlast commit 2\nlast time 11\nbytes behind 0\n"
+TORN = "entries 2\nlast commit 2\nlast time 11\nbytes behind 5, not committed yet or torn\n"
+COPIES = [
+    ("salvage", "a ledger", WHOLE, kinds.END),
+    ("backup", "a ledger", WHOLE, kinds.END),
+    ("salvage", "torn", TORN, kinds.END),
+    ("backup", "torn", TORN, kinds.END),
+    (
+        "salvage",
+        "torn long",
+        f"entries 2\nlast commit 2\nlast time 11\nbytes lost {kinds.TOO_LONG} behind byte 191:"
+        f" Damaged: {kinds.TOO_LONG} bytes behind byte 191, more than one batch can have\n",
+        kinds.END,
+    ),
+    (
+        "salvage",
+        "second entry changed",
+        "entries 1\nlast commit 1\nlast time 10\n"
+        "bytes lost 91 behind byte 100: Damaged: at byte 100\n",
+        kinds.FIRST_END,
+    ),
+    (
+        "salvage",
+        "first entry changed",
+        "entries 0\nlast commit 0\nlast time 0\n"
+        "bytes lost 166 behind byte 25: Damaged: at byte 25\n",
+        kinds.HEAD_END,
+    ),
+    (
+        "salvage",
+        "no entry",
+        "entries 0\nlast commit 0\nlast time 0\n"
+        "bytes lost 14 behind byte 25: Damaged: record 1: Short\n",
+        kinds.HEAD_END,
+    ),
+]
+
+
+@pytest.mark.parametrize("form, kind, printed, end", COPIES, ids=named)
+def test_what_is_whole_is_copied(tbd, tmp_path, form, kind, printed, end):
+    path = kinds.made(tmp_path, kind)
+    told = kinds.ran(tbd, tmp_path, [form, "ledger", "new"])
+    assert told == (0, printed.encode(), "")
+    assert (tmp_path / "new").read_bytes() == kinds.up_to(end)
+    assert path.read_bytes() == FILES[kind]
+
+
+# Copies that are refused: the exit status, the line, and how much of the ledger the new file has.
+UNCOPIED = [
+    ("salvage", "a text", *A_TEXT, None),
+    ("backup", "a text", *A_TEXT, None),
+    ("salvage", "no record", *NO_HEAD, None),
+    ("backup", "no head", *NO_HEAD, None),
+    ("salvage", "nothing", 1, missing("ledger"), None),
+    (
+        "salvage",
+        "head changed",
+        6,
+        f"tbd: Damaged: ledger: the block at byte 8 is not what was written{SALVAGE}\n",
+        None,
+    ),
+    ("backup", "second entry changed", 6, CHANGED, kinds.FIRST_END),
+    ("backup", "torn long", 6, TORN_LONG, kinds.END),
+    (
+        "backup",
+        "no entry",
+        6,
+        f"tbd: Damaged: ledger: entry 1 is none: Short{SALVAGE}\n",
+        kinds.HEAD_END,
+    ),
+]
+
+
+@pytest.mark.parametrize("form, kind, status, said, end", UNCOPIED, ids=named)
+def test_a_file_is_not_copied(tbd, tmp_path, form, kind, status, said, end):
+    kinds.made(tmp_path, kind)
+    assert kinds.ran(tbd, tmp_path, [form, "ledger", "new"]) == (status, b"", said)
+    new = tmp_path / "new"
+    assert (new.read_bytes() if new.exists() else None) == (end and kinds.up_to(end))
+
+
+@pytest.mark.parametrize("form", ["salvage", "backup"])
+def test_a_new_file_is_not_made(tbd, tmp_path, form):
+    kinds.made(tmp_path, "a ledger")
+    (tmp_path / "new").write_bytes(b"")
+    line = "tbd: Usage: new exists; give the name of one that is not there\n"
+    assert kinds.ran(tbd, tmp_path, [form, "ledger", "new"]) == (2, b"", line)
+    assert kinds.ran(tbd, tmp_path, [form, "ledger", "no/new"]) == (1, b"", missing("no/new"))
+    assert only(tmp_path, "ledger", "new") and (tmp_path / "new").read_bytes() == b""
+
+
+def test_a_ledger_without_entries_is_dumped(tbd, tmp_path):
+    assert kinds.ran(tbd, tmp_path, ["run", "ledger", "2"]) == (0, b"", MADE)
+    assert (tmp_path / "ledger").read_bytes() == kinds.up_to(kinds.HEAD_END)
+    assert kinds.ran(tbd, tmp_path, ["dump", "ledger"]) == (0, EMPTY_DUMP, "")
