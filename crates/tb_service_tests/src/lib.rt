@@ -1,4 +1,4 @@
-//! Tests of tb_service, of what it is built on above tb_machine, and of what is built on it, by their public calls alone.
+//! Tests of tb_published, tb_service and tb_storm, by their public calls alone.
 //!
 //! Modules:
 //!
@@ -7,7 +7,6 @@
 //! - `published`: of tb_published.
 //! - `service`: of tb_service.
 //! - `storm`: of tb_storm.
-//! - `uses`: of tb_uses.
 #![tactic(auto)]
 
 #[cfg(test)]
@@ -20,5 +19,3 @@ mod published;
 mod service;
 #[cfg(test)]
 mod storm;
-#[cfg(test)]
-mod uses;

@@ -9,14 +9,16 @@
 //! - `progress`: all that was entered is shown by the next call that shows.
 //! - `learning`: two seats, and what a seat learns.
 //! - `refusals`: what earlier requests have refused.
-//! - `times`: no time is left.
+//! - `steps`: a publisher and two seats by steps.
+//! - `examples`: examples by steps.
 //! - `threads`: seats next to the publisher, in threads.
+mod examples;
 mod frames;
 mod learning;
 mod progress;
 mod refusals;
 mod rows;
 mod showing;
+mod steps;
 mod threads;
-mod times;
 mod touching;

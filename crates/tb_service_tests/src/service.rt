@@ -2,15 +2,15 @@
 //!
 //! Modules, each over those before it:
 //!
-//! - `handovers`: one port.
-//! - `places`: the places of each port's requests.
+//! - `steps`: a server, two ports and a seat by steps.
+//! - `examples`: examples by steps.
+//! - `handovers`: a server that is gone.
 //! - `gates`: a gate passed before a request has its moment.
 //! - `progress`: answers while the server still runs.
-//! - `seats`: seats next to a server.
 //! - `threads`: ports, a server and seats in threads.
+mod examples;
 mod gates;
 mod handovers;
-mod places;
 mod progress;
-mod seats;
+mod steps;
 mod threads;

@@ -2,5 +2,5 @@
 //!
 //! Module:
 //!
-//! - `tests`: lines, totals, and writers that take not all of them.
+//! - `tests`: lines and totals.
 mod tests;

@@ -1,15 +1,12 @@
 //! Two seats: what one has seen compared with the other, and what a seat learns.
-ghost use Rattle.std.specs.Prelude.{◌≡◌};
-
 use crate::comparing::{holds, holds_at};
-use crate::making::{Asked, opened, opening, request, take};
+use crate::making::{Asked, request, take};
 use crate::published::rows::expect_first;
 use std::alloc::Global;
-use std::marker::Brand;
 use std::process::Abort;
 use std::sync::Wait;
-use tb_published::{Naming, Opening, Publisher, Seat, Taken};
-use tb_records::{Profile, Request, Status};
+use tb_published::{Naming, Publisher, Seat, Taken};
+use tb_records::{Request, Status};
 
 /// One seat has seen four entries, the other none.
 fn expect_apart<J: Naming>(
@@ -62,7 +59,7 @@ fn expect_looked_up<J: Naming>(rt: &impl Abort, seat: &mut Seat<J>) {
 
 /// One seat sees the first rows; both look for client 7's next request, which is the fifth entry. One seat is asked for it
 /// before it learns of it and after, the other looks an account up.
-fn expect_both<J: Naming, R: Wait + Abort>(
+pub(crate) fn expect_both<J: Naming, R: Wait + Abort>(
     rt: &R,
     alloc: Global,
     publisher: &mut Publisher<J>,
@@ -82,23 +79,4 @@ fn expect_both<J: Naming, R: Wait + Abort>(
     expect_learnt(rt, publisher, two, &next);
     drop(next);
     expect_looked_up(rt, one);
-}
-
-fn learn_in_two<J: Naming, R: Wait + Abort>(rt: &R, alloc: Global, opening: Opening)
-    requires { opening ≡ J.opening }
-{
-    let (mut publisher, mut seats) = opened::<J, R>(rt, alloc, opening, 2);
-    let mut both = seats.iter_mut();
-    let one = both.next().expect(rt, "a seat");
-    let two = both.next().expect(rt, "another seat");
-    expect_both(rt, alloc, &mut publisher, one, two);
-    drop(seats);
-    drop(publisher.close(rt));
-}
-
-/// Client 7's first requests through `take` and one seat, and what the other seat learns then.
-#[test]
-fn two_seats_and_a_told(rt: HostRuntime) {
-    let opening = opening(&rt, Profile::One, 2);
-    learn_in_two::<Brand, _>(&rt, rt.alloc(), opening);
 }

@@ -1,14 +1,10 @@
 //! What is entered and not yet shown.
-ghost use Rattle.std.specs.Prelude.{◌≡◌};
-
 use crate::comparing::{holds, holds_at};
-use crate::making::{opened, opening, register};
-use std::alloc::Global;
-use std::marker::Brand;
+use crate::making::register;
 use std::process::Abort;
 use std::sync::Wait;
-use tb_published::{HeldPublisher, Naming, Opening, Publisher, Seat, Taken};
-use tb_records::{Profile, Request, Status};
+use tb_published::{Naming, Publisher, Seat, Taken};
+use tb_records::{Request, Status};
 
 /// A seat has seen so many entries, and finds this status for a request.
 fn expect_seen<J: Naming>(
@@ -23,7 +19,7 @@ fn expect_seen<J: Naming>(
 }
 
 /// A register that is entered is not shown until the copies are told to.
-fn expect_shown<J: Naming, R: Wait + Abort>(
+pub(crate) fn expect_shown<J: Naming, R: Wait + Abort>(
     rt: &R,
     publisher: &mut Publisher<J>,
     seat: &mut Seat<J>,
@@ -37,23 +33,4 @@ fn expect_shown<J: Naming, R: Wait + Abort>(
     let again = publisher.enter(register(rt, 7), 10);
     holds(rt, again == Ok(Taken::Repeat(1)), "entered again");
     drop(asked);
-}
-
-/// The publisher is taken out of its holder and held again.
-fn enter_and_show<J: Naming, R: Wait + Abort>(rt: &R, alloc: Global, opening: Opening)
-    requires { opening ≡ J.opening }
-{
-    let (publisher, mut seats) = opened::<J, R>(rt, alloc, opening, 1);
-    let held = HeldPublisher::new(publisher, rt);
-    let mut held = HeldPublisher::new(held.into_publisher(), rt);
-    let seat = seats.iter_mut().next().expect(rt, "a seat");
-    expect_shown(rt, &mut held.publisher, seat);
-    drop(seats);
-    drop(held);
-}
-
-#[test]
-fn entered_is_not_shown(rt: HostRuntime) {
-    let opening = opening(&rt, Profile::One, 2);
-    enter_and_show::<Brand, _>(&rt, rt.alloc(), opening);
 }

@@ -1,15 +1,12 @@
 //! Accounts are many: those of the next requests are searched for before the requests are entered, and before the copies take them in.
-ghost use Rattle.std.specs.Prelude.{◌≡◌};
-
 use crate::comparing::{holds, holds_at};
-use crate::making::{Asked, nth, opened, opening, register, take};
+use crate::making::{Asked, nth, register, take};
 use std::alloc::Global;
-use std::marker::Brand;
 use std::process::Abort;
 use std::sync::Wait;
 use tb_fixtures::{account, creation};
-use tb_published::{Naming, Opening, Publisher, Seat, Taken};
-use tb_records::{Profile, Request};
+use tb_published::{Naming, Publisher, Seat, Taken};
+use tb_records::Request;
 
 /// Requests of client 7 that create 65,536 accounts: the number of each, its first and its last account.
 const BATCHES: [(u32, u128, u128); 9] = [
@@ -24,11 +21,6 @@ const BATCHES: [(u32, u128, u128); 9] = [
     (9, 65_521, 65_536),
 ];
 
-/// The numbers of eight requests, and of eight more.
-const FIRST: [u32; 8] = [10, 11, 12, 13, 14, 15, 16, 17];
-
-const LATER: [u32; 8] = [18, 19, 20, 21, 22, 23, 24, 25];
-
 /// A request that creates accounts.
 fn accounts(rt: &impl Abort, alloc: Global, batch: (u32, u128, u128)) -> Request {
     let (number, first, last) = batch;
@@ -42,7 +34,11 @@ fn accounts(rt: &impl Abort, alloc: Global, batch: (u32, u128, u128)) -> Request
 }
 
 /// Client 7 registers and creates its accounts.
-fn create<J: Naming, R: Wait + Abort>(rt: &R, alloc: Global, publisher: &mut Publisher<J>) {
+pub(crate) fn create<J: Naming, R: Wait + Abort>(
+    rt: &R,
+    alloc: Global,
+    publisher: &mut Publisher<J>,
+) {
     holds_at(
         rt,
         take(rt, publisher, register(rt, 7)) == Taken::Committed(1),
@@ -92,23 +88,15 @@ fn expect_moved<J: Naming>(rt: &impl Abort, seat: &mut Seat<J>, amount: u128) {
     drop(found);
 }
 
-/// The second eight are taken in by the copy that took the first eight in last.
-fn move_twice<J: Naming, R: Wait + Abort>(rt: &R, alloc: Global, opening: Opening)
-    requires { opening ≡ J.opening }
-{
-    let (mut publisher, mut seats) = opened::<J, R>(rt, alloc, opening, 1);
-    create(rt, alloc, &mut publisher);
-    let seat = seats.iter_mut().next().expect(rt, "a seat");
-    enter_eight(rt, alloc, &mut publisher, FIRST);
-    expect_moved(rt, seat, 8);
-    enter_eight(rt, alloc, &mut publisher, LATER);
-    expect_moved(rt, seat, 16);
-    drop(seats);
-    drop(publisher.close(rt));
-}
-
-#[test]
-fn orders_over_many_accounts(rt: HostRuntime) {
-    let opening = opening(&rt, Profile::One, 2);
-    move_twice::<Brand, _>(&rt, rt.alloc(), opening);
+/// Eight transfers are entered and shown, after which a seat finds so much on account 2.
+pub(crate) fn move_eight<J: Naming, R: Wait + Abort>(
+    rt: &R,
+    alloc: Global,
+    publisher: &mut Publisher<J>,
+    seat: &mut Seat<J>,
+    numbers: [u32; 8],
+    amount: u128,
+) {
+    enter_eight(rt, alloc, publisher, numbers);
+    expect_moved(rt, seat, amount);
 }
