@@ -1,5 +1,5 @@
-//! Journals over a file in memory: worked examples, byte for byte, and what a crash or a call that fails leaves; and over files
-//! of the system.
+//! Journals over a file in memory: worked examples, byte for byte, and what a crash or a call that fails leaves; and over a file
+//! of the system that is long.
 //!
 //! Modules, each over those before it:
 //!
@@ -14,18 +14,14 @@
 //! - `snapshots`: snapshots of it, and of files that are torn or damaged.
 //! - `odd`: a file whose calls take a part, are interrupted or fail.
 //! - `posix`: devices over it.
-//! - `real`: files of the system.
-//! - `folders`: the folder of a file that is made.
 //! - `sparse`: a file of more than 5 GiB.
 mod crashes;
 mod failing;
 mod files;
-mod folders;
 mod live;
 mod odd;
 mod openings;
 mod posix;
-mod real;
 mod rows;
 mod scans;
 mod snapshots;

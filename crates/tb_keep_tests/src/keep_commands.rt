@@ -1,24 +1,10 @@
-//! The forms of `tbd`, over files in memory.
+//! What `tbd` does that no file brings about: a file that grows between two reads, a long file, faults of the system by their kinds.
 //!
 //! Modules:
 //!
-//! - `frames`: the bytes of a script, of its replies and of its dump, by the formats.
-//! - `news`: new files in memory, of which the bytes are seen.
-//! - `files`: files in memory, and what opens and makes them and fails in each way.
-//! - `pipes`: a writer that fails at a byte, or at its flush.
-//! - `rows`: what a command is run on, and what it must answer.
-//! - `outcomes`: what becomes of each form, over each file.
-//! - `copies`: files salvaged and backed up.
 //! - `growth`: a file to which another program appends while it is read.
-//! - `words`: words that are no form, and faults of the system.
-//! - `outputs`: outputs and calls on the file that fail.
-mod copies;
-pub mod files;
-mod frames;
+//! - `faults`: what is reported of faults of the system.
+//! - `reports`: how far a long file was read.
+mod faults;
 mod growth;
-pub mod news;
-mod outcomes;
-mod outputs;
-pub mod pipes;
-pub mod rows;
-mod words;
+mod reports;

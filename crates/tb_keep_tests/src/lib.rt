@@ -1,11 +1,10 @@
 //! Tests of the libraries that keep a ledger in a file or follow a log, by their public calls alone: so none of them is proved a
-//! second time for its tests.
+//! second time for its tests. What words and files do to `tbd` is tried over the program, by tests/files.
 //!
 //! Modules:
 //!
 //! - `steps`: what each test wants, and small files in memory.
 //! - `journal`: of tb_journal.
-//! - `log`: of tb_log.
 //! - `keep`: of tb_keep.
 //! - `keep_log`: of tb_keep_log.
 //! - `keep_commands`: of tb_keep_commands.
@@ -19,7 +18,5 @@ mod keep;
 mod keep_commands;
 #[cfg(test)]
 mod keep_log;
-#[cfg(test)]
-mod log;
 #[cfg(test)]
 mod steps;

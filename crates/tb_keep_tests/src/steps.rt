@@ -68,20 +68,6 @@ pub(crate) fn is_well<T: Drop, E: Drop>(answer: Result<T, E>) -> bool {
     well
 }
 
-/// Changes a byte.
-pub(crate) fn change(bytes: &mut [u8], at: usize, value: u8) {
-    if let Some(byte) = bytes.get_mut(at) {
-        *byte = value;
-    }
-}
-
-/// Gives a byte another value.
-pub(crate) fn rot(bytes: &mut [u8], at: usize) {
-    if let Some(byte) = bytes.get_mut(at) {
-        *byte = byte.wrapping_add(1);
-    }
-}
-
 /// A copy of bytes.
 pub(crate) fn copy_of(rt: &impl Abort, alloc: Global, bytes: &[u8]) -> Vec<u8> {
     sure(rt, Vec::from_slice(alloc, bytes))
@@ -101,15 +87,10 @@ pub(crate) fn file_from(rt: &impl Abort, alloc: Global, bytes: Vec<u8>) -> Memor
     sure(rt, Memory::new(alloc, bytes))
 }
 
-/// Profile 1, and this number of clients.
-pub(crate) fn rules_for(rt: &impl Abort, clients_max: u32) -> Rules {
-    Rules {
-        profile: Profile::One,
-        clients_max: ClientsMax::new(clients_max).expect(rt, "a number of clients"),
-    }
-}
-
 /// Profile 1 and two clients.
 pub(crate) fn rules(rt: &impl Abort) -> Rules {
-    rules_for(rt, 2)
+    Rules {
+        profile: Profile::One,
+        clients_max: ClientsMax::new(2).expect(rt, "a number of clients"),
+    }
 }

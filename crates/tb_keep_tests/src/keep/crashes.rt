@@ -19,7 +19,7 @@ const TORN: &[&[u8]] = &[&[], &[0; 40], &[255; 40], &[255]];
 const AGAIN: &[usize] = &[0, 0, 1, 2, 5];
 
 /// The ledger of a file with these bytes.
-pub fn started(rt: &impl Abort, alloc: Global, left: &[u8]) -> Keeper<Memory>
+fn started(rt: &impl Abort, alloc: Global, left: &[u8]) -> Keeper<Memory>
     ensures fresh { IsFresh memory_disk result }
     ensures usable { IsUsable result }
 {
@@ -28,7 +28,7 @@ pub fn started(rt: &impl Abort, alloc: Global, left: &[u8]) -> Keeper<Memory>
 }
 
 /// The number of its entries.
-pub fn entries_in(rt: &impl Abort, alloc: Global, left: &[u8]) -> u64 {
+fn entries_in(rt: &impl Abort, alloc: Global, left: &[u8]) -> u64 {
     let keeper = started(rt, alloc, left);
     let entries = keeper.machine().commit();
     drop(keeper);

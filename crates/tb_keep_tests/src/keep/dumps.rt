@@ -4,7 +4,7 @@ use crate::steps::{expect, expect_begin, expect_equal, expect_same, file_of, rul
 use std::alloc::Global;
 use std::process::Abort;
 use tb_journal::{JournalFault, Memory, OpenFault};
-use tb_keep::{DumpFault, StartFault, read_history, read_rules, write_dump};
+use tb_keep::{DumpFault, StartFault, read_history, write_dump};
 use tb_machine::dump;
 use tb_records::{Counting, Profile};
 
@@ -16,9 +16,9 @@ pub fn kept_file(rt: &impl Abort, alloc: Global) -> Memory {
     file
 }
 
-/// The dump that a server without a file writes of the script.
-fn dump_of(rt: &impl Abort, alloc: Global) -> Vec<u8> {
-    let script = script(rt, alloc, 6);
+/// The dump that a server without a file writes of the first so many pairs of the script.
+pub fn dump_of(rt: &impl Abort, alloc: Global, count: usize) -> Vec<u8> {
+    let script = script(rt, alloc, count);
     let mut reader = Counting::new(script.as_slice());
     let mut writer = Counting::new(Vec::new(alloc));
     let result = dump(alloc, rules(rt).clients_max, None, &mut reader, &mut writer);
@@ -37,7 +37,7 @@ fn dumped(rt: &impl Abort, alloc: Global, file: &mut Memory) -> (Result<(), Dump
 #[test]
 fn a_dump_is_that_of_the_script(rt: HostRuntime) {
     let alloc = rt.alloc();
-    let want = dump_of(&rt, alloc);
+    let want = dump_of(&rt, alloc, 6);
     let mut file = kept_file(&rt, alloc);
     let (result, written) = dumped(&rt, alloc, &mut file);
     drop(file);
@@ -66,7 +66,7 @@ fn expect_failing(rt: &impl Abort, alloc: Global, file: &mut Memory, number: u64
 #[test]
 fn each_call_of_a_dump_fails_once(rt: HostRuntime) {
     let alloc = rt.alloc();
-    let want = dump_of(&rt, alloc);
+    let want = dump_of(&rt, alloc, 6);
     let mut file = kept_file(&rt, alloc);
     for number in 1..=CALLS + 1 {
         expect_failing(&rt, alloc, &mut file, number, &want);
@@ -94,16 +94,4 @@ fn a_history_is_read(rt: HostRuntime) {
     let found = read(alloc, &mut file);
     drop(file);
     expect_same(&rt, found, Ok((4, Profile::One, 2, 5)));
-}
-
-#[test]
-fn a_file_without_records_has_no_rules(rt: HostRuntime) {
-    let alloc = rt.alloc();
-    let mut file = file_of(&rt, alloc, b"TBJRNL02\x5a\xc3\x96\x69");
-    let is_head = match read_rules(alloc, &mut file) {
-        Err(fault) => fault == StartFault::Head,
-        Ok(_) => false,
-    };
-    drop(file);
-    expect(&rt, is_head);
 }

@@ -15,7 +15,7 @@ use tb_records::Counting;
 pub type Line = u128;
 
 /// Client 7.
-pub const CLIENT: Line = 0x07000000000000000000000000000000;
+const CLIENT: Line = 0x07000000000000000000000000000000;
 
 const REGISTER: Line = 0x00000000000000000000000002000000;
 
@@ -23,7 +23,7 @@ const REGISTER: Line = 0x00000000000000000000000002000000;
 const END: Line = 0xbc0200000a0000000000000000000000;
 
 /// A moment of 10 nanoseconds.
-pub const TEN: [u8; 8] = [10, 0, 0, 0, 0, 0, 0, 0];
+const TEN: [u8; 8] = [10, 0, 0, 0, 0, 0, 0, 0];
 
 /// The requests of the script, each with the moment 10: a register, accounts 1 and 2, 128 moved from 1 to 2 as transfer 11,
 /// the same request again, the request before it, and a lookup of account 2.
@@ -58,7 +58,7 @@ const CREATE: [Line; 3] = [
 const ZEROS: [Line; 6] = [0; 6];
 
 /// Request 2: 128 moved from account 1 to account 2 as transfer 11.
-pub const TRANSFER: [Line; 11] = [
+const TRANSFER: [Line; 11] = [
     CLIENT,
     0x01000000000000000200000082000000,
     0x80000000000000000000000000000000,
@@ -88,7 +88,7 @@ fn put_lines(rt: &impl Abort, out: &mut Vec<u8>, lines: &[Line]) {
 }
 
 /// Appends lines that are in parts.
-pub fn put_parts(rt: &impl Abort, out: &mut Vec<u8>, parts: &[&[Line]]) {
+fn put_parts(rt: &impl Abort, out: &mut Vec<u8>, parts: &[&[Line]]) {
     for lines in parts {
         put_lines(rt, out, lines);
     }
@@ -190,7 +190,7 @@ pub fn serve<A: Allocator + Clone>(
 }
 
 /// What serving a script over a new file reports, and the bytes of the file then.
-pub fn kept(rt: &impl Abort, alloc: Global, script: &[u8]) -> (Vec<u8>, Vec<u8>) {
+fn kept(rt: &impl Abort, alloc: Global, script: &[u8]) -> (Vec<u8>, Vec<u8>) {
     let mut keeper = created(rt, alloc);
     let (well, told) = serve(alloc, &mut keeper, script);
     expect(rt, well);
@@ -203,6 +203,15 @@ pub fn kept_six(rt: &impl Abort, alloc: Global) -> (Vec<u8>, Vec<u8>) {
     let kept = kept(rt, alloc, &script);
     drop(script);
     kept
+}
+
+/// The bytes of the file over which its first two pairs were served.
+pub fn kept_two(rt: &impl Abort, alloc: Global) -> Vec<u8> {
+    let script = script(rt, alloc, 2);
+    let (told, bytes) = kept(rt, alloc, &script);
+    drop(script);
+    drop(told);
+    bytes
 }
 
 /// The bytes of the file over which the script was served.

@@ -1,14 +1,12 @@
 //! A file to which another program appends while it is read.
-use crate::keep_commands::files::{Has, file_of};
-use crate::keep_commands::frames::{DUMP, LATER, lines_of};
-use crate::keep_commands::pipes::Pipe;
-use crate::keep_commands::rows::{NO_TERMINALS, cut_to, words_of};
+use crate::keep::dumps::dump_of;
+use crate::keep::scripts::kept_two;
 use crate::steps::{copy_of, expect, expect_begin, expect_given, sure};
 use std::alloc::Global;
 use std::cell::Cell;
 use std::process::Abort;
 use tb_journal::{Growing, JournalFault, Memory, Snapshot};
-use tb_keep_commands::{Opener, OpeningFault, Reason, serve};
+use tb_keep_commands::{Opener, OpeningFault, Reason, Terminals, serve};
 use tb_records::Counting;
 
 /// A file that has one commit more at each fifth time that its length is asked for: an opening asks four times, for the block of the
@@ -42,14 +40,19 @@ const HEAD_END: usize = 25;
 
 const FIRST_END: usize = 100;
 
-/// The ledger of the script, with its head at first, then an entry more, then all.
+/// A file in memory of these bytes up to an offset, and a closed latch.
+fn cut_to(rt: &impl Abort, alloc: Global, bytes: &[u8], end: usize) -> Memory {
+    let mut cut = copy_of(rt, alloc, bytes.get(..end).unwrap_or_default());
+    sure(rt, cut.extend_from_slice(&[90, 195, 150, 105]));
+    sure(rt, Memory::new(alloc, cut))
+}
+
+/// The ledger of two pairs, with its head at first, then an entry more, then all.
 fn growing_ledger(rt: &impl Abort, alloc: Global) -> Growth<Memory> {
-    let head = cut_to(rt, alloc, Has::Entries, HEAD_END);
-    let shown = sure(rt, Memory::new(alloc, head));
-    let first = cut_to(rt, alloc, Has::Entries, FIRST_END);
-    let next = sure(rt, Memory::new(alloc, first));
-    let all = file_of(rt, alloc, Has::Entries);
-    let last = sure(rt, Memory::new(alloc, all));
+    let whole = kept_two(rt, alloc);
+    let shown = cut_to(rt, alloc, &whole, HEAD_END);
+    let next = cut_to(rt, alloc, &whole, FIRST_END);
+    let last = sure(rt, Memory::new(alloc, whole));
     let mut stages = Vec::new(alloc);
     sure(rt, stages.push(last));
     sure(rt, stages.push(next));
@@ -103,6 +106,22 @@ impl Opener for Growths {
     }
 }
 
+/// Pipes and files.
+const NO_TERMINALS: Terminals = Terminals {
+    input: false,
+    faults: false,
+};
+
+/// The words as a program has them.
+fn words_of(rt: &impl Abort, alloc: Global, words: &[&str]) -> Vec<String> {
+    let mut all = Vec::new(alloc);
+    for word in words {
+        let word = sure(rt, String::from_str(alloc, word));
+        sure(rt, all.push(word));
+    }
+    all
+}
+
 /// What the words write of that file, for whose commits is waited so often.
 fn written(rt: &impl Abort, alloc: Global, words: &[&str], pauses: u32) -> Vec<u8> {
     let mut folder = Growths {
@@ -111,7 +130,7 @@ fn written(rt: &impl Abort, alloc: Global, words: &[&str], pauses: u32) -> Vec<u
         pauses: Cell::new(pauses),
     };
     let words = words_of(rt, alloc, words);
-    let mut pipe = Pipe::new(alloc, 4096, true);
+    let mut out = Vec::new(alloc);
     let mut lines = Counting::new(Vec::new(alloc));
     let none: &[u8] = &[];
     let status = serve(
@@ -120,16 +139,14 @@ fn written(rt: &impl Abort, alloc: Global, words: &[&str], pauses: u32) -> Vec<u
         words.as_slice(),
         NO_TERMINALS,
         none,
-        &mut pipe,
+        &mut out,
         &mut lines,
     );
     drop(words);
     drop(folder);
     drop(lines);
     expect(rt, status == 0);
-    let found = copy_of(rt, alloc, pipe.bytes());
-    drop(pipe);
-    found
+    out
 }
 
 /// The words write so many bytes, the first ones of these.
@@ -151,22 +168,21 @@ fn expect_written(rt: &impl Abort, alloc: Global, words: &[&str], pauses: u32, w
     expect_given(rt, found, want);
 }
 
-/// How many bytes of the dump went out where was waited so often: the head has 16, the entries 64 and 80.
-const LENGTHS: &[(u32, usize)] = &[(0, 16), (1, 80), (2, 160), (3, 160)];
+/// How many bytes of the dump went out where was waited so often: the head has 16, the entries 64 and 320.
+const LENGTHS: &[(u32, usize)] = &[(0, 16), (1, 80), (2, 400), (3, 400)];
 
 /// Each entry is written once, in the order of commits, behind the head or without one.
 #[test]
 fn a_followed_dump_goes_on(rt: HostRuntime) {
     let alloc = rt.alloc();
-    let all = lines_of(&rt, alloc, DUMP);
-    let second = lines_of(&rt, alloc, LATER);
+    let all = dump_of(&rt, alloc, 2);
     let words = &["dump", "ledger", "--follow"];
     for (pauses, len) in LENGTHS {
         expect_first(&rt, alloc, words, *pauses, (*len, &all));
     }
     let words = &["dump", "ledger", "--after", "1", "--follow"];
-    expect_written(&rt, alloc, words, 2, &second);
-    drop(second);
+    let second = all.get(80..).unwrap_or_default();
+    expect_written(&rt, alloc, words, 2, second);
     drop(all);
 }
 
@@ -174,7 +190,7 @@ fn a_followed_dump_goes_on(rt: HostRuntime) {
 #[test]
 fn a_dump_has_one_moment(rt: HostRuntime) {
     let alloc = rt.alloc();
-    let all = lines_of(&rt, alloc, DUMP);
+    let all = dump_of(&rt, alloc, 2);
     expect_first(&rt, alloc, &["dump", "ledger"], 2, (16, &all));
     drop(all);
     let words = &["dump", "ledger", "--after", "0"];

@@ -8,8 +8,7 @@ use crate::steps::{file_of, rules, sure};
 use std::alloc::Global;
 use std::process::Abort;
 use tb_journal::Memory;
-use tb_keep::Rules;
-use tb_keep_log::{KeepLogFault, LogKeeper, LogStartFault, NotStarted, keep_log};
+use tb_keep_log::{KeepLogFault, LogKeeper, keep_log};
 use tb_log::follow;
 use tb_records::Counting;
 
@@ -75,12 +74,6 @@ const LOG: [u128; 54] = [
 /// The bytes of the log.
 const LONG: usize = 861;
 
-/// Where the items of the log end.
-pub const ENDS: [usize; 5] = [385, 386, 587, 860, 861];
-
-/// The position behind each of them.
-pub const POSITIONS: [u64; 5] = [1, 1, 2, 3, 3];
-
 /// The log.
 pub fn log(rt: &impl Abort, alloc: Global) -> Vec<u8> {
     let mut bytes = Vec::new(alloc);
@@ -134,30 +127,6 @@ pub fn bytes_of(rt: &impl Abort, alloc: Global, keeper: LogKeeper<Memory>) -> Ve
     let bytes = Vec::from_slice(alloc, keeper.journal().device().bytes());
     drop(keeper);
     sure(rt, bytes)
-}
-
-/// Why a file with these bytes is not opened by these rules.
-pub fn refused_by(
-    rt: &impl Abort,
-    alloc: Global,
-    rules: Rules,
-    bytes: &[u8],
-) -> Option<LogStartFault> {
-    let file = file_of(rt, alloc, bytes);
-    let opened: Result<LogKeeper<Memory>, NotStarted<Memory>> = LogKeeper::start(
-        alloc, alloc, file, rules,
-    );
-    match opened {
-        Ok(keeper) => {
-            drop(keeper);
-            None
-        }
-        Err(failed) => {
-            let fault = failed.fault;
-            drop(failed);
-            Some(fault)
-        }
-    }
 }
 
 /// What keeping a log over a keeper answers, and the bytes that it writes.
