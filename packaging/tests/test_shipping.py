@@ -55,6 +55,35 @@ def test_forms_of_tbd_are_those_of_its_usage() -> None:
     assert set(completion.flags(completion.all_options(PROGRAMS["tbd"]))) == flags | {"-h"}
 
 
+def definitions(name: str, text: str) -> dict[str, list[str]]:
+    """The equations of a definition: the argument of each, and the words of its right side."""
+    rows = re.findall(rf"^{name} (?:form\.)?(\w+) = (.*)$", text, re.M)
+    return {left: re.findall(r"[\w-]+", right.removeprefix("codes ")) for left, right in rows}
+
+
+def forms_of_the_table() -> dict[str, set[tuple[str, bool]]]:
+    """The forms of tbd and tb_follow as usage shows them, with each option and whether it has a
+    value: from the definitions that the proofs are about."""
+    text = (ROOT / "crates/tb_cli/specs/Table.antt").read_text()
+    shown = {"File": "FILE", "New": "NEW", "ClientsMax": "CLIENTS_MAX", "Profile": "[PROFILE]"}
+    words, operands = definitions("form_word", text), definitions("operands_of", text)
+    options, flags = definitions("options_of", text), definitions("option_word", text)
+    with_value = {it for it, right in definitions("has_value", text).items() if right == ["true"]}
+    return {
+        " ".join(word + [shown[it] for it in operands[form]]): {
+            (flags[it][0], it in with_value) for it in options[form]
+        }
+        for form, word in words.items()
+        if not word or not word[0].startswith("-")
+    }
+
+
+def test_forms_of_tbd_and_tb_follow_are_those_of_the_table() -> None:
+    forms = PROGRAMS["tbd"].forms + PROGRAMS["tb_follow"].forms
+    listed = {it.words: {(o.flags[0], bool(o.value)) for o in it.options} for it in forms}
+    assert listed == forms_of_the_table()
+
+
 @pytest.mark.parametrize("name", ["tbs", "tb_script"])
 def test_forms_of_tbs_are_those_of_its_page(name: str) -> None:
     page = (ROOT / "docs/use/TBS.md").read_text()

@@ -622,16 +622,16 @@ def look_at(tbd, path, data):
 # Words that are none of the program's forms, and what is reported of them.
 WORDS = [
     ("run ledger.tbk 65", "run ledger.tbk 65: CLIENTS_MAX is 1 to 64"),
-    ("run ledger.tbk 65 1", "run ledger.tbk 65 1: CLIENTS_MAX is 1 to 64"),
+    ("run ledger.tbk 65 1", "run ledger.tbk 65: CLIENTS_MAX is 1 to 64"),
     ("run ledger.tbk 2 3", "run ledger.tbk 2 3: PROFILE is 1 or 2"),
     ("run ledger.tbk", "run ledger.tbk: CLIENTS_MAX is missing, 1 to 64"),
     ("check", "check: FILE is missing"),
     (
         "run ledger.tbk 2 1 --reports",
-        "run ledger.tbk 2 1 --reports: PROFILE is 1 or 2, and only options may follow it, each once",
+        "run ledger.tbk 2 1 --reports: unknown option; those of run are --existing, --progress and --drop-torn",
     ),
-    ("check ledger.tbk 2", "check: only --quick may follow FILE"),
-    ("serve", "serve: unknown; tbd --help shows the forms"),
+    ("check ledger.tbk 2", "check ledger.tbk 2: too many words"),
+    ("serve", "serve: unknown; --help shows the forms"),
 ]
 
 
@@ -671,9 +671,18 @@ def test_told_of_words(tbd, folder):
     told = told_of(tbd, folder, ["serve\x07"])
     case(
         "a word with a control character",
-        told == (2, b"", "tbd: Usage: serve?: unknown; tbd --help shows the forms\n"),
+        told == (2, b"", "tbd: Usage: serve?: unknown; --help shows the forms\n"),
         told,
     )
+    for form in ("run", "dump", "follow", "check", "salvage", "backup"):
+        status, page, reported = told_of(tbd, folder, [form, "words.tbk", "--help"])
+        first = f"Usage: tbd FORM\n\n  {form} FILE"
+        well = (status, reported) == (0, "") and page.decode().startswith(first)
+        case(f"{form} --help prints the page of that form", well, (status, page, reported))
+    words = ["run", "--drop-torn", "words.tbk", "--existing", "3", "--progress"]
+    told = told_of(tbd, folder, words)
+    line = "tbd: Device: cannot find words.tbk; look at its name and at its folder\n"
+    case("three options between the operands", told == (1, b"", line), told)
     told_of(tbd, folder, ["run", "words.tbk", "3"], pair_of_a_register())
     for form in ("dump", "check"):
         with open("/dev/full", "wb") as full:
@@ -1351,10 +1360,14 @@ def test_copies_of_no_ledger(tbd, folder):
             (
                 ["words.tbk", "64"],
                 2,
-                f"Usage: {form} words.tbk 64: NEW is a number or begins with -; write ./NEW",
+                f"Usage: {form} words.tbk 64: NEW is a number; write ./NEW",
             ),
             (["words.tbk"], 2, f"Usage: {form} words.tbk: NEW is missing"),
-            (["words.tbk", "new.tbk", "more"], 2, f"Usage: {form}: too many words"),
+            (
+                ["words.tbk", "new.tbk", "more"],
+                2,
+                f"Usage: {form} words.tbk new.tbk more: too many words",
+            ),
         ):
             told = told_of(tbd, folder, [form, *words])
             lines = told[2].splitlines()

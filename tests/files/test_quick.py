@@ -109,9 +109,16 @@ def test_a_request_that_is_not_new(checks):
     assert quick[0] == 0 and quick[1].startswith(b"records 3\nentries 2\n"), quick
 
 
-@pytest.mark.parametrize("words", (["--fast"], ["--quick", "--quick"], ["2"]))
-def test_other_arguments(tbd, tmp_path, words):
+@pytest.mark.parametrize(
+    "words, said",
+    [
+        (["--fast"], "unknown option; that of check is --quick"),
+        (["--quick", "--quick"], "an option is given once"),
+        (["2"], "too many words"),
+    ],
+)
+def test_other_arguments(tbd, tmp_path, words, said):
     path = tmp_path / "ledger.tbk"
     path.write_bytes(journal(HEAD))
-    wanted = (2, b"", b"tbd: Usage: check: only --quick may follow FILE\n")
-    assert ran([tbd, "check", path, *words]) == wanted
+    line = f"tbd: Usage: check {path} {' '.join(words)}: {said}\n"
+    assert ran([tbd, "check", path, *words]) == (2, b"", line.encode())

@@ -327,7 +327,7 @@ def main(words):
     if "--existing" in options and not os.path.exists(words[1]):
         raise Fault(f"Device: cannot find {words[1]}; look at its name and at its folder", 1)
     if len(words) > 1 and (words[1].isdigit() or words[1].startswith("-")):
-        line = f"Usage: {words[0]} {words[1]}: FILE is a number or begins with -; write ./FILE"
+        line = f"Usage: {words[0]} {words[1]}: FILE is a number; write ./FILE"
         raise Fault(line, 2)
     if (
         len(words) in (3, 4)

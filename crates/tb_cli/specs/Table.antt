@@ -6,7 +6,7 @@ use Rattle.tb_cli.specs.declared.table.FormName.TheVariants as form
 use Rattle.tb_cli.specs.declared.table.Operand.{Operand}
 use Rattle.tb_cli.specs.declared.table.Operand.TheVariants.{File, New, ClientsMax, Profile}
 use Rattle.tb_cli.specs.declared.table.OptionName.{OptionName}
-use Rattle.tb_cli.specs.declared.table.OptionName.TheVariants.{Existing, Progress, DropTorn, After, Follow}
+use Rattle.tb_cli.specs.declared.table.OptionName.TheVariants.{Existing, Progress, DropTorn, After, Follow, Quick}
 
 abbrev pub form_word : FormName → List ℕ
 form_word form.Run = codes "run"
@@ -34,7 +34,7 @@ abbrev pub options_of : FormName → List OptionName
 options_of form.Run = Existing ∷ Progress ∷ DropTorn ∷ []
 options_of form.Dump = After ∷ Follow ∷ []
 options_of form.Follow = Existing ∷ DropTorn ∷ []
-options_of form.Check = []
+options_of form.Check = Quick ∷ []
 options_of form.Salvage = []
 options_of form.Backup = []
 options_of form.Memory = []
@@ -47,6 +47,7 @@ option_word Progress = codes "--progress"
 option_word DropTorn = codes "--drop-torn"
 option_word After = codes "--after"
 option_word Follow = codes "--follow"
+option_word Quick = codes "--quick"
 
 -- the option that has its value in the next word
 abbrev pub has_value : OptionName → Bool

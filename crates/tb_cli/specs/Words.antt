@@ -1,6 +1,6 @@
 -- Which words a form takes, what they give, and what is wrong with words that no form takes.
 -- Cited by public contracts of: faults, reading.
-use Rattle.std.specs.Prelude.{ℕ, Bool, true, false, ◌≡◌, ◌||◌, ◌&&◌, ◌==◌, ◌+◌, nat_lt, nat_eq, List, [], ◌∷◌, length, drop, Option, Some, None, Result, Ok, Err, if◌then◌else◌, codes, find, is_some, slice_get, get_or, refl}
+use Rattle.std.specs.Prelude.{ℕ, Bool, true, false, ◌≡◌, ◌&&◌, ◌==◌, ◌+◌, nat_lt, nat_eq, List, [], ◌∷◌, length, drop, Option, Some, None, Result, Ok, Err, if◌then◌else◌, codes, find, is_some, slice_get, get_or, refl}
 use Rattle.std.specs.Char.{is_ascii_digit}
 use Rattle.std.specs.List.{list_all, list_any}
 use Rattle.std.specs.Option.{option_map}
@@ -34,7 +34,7 @@ is_number word = nat_lt 0 (length word) && list_all is_ascii_digit word
 
 -- before any word is read: profile 1, and no option
 abbrev pub nothing : Given
-nothing = record { file = None; new = None; clients_max = None; profile = One; existing = false; progress = false; drop_torn = false; follow = false; after = None }
+nothing = record { file = None; new = None; clients_max = None; profile = One; existing = false; progress = false; drop_torn = false; follow = false; quick = false; after = None }
 
 -- with the word at a place for an operand, if it is of its kind
 abbrev pub with_operand : Given → Operand → ℕ → List ℕ → Option Given
@@ -49,6 +49,7 @@ with_option given option.Existing = if given.existing then None else Some (recor
 with_option given option.Progress = if given.progress then None else Some (record given { progress = true })
 with_option given option.DropTorn = if given.drop_torn then None else Some (record given { drop_torn = true })
 with_option given option.Follow = if given.follow then None else Some (record given { follow = true })
+with_option given option.Quick = if given.quick then None else Some (record given { quick = true })
 with_option given option.After = if is_some given.after then None else Some given
 
 -- with the value of `--after`, a commit number
@@ -175,6 +176,7 @@ abbrev pub option_text : FormName → List ℕ
 option_text form.Run = codes "unknown option; those of run are --existing, --progress and --drop-torn"
 option_text form.Dump = codes "unknown option; those of dump are --after COMMIT and --follow"
 option_text form.Follow = codes "unknown option; those of follow are --existing and --drop-torn"
+option_text form.Check = codes "unknown option; that of check is --quick"
 option_text form.Memory = codes "unknown option; those of the program are --help and --version"
 option_text name = codes "unknown option; write ./NAME for a file of that name"
 

@@ -60,6 +60,7 @@ impl Fault {
             Fault::NoOption(FormName::Follow) => {
                 "unknown option; those of follow are --existing and --drop-torn"
             }
+            Fault::NoOption(FormName::Check) => "unknown option; that of check is --quick",
             Fault::NoOption(FormName::Memory) => {
                 "unknown option; those of the program are --help and --version"
             }

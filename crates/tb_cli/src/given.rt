@@ -18,6 +18,7 @@ pub struct Given {
     pub progress: bool,
     pub drop_torn: bool,
     pub follow: bool,
+    pub quick: bool,
     /// The value of `--after`.
     pub after: Option<u64>,
 }
@@ -32,6 +33,7 @@ pub const NOTHING: Given = Given {
     progress: false,
     drop_torn: false,
     follow: false,
+    quick: false,
     after: None,
 };
 
@@ -88,6 +90,10 @@ pub(crate) fn with_option(given: Given, option: OptionName) -> Option<Given>
         }),
         OptionName::Follow if !given.follow => Some(Given {
             follow: true,
+            ..given
+        }),
+        OptionName::Quick if !given.quick => Some(Given {
+            quick: true,
             ..given
         }),
         OptionName::After if given.after.is_none() => Some(given),

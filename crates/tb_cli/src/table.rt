@@ -51,6 +51,8 @@ pub enum OptionName {
     After,
     /// More entries are waited for.
     Follow,
+    /// Only checksums, commit numbers and times are checked.
+    Quick,
 }
 
 impl FormName {
@@ -98,6 +100,7 @@ impl FormName {
             ],
             FormName::Follow => &[OptionName::Existing, OptionName::DropTorn],
             FormName::Dump => &[OptionName::After, OptionName::Follow],
+            FormName::Check => &[OptionName::Quick],
             _ => &[],
         }
     }
@@ -123,6 +126,7 @@ impl OptionName {
             OptionName::DropTorn => "--drop-torn",
             OptionName::After => "--after",
             OptionName::Follow => "--follow",
+            OptionName::Quick => "--quick",
         }
     }
 

@@ -48,13 +48,13 @@ use Rattle.tb_keep_commands.specs.declared.faults.Mismatch.{Mismatch}
 use Rattle.tb_keep_commands.specs.declared.faults.Numbers.{Numbers}
 use Rattle.tb_keep_commands.specs.declared.kinds.Kind.{Kind}
 use Rattle.tb_keep_commands.specs.declared.kinds.Kind.TheVariants as kind
-use Rattle.tb_keep_commands.specs.declared.arguments.TheConstants.{CLIENTS_MISSING, CLIENTS_WRONG}
+use Rattle.tb_cli.specs.declared.faults.TheConstants.{CLIENTS_MISSING, CLIENTS_WRONG}
 use Rattle.tb_keep_commands.specs.declared.help.TheConstants.{USAGE}
 use Rattle.tb_keep_commands.specs.declared.openers.OpeningFault.{OpeningFault}
 use Rattle.tb_keep_commands.specs.declared.openers.OpeningFault.TheVariants as opening
 use Rattle.tb_keep_commands.specs.declared.reports.Reported.{Reported}
 use Rattle.tb_keep_commands.specs.declared.lines.WrongEntry.{WrongEntry}
-use Rattle.tb_keep_commands.specs.Forms.{Wrong, wrong}
+use Rattle.tb_keep_commands.specs.Forms.{Wrong, asked_in, wrong}
 use Rattle.tb_keep_commands.specs.Printable.{printable}
 
 -- what the faults of the system and of the libraries are here
@@ -456,7 +456,7 @@ unfolding printable chars lib.Utf8.encode
 line_of_a_new_file = refl
 
 pub line_of_words : usage_lines (codes "run" ∷ []) ≡ codes "tbd: Usage: run: FILE and CLIENTS_MAX are missing\n"
-unfolding printable chars lib.Utf8.encode
+unfolding printable chars lib.Utf8.encode asked_in
 line_of_words = refl
 
 -- the texts about a number of clients say its range

@@ -12,10 +12,11 @@ use Rattle.tb_keep_commands.specs.declared.commands.Terminals.{Terminals}
 use Rattle.tb_keep_commands.specs.declared.faults.KeepCommandFault.TheVariants.{Device}
 use Rattle.tb_keep_commands.specs.declared.faults.Failed.TheVariants as failed
 use Rattle.tb_keep_commands.specs.declared.openers.OpeningFault.{OpeningFault}
-use Rattle.tb_keep_commands.specs.declared.help.TheConstants.{USAGE, VERSION}
+use Rattle.tb_keep_commands.specs.declared.help.TheConstants.{VERSION}
 use Rattle.tb_keep_commands.specs.Copies.{CopiesOver}
 use Rattle.tb_keep_commands.specs.Ends.{KnownEnds, KnownFiles, On}
 use Rattle.tb_keep_commands.specs.Forms.{file_word, form_of, new_word}
+use Rattle.tb_keep_commands.specs.Pages.{page_of}
 use Rattle.tb_keep_commands.specs.Outcomes.{Outcome, Prints, RunsOver, DumpsOver, ChecksOver}
 use Rattle.tb_keep_commands.specs.ExitStatuses.{Says, SaysLine, fault_line, fault_path, fault_exit_status, usage_lines}
 
@@ -60,8 +61,8 @@ module _ {O D E : Type 0} (its : KnownFiles O D E) (ends : Terminals) (before : 
       (last ≡ first) × (told ≡ quiet) × CopiesOver its new name before left false outcome start written
   Performs form.Backup outcome first last start written quiet told =
       (last ≡ first) × (told ≡ quiet) × CopiesOver its new name before left true outcome start written
-  Performs form.Help outcome first last start written quiet told =
-      (left ≡ before) × (last ≡ first) × (told ≡ quiet) × Prints USAGE.now outcome start written
+  Performs (form.Help name_of) outcome first last start written quiet told =
+      (left ≡ before) × (last ≡ first) × (told ≡ quiet) × Prints (page_of name_of) outcome start written
   Performs form.Version outcome first last start written quiet told =
       (left ≡ before) × (last ≡ first) × (told ≡ quiet) × Prints VERSION.now outcome start written
 

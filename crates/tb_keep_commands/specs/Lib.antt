@@ -5,6 +5,7 @@ pub mod Ends
 pub mod Exits
 pub mod Following
 pub mod Forms
+pub mod Pages
 pub mod Hosts
 pub mod Kinds
 pub mod Live

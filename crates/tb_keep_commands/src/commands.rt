@@ -12,7 +12,7 @@ use crate::ends::{Ends, Files};
 use crate::faults::{Failed, KeepCommandFault, reason_fault};
 use crate::files::{check, dump};
 use crate::following::{Part, follow};
-use crate::help::{USAGE, VERSION};
+use crate::help::{VERSION, page};
 use crate::keeping::{Told, run};
 use crate::lines::{tell, tell_frames, tell_usage};
 use crate::openers::{Opener, OpeningFault};
@@ -213,7 +213,7 @@ fn perform<O: Opener, R: Source, W: Outlet, E: Sink>(
         Form::Check(quick) => check_over(alloc, opener, name, quick, writer),
         Form::Salvage => copy_over(alloc, opener, name, asked.new, false, writer),
         Form::Backup => copy_over(alloc, opener, name, asked.new, true, writer),
-        Form::Help => print(writer, USAGE),
+        Form::Help(form) => print(writer, page(form)),
         Form::Version => print(writer, VERSION),
     }
 }

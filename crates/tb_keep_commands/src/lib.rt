@@ -3,7 +3,7 @@
 //! Modules, each over those before it:
 //!
 //! - `arguments`: what the words of the command line ask for, and what is wrong with words that ask for nothing.
-//! - `help`: the page of usage.
+//! - `help`: the pages of usage.
 //! - `live`: `Live`, a file that is read while another program may append to it.
 //! - `laws`: what holds of every dump of a file that grows.
 //! - `openers`: `Opener`, what opens the device of a name, and why it does not.
@@ -59,7 +59,7 @@ mod steady;
 mod summaries;
 
 pub use arguments::{
-    Form, Options, file_word, follow_option, is_no_file, new_word, no_options, read_form, wrong,
+    FORMS, Form, Options, file_word, new_word, options_of, read_form, read_words, wrong,
 };
 pub use asides::{COPIES_MAX, Reason, Uncopied};
 pub use commands::{Terminals, command, made_by};
@@ -69,7 +69,7 @@ pub use faults::{
     Damage, Failed, KeepCommandFault, Mismatch, Numbers, disk_fault, opened_fault, reason_fault,
     words_fault,
 };
-pub use help::{USAGE, VERSION};
+pub use help::{CHECK, RUN, USAGE, VERSION};
 pub use host::{refuse, serve};
 pub use keeping::failed_pipe;
 pub use kinds::Kind;

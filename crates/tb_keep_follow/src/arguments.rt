@@ -1,12 +1,12 @@
 //! What the words of the command line ask for.
 ghost use Rattle.std.specs.Prelude.{◌≡◌, map, string_bytes};
-ghost use Rattle.tb_keep_follow.specs.Forms.{form_by, form_four, form_of, form_option, form_with, log_form, log_form_of};
+ghost use Rattle.tb_keep_follow.specs.Forms.{follow_by, form_of, log_form, log_form_of};
 
-use tb_commands::{read_clients_max, read_profile};
-use tb_keep_commands::{Options, file_word, follow_option, is_no_file, no_options};
+use tb_cli::{Asked, FormName, Given};
+use tb_keep_commands::{Options, options_of, read_words};
 use tb_records::{ClientsMax, Profile};
 
-/// What the program is asked to do over a log, in the file that the second word names.
+/// What the program is asked to do over a log, in the file that the words name.
 #[derive(Clone, Copy)]
 pub enum Form {
     /// Follow a log, for so many clients and by a profile. The file is made where there is none, unless the options say otherwise.
@@ -16,78 +16,21 @@ pub enum Form {
     Dump(Option<u64>, bool),
 }
 
-/// What a word with the number of clients asks for, by a profile.
-fn form_with(word: &str, clients_max: &str, profile: Profile) -> Option<Form>
-    ensures { result ≡ form_with word.now clients_max.now profile }
+/// `follow`, by what is given.
+fn follow_by(given: Given) -> Option<Form>
+    ensures { result ≡ follow_by given }
 {
-    let clients_max = read_clients_max(clients_max.as_bytes())?;
-    match word {
-        "follow" => Some(Form::Follow(clients_max, profile, no_options())),
-        _ => None,
-    }
+    Some(Form::Follow(given.clients_max?, given.profile, options_of(given)))
 }
 
-/// What `follow` with the number of clients, a profile and an option asks for.
-fn form_option(
-    word: &str,
-    clients_max: &str,
-    profile_given: Option<Profile>,
-    last: &str,
-) -> Option<Form>
-    ensures { result ≡ form_option word.now clients_max.now profile_given last.now }
-{
-    if word != "follow" {
-        return None;
-    }
-    Some(Form::Follow(
-        read_clients_max(clients_max.as_bytes())?,
-        profile_given?,
-        follow_option(last)?,
-    ))
-}
-
-/// What a word with the number of clients and one more word asks for: a profile, or an option of `follow`.
-fn form_four(word: &str, clients_max: &str, last: &str) -> Option<Form>
-    ensures { result ≡ form_four word.now clients_max.now last.now }
-{
-    match read_profile(last.as_bytes()) {
-        Some(profile) => form_with(word, clients_max, profile),
-        None => form_option(word, clients_max, Some(Profile::One), last),
-    }
-}
-
-/// What the words ask for, whatever the word is that names the file: the profile is 1 where it is left out.
-#[tactic(auto, using(crate::proofs::Lengths::six_no_form))]
-fn form_by(words: &[String]) -> Option<Form>
-    ensures { result ≡ form_by (map string_bytes words.now) }
-{
-    match words {
-        [word, _, clients_max] => form_with(word.as_str(), clients_max.as_str(), Profile::One),
-        [word, _, clients_max, last] => {
-            form_four(word.as_str(), clients_max.as_str(), last.as_str())
-        }
-        [word, _, clients_max, profile, last] => form_option(
-            word.as_str(),
-            clients_max.as_str(),
-            read_profile(profile.as_bytes()),
-            last.as_str(),
-        ),
-        [] => None,
-        [_] => None,
-        [_, _] => None,
-        [_, _, _, _, _, _, ..] => None,
-    }
-}
-
-/// What the words ask for over a log, whatever is in the file; None where they ask for no such form. The second word is the file: it may
-/// be no number, and not begin with `-`.
+/// What the words ask for over a log, whatever is in the file; None where they ask for no such form.
 pub fn read_form(words: &[String]) -> Option<Form>
     ensures { result ≡ form_of (map string_bytes words.now) }
 {
-    if is_no_file(file_word(words)) {
-        return None;
+    match read_words(words) {
+        Ok(Asked::Form(FormName::Follow, given)) => follow_by(given),
+        _ => None,
     }
-    form_by(words)
 }
 
 /// The form over a log that is asked for as this one is over a ledger, if there is one.

@@ -19,19 +19,17 @@ use files::{SystemFiles, lines};
 use std::cell::Cell;
 use std::io::{BufWriter, IsTerminal, Stderr};
 use std::process::ExitCode;
+use tb_cli::{Asked, NOTHING};
 use tb_commands::words;
-use tb_keep_commands::{
-    Form, Options, Steady, Terminals, no_options, read_form, refuse, words_fault,
-};
-use tb_keep_follow::{Form as LogForm, read_form as read_log_form, serve_words};
+use tb_keep_commands::{Options, Steady, Terminals, options_of, read_words, refuse, words_fault};
+use tb_keep_follow::serve_words;
 use tb_records::Counting;
 
 /// The options among the words.
 fn options(words: &[String]) -> Options {
-    match (read_form(words), read_log_form(words)) {
-        (Some(Form::Run(_, _, options)), _) => options,
-        (_, Some(LogForm::Follow(_, _, options))) => options,
-        _ => no_options(),
+    match read_words(words) {
+        Ok(Asked::Form(_, given)) => options_of(given),
+        _ => options_of(NOTHING),
     }
 }
 

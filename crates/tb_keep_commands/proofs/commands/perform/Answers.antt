@@ -17,7 +17,7 @@ pub returns-in-Backup : goal.returns-in-Backup
 returns-in-Backup g c = rw c.in-Backup.is (refl, refl, c.copy_over-in-Backup.ensures)
 
 pub returns-in-Help : goal.returns-in-Help
-returns-in-Help g c = rw c.in-Help.is (refl, refl, refl, c.print.ensures)
+returns-in-Help g c = rw (c.in-Help.is, ← c.page.ensures) (refl, refl, refl, c.print.ensures)
 
 pub returns-in-Version : goal.returns-in-Version
 returns-in-Version g c = rw c.in-Version.is (refl, refl, refl, c.print-in-Version.ensures)
