@@ -1,3 +1,2 @@
 -- what private contracts alone cite
-pub mod Forms
 pub mod ExitStatuses
