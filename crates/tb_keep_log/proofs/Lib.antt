@@ -7,3 +7,4 @@ pub mod Opened
 pub mod Crashes
 pub mod Unique
 pub mod Dumped
+pub mod Checked

@@ -2,6 +2,7 @@ pub mod Faults
 pub mod Keeping
 pub mod Rereading
 pub mod Beginning
+pub mod Checking
 pub mod Items
 pub mod Dumping
 pub mod Parts

@@ -1,3 +1,4 @@
 -- what private contracts alone cite
 pub mod Steps
 pub mod DumpSteps
+pub mod CopySteps

@@ -22,7 +22,7 @@ use tb_keep::Rules;
 use tb_log::Follower;
 
 /// A torn commit leaves at most so many bytes behind the records and the latch there: one record and its latch.
-const TORN_BYTES_MAX: u64 = (1 << 24) + 11;
+pub(crate) const TORN_BYTES_MAX: u64 = (1 << 24) + 11;
 
 /// A device whose file was not opened as a kept log, and why.
 #[derive(Drop)]
@@ -43,7 +43,7 @@ fn not_started<D: Device>(failed: NotOpened<D>) -> NotStarted<D>
 }
 
 /// The number of torn bytes of a file that was read to this extent: those behind its records and the latch there.
-fn torn_behind<D: Device>(device: &mut D, extent: Extent) -> Result<u64, JournalFault>
+pub(crate) fn torn_behind<D: Device>(device: &mut D, extent: Extent) -> Result<u64, JournalFault>
     ensures torn { OfHeld (D.holds device.old) (λ file. extent_of (contents file) ≡ Ok extent → IfOk result (λ torn. torn ≡ torn_bytes file)) }
     ensures same { OfHeld (D.holds device.old) (D.holds device.new) }
     ensures stays { D.tells → StaysKept (D.disk device.old) (D.disk device.new) }

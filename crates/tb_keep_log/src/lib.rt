@@ -9,12 +9,14 @@
 //! - `entries`: an entry served in memory; the entry of a record entered again, and compared with it.
 //! - `rereading`: `read_log`, a follower behind all records of a file.
 //! - `beginning`: `LogKeeper::open` and `LogKeeper::start`.
+//! - `checking`: `check_log`, a file read as a start reads it, without a write.
 //! - `items`: `keep_log`, items read, entries committed, and then answers sent.
 //! - `dumps`: `write_log_dump`, the history of a kept log without positions, and `write_log_entries`, a part of it.
 //! - `laws`: what holds of every kept log: functions that do nothing.
 #![tactic(auto)]
 
 mod beginning;
+mod checking;
 mod dumps;
 mod entries;
 mod faults;
@@ -25,6 +27,7 @@ mod marks;
 mod rereading;
 
 pub use beginning::NotStarted;
+pub use checking::{Reached, check_log};
 pub use dumps::{write_log_dump, write_log_entries};
 pub use faults::{DumpLogFault, KeepLogFault, LogStartFault};
 pub use items::keep_log;

@@ -94,6 +94,13 @@ impl<A: Allocator + Clone> Follower<A> {
         self.position
     }
 
+    /// The machine behind the pairs of all entries.
+    pub fn machine(&self) -> &Machine<A>
+        ensures { result.now ≡ self.now.state }
+    {
+        &self.machine
+    }
+
     /// Takes the entry at the next position, before its pairs.
     pub fn begin(&mut self, position: u64, content: &[u8])
         requires { position ≡ self.old.position + 1 }
