@@ -11,6 +11,7 @@ use Rattle.tb_keep_commands.specs.ExitStatuses.{SaysLine}
 use Rattle.tb_keep_follow.specs.declared.arguments.Form.{Form}
 use Rattle.tb_keep_follow.specs.declared.arguments.Form.TheVariants as form
 use Rattle.tb_keep_follow.specs.declared.faults.FollowFault.TheVariants.{Kept}
+use Rattle.tb_keep_follow.specs.Checks.{ChecksOver}
 use Rattle.tb_keep_follow.specs.Faults.{follow_line, follow_exit_status}
 use Rattle.tb_keep_follow.specs.Outcomes.{Outcome, FollowsOver, DumpsOver}
 
@@ -30,7 +31,8 @@ Tells (Ok done) path before after = after ≡ before
 Tells (Err fault) path before after = SaysLine (follow_line fault path) before after
 
 module _ {O D E : Type 0} (its : KnownFiles O D E) (before : O) (name : List ℕ) (left : O) where
-  -- what a form does over what opens devices: `follow` has the device of a name made where there is none, `dump` opens one that is there
+  -- what a form does over what opens devices: `follow` has the device of a name made where there is none, the others open one that is
+  -- there
   abbrev pub Performs : Form → Outcome → Input → Input → Output → Output → Output → Output → Type 0
   Performs (form.Follow clients_max profile options) outcome first last start written quiet told =
       FollowsOver its.file (made_by its options.existing before name) (its.opener.reasons left) left outcome (rules_of profile clients_max) name options.existing
@@ -38,6 +40,8 @@ module _ {O D E : Type 0} (its : KnownFiles O D E) (before : O) (name : List ℕ
   Performs (form.Dump from follows) outcome first last start written quiet told =
       (last ≡ first) × (told ≡ quiet)
       × DumpsOver its.reading (its.opener.opens before name) left (its.opener.ended left) from follows outcome start written
+  Performs form.Check outcome first last start written quiet told =
+      (last ≡ first) × (told ≡ quiet) × ChecksOver its.reading its.whole (its.opener.opens before name) left outcome start written
 
   -- a form was done, or not to its end; what it wrote went out; and the exit status and the line are those of the outcome
   pub record Exits (gone : Type 0) (form : Form) (exit_status : ℕ) (first last : Input) (start written quiet told : Output) : Type 0 where

@@ -15,7 +15,7 @@ use Rattle.tb_keep_commands.specs.declared.arguments.Options.{Options}
 use Rattle.tb_keep_commands.specs.Forms as commands
 use Rattle.tb_keep_commands.specs.Forms.{asked_in, options_of}
 use Rattle.tb_keep_follow.specs.declared.arguments.Form.{Form}
-use Rattle.tb_keep_follow.specs.declared.arguments.Form.TheVariants.{Follow, Dump}
+use Rattle.tb_keep_follow.specs.declared.arguments.Form.TheVariants.{Follow, Dump, Check}
 
 abbrev pub follow_form : Option ℕ → Profile → Options → Option Form
 follow_form None profile options = None
@@ -41,6 +41,7 @@ form_of words = form_asked (asked_in words)
 -- a form over a ledger that there is over a log too
 abbrev pub log_form : LedgerForm → Option Form
 log_form (form.Dump after follows) = Some (Dump after follows)
+log_form (form.Check quick) = Some Check
 log_form asked = None
 
 abbrev pub log_form_if : Option LedgerForm → Option Form
@@ -75,6 +76,10 @@ both_options_of_a_log = refl
 pub later_entries_of_a_log : log_form_of (codes "dump" ∷ codes "log" ∷ codes "--after" ∷ codes "7" ∷ []) ≡ Some (Dump (Some 7) false)
 unfolding asked_in
 later_entries_of_a_log = refl
+
+pub a_check_is_one_of_any_file : log_form_of (codes "check" ∷ codes "log" ∷ []) ≡ Some Check
+unfolding asked_in
+a_check_is_one_of_any_file = refl
 
 pub no_start_of_a_log_is_reported : form_of (codes "follow" ∷ codes "log" ∷ codes "64" ∷ codes "--progress" ∷ []) ≡ None
 unfolding asked_in

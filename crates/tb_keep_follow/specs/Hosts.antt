@@ -21,15 +21,18 @@ use Rattle.tb_keep_follow.specs.Exits.{Exits}
 use Rattle.tb_keep_follow.specs.Forms.{form_of, log_form_of}
 use Rattle.tb_keep_follow.specs.Heads.{LooksLikeLog}
 
--- the bytes of input that a form holds at a time; a dump reads none
+-- the bytes of input that a form holds at a time; only `follow` reads any
 abbrev pub input_size : Form → ℕ
 input_size (form.Follow clients_max profile options) = 2 ^ 20
 input_size (form.Dump from follows) = 0
+input_size form.Check = 0
 
--- the bytes of output that a form holds at a time; of replies none, so that each goes out when it is written
+-- the bytes of output that a form holds at a time; of replies none, so that each goes out when it is written, and none of what is written
+-- at once
 abbrev pub output_size : Form → ℕ
 output_size (form.Follow clients_max profile options) = 0
 output_size (form.Dump from follows) = 2 ^ 16
+output_size form.Check = 0
 
 module _ {O D E : Type 0} (its : KnownFiles O D E) (before left : O) {R W : Type 0} (remaining : R → Option (List ℕ)) (contents : W → Option (List ℕ)) where
   -- a form was done, or not to its end; where it was done the buffer of the output is empty at its end

@@ -4,9 +4,7 @@ use Rattle.std.specs.Prelude.{ℕ, Bool, true, false, ◌≡◌, ◌-◌, List, 
 use Rattle.tb_records.specs.Transport.{Input, Output}
 use Rattle.tb_journal.specs.declared.devices.Device as devices
 use Rattle.tb_journal.specs.declared.faults.JournalFault.{JournalFault}
-use Rattle.tb_journal.specs.declared.reading.Extent.{Extent}
 use Rattle.tb_journal.specs.Device.{LeavesOnly}
-use Rattle.tb_log.specs.Following.{Following}
 use Rattle.tb_keep.specs.declared.recovering.Rules.{Rules}
 use Rattle.tb_keep.specs.Creating.{IsUntouched}
 use Rattle.tb_keep.specs.Recovering.{AreAside}
@@ -15,9 +13,11 @@ use Rattle.tb_keep_log.specs.declared.faults.KeepLogFault.{KeepLogFault}
 use Rattle.tb_keep_log.specs.declared.faults.LogStartFault.{LogStartFault}
 use Rattle.tb_keep_log.specs.declared.beginning.NotStarted.{NotStarted}
 use Rattle.tb_keep_log.specs.Dumping.{DumpsLog, HasDumpCause}
-use Rattle.tb_keep_log.specs.Keeping.{Keeping}
+use Rattle.tb_keep_log.specs.declared.checking.Reached.{Reached}
+use Rattle.tb_keep_log.specs.Checking.{ChecksLog}
+use Rattle.tb_keep_log.specs.Keeping.{By, Keeping}
 use Rattle.tb_keep_log.specs.Beginning.{HasStartCause, IsOpened, IsRefused, IsStartRefused, IsStarted, MayBeOpened, MayBeStarted, OpensFile, StartsFile, device_left, why_left}
-use Rattle.tb_keep_log.specs.Rereading.{HasLogCause, IsRestored, StopsReading}
+use Rattle.tb_keep_log.specs.Rereading.{HasLogCause}
 use Rattle.tb_keep_log.specs.Items.{Served, point}
 use Rattle.tb_keep_commands.specs.declared.asides.Reason.{Reason}
 use Rattle.tb_keep_commands.specs.declared.faults.Failed.{Failed}
@@ -49,19 +49,14 @@ abbrev pub dumped_outcome : Result (Unit {0}) DumpLogFault → Outcome
 dumped_outcome (Ok done) = Ok tt
 dumped_outcome (Err fault) = Err (dumped_fault fault)
 
--- a file was read to its end, each record that of the next entry of one log of these rules; or why not
-abbrev pub ReadsLog : Result (Unit {0}) LogStartFault → Rules → List ℕ → Type 0
-ReadsLog (Ok done) rules file = (F : Following) × (extent : Extent) × IsRestored rules.profile rules.clients_max file F extent
-ReadsLog (Err fault) rules file = StopsReading fault rules.profile rules.clients_max file
-
 module _ {D : Type 0} (its : devices.Ghosts D) where
   -- of the file that the reads of a device are of
   abbrev pub OfFile : D → (List ℕ → Type 0) → Type 0
   OfFile device Is = (file : List ℕ) → its.holds device file → Is file
 
-  -- a device was read to the end of its file, as one log, or it is reported why not; the file stays
-  pub record IsReadWhole (read : Result (Unit {0}) LogStartFault) (rules : Rules) (device after : D) : Type 0 where
-    pub found : OfFile device (ReadsLog read rules)
+  -- a device was read to the end of its file, as one log, or a start refuses it; the file stays
+  pub record IsReadWhole (read : Result Reached LogStartFault) (rules : Rules) (device after : D) : Type 0 where
+    pub found : OfFile device (By rules (ChecksLog read))
     pub same : OfFile device (its.holds after)
     pub untouched : its.tells → IsUntouched (its.disk device) (its.disk after)
     pub cause : its.tells → HasLogCause read (its.disk device) (its.disk after)
@@ -81,7 +76,7 @@ module _ {D : Type 0} (its : devices.Ghosts D) where
 
   -- a file was read to its end before a byte of its dump was written: of one that is refused nothing was
   pub record DumpsFile (outcome : Outcome) (rules : Rules) (device after : D) (start written : Output) : Type 0 where
-    pub read : Result (Unit {0}) LogStartFault
+    pub read : Result Reached LogStartFault
     pub between : D
     pub whole : IsReadWhole read rules device between
     pub dumps : MatchResult read (λ done. DumpsRead outcome rules between after start written)
@@ -94,7 +89,7 @@ module _ {D : Type 0} (its : devices.Ghosts D) where
 
   -- a file was read to its end before a byte of a part of its dump was written: of one that is refused nothing was
   pub record DumpsLater (Ended : Type 0) (from : Option ℕ) (follows : Bool) (outcome : Outcome) (rules : Rules) (device after : D) (start written : Output) : Type 0 where
-    pub read : Result (Unit {0}) LogStartFault
+    pub read : Result Reached LogStartFault
     pub between : D
     pub whole : IsReadWhole read rules device between
     pub writes : MatchResult read (λ done. IsWritten Ended from follows outcome rules between after start written)

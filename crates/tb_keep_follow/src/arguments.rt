@@ -14,6 +14,8 @@ pub enum Form {
     /// Write the history of a log as a dump: all of it, or the entries above a commit number, without a head. The flag has more
     /// waited for.
     Dump(Option<u64>, bool),
+    /// Write what is in a log's file.
+    Check,
 }
 
 /// `follow`, by what is given.
@@ -39,6 +41,7 @@ fn log_form(form: tb_keep_commands::Form) -> Option<Form>
 {
     match form {
         tb_keep_commands::Form::Dump(after, follows) => Some(Form::Dump(after, follows)),
+        tb_keep_commands::Form::Check(_) => Some(Form::Check),
         _ => None,
     }
 }

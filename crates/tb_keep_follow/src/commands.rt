@@ -1,9 +1,11 @@
 //! The forms over a log, over what opens devices, any reader and any writer, and the exit status of each outcome.
 ghost use Rattle.std.specs.Prelude.{◌≡◌};
+ghost use Rattle.tb_keep_follow.specs.Checks.{ChecksOver};
 ghost use Rattle.tb_keep_follow.specs.Exits.{ExitsOn, Finishes, PerformsOn};
 ghost use Rattle.tb_keep_follow.specs.Outcomes.{DumpsOver, FollowsOn, FollowsOpenedOn, named_by};
 
 use crate::arguments::Form;
+use crate::checking::check_found;
 use crate::dumping::dump_found;
 use crate::faults::FollowFault;
 use crate::following::follow;
@@ -88,6 +90,27 @@ fn dump_over<O: Opener, W: Outlet>(
     }
 }
 
+/// Writes what is in the device of a path.
+fn check_over<O: Opener, W: Outlet>(
+    alloc: Global,
+    opener: &mut O,
+    path: &str,
+    writer: &mut W,
+) -> Result<(), FollowFault>
+    ensures { ChecksOver O.Reading.Device O.Reading.whole (O.opens opener.old path.now) opener.new result (W.output writer.old) (W.output writer.new) }
+{
+    let found = opener.open(path);
+    match found {
+        Ok(device) => {
+            let mut device = device;
+            let checked = check_found(alloc, &mut device, writer);
+            drop(device);
+            checked
+        }
+        Err(fault) => Err(FollowFault::Kept(KeepCommandFault::Opening(fault))),
+    }
+}
+
 /// Does what the form asks for, over the device of a path.
 fn perform<O: Opener, R: Source, W: Outlet, E: Sink>(
     alloc: Global,
@@ -113,6 +136,7 @@ fn perform<O: Opener, R: Source, W: Outlet, E: Sink>(
         Form::Dump(after, follows) => {
             dump_over(alloc, opener, path, writer, Part { after, follows })
         }
+        Form::Check => check_over(alloc, opener, path, writer),
     }
 }
 

@@ -1,8 +1,6 @@
 //! The history of a log as a dump.
-ghost use Rattle.std.specs.Prelude.{◌≡◌, ℕ, List};
-ghost use Rattle.tb_keep.specs.Creating.{IsUntouched};
-ghost use Rattle.tb_keep_log.specs.Rereading.{HasLogCause};
-ghost use Rattle.tb_keep_follow.specs.Outcomes.{ReadsLog, DumpsReadOn, DumpsFileOn, DumpsLaterOn, DumpsPartOn, DumpsFoundOn, dumped_outcome};
+ghost use Rattle.std.specs.Prelude.{◌≡◌};
+ghost use Rattle.tb_keep_follow.specs.Outcomes.{DumpsReadOn, DumpsFileOn, DumpsLaterOn, DumpsPartOn, DumpsFoundOn, dumped_outcome};
 
 use crate::faults::{FollowFault, dumped_fault, started_fault};
 use crate::heads::find_rules;
@@ -11,24 +9,8 @@ use std::alloc::Global;
 use tb_journal::Device;
 use tb_keep::Rules;
 use tb_keep_commands::{KeepCommandFault, Kind, Opener, Outlet};
-use tb_keep_log::{DumpLogFault, LogStartFault, read_log, write_log_dump};
+use tb_keep_log::{DumpLogFault, check_log, write_log_dump};
 use tb_records::Sink;
-
-/// Reads a whole file, whose records are the entries of one log.
-fn read_whole<D: Device>(alloc: Global, rules: Rules, device: &mut D) -> Result<(), LogStartFault>
-    ensures found { (file : List ℕ) → D.holds device.old file → ReadsLog result rules file }
-    ensures same { (file : List ℕ) → D.holds device.old file → D.holds device.new file }
-    ensures untouched { D.tells → IsUntouched (D.disk device.old) (D.disk device.new) }
-    ensures cause { D.tells → HasLogCause result (D.disk device.old) (D.disk device.new) }
-{
-    match read_log(alloc, alloc, rules, device) {
-        Ok((follower, _)) => {
-            drop(follower);
-            Ok(())
-        }
-        Err(fault) => Err(fault),
-    }
-}
 
 /// What becomes of a dump.
 fn dumped_outcome(dumped: Result<(), DumpLogFault>) -> Result<(), FollowFault>
@@ -62,8 +44,8 @@ fn dump<D: Device, W: Sink>(
     ensures { DumpsFileOn D.Device W.output result rules device.old device.new writer.old writer.new }
 {
     let same = rules;
-    match read_whole(alloc, same, device) {
-        Ok(()) => dump_read(alloc, rules, device, writer),
+    match check_log(alloc, same, device) {
+        Ok(_reached) => dump_read(alloc, rules, device, writer),
         Err(fault) => Err(started_fault(fault)),
     }
 }
@@ -80,8 +62,8 @@ fn dump_later<O: Opener, W: Outlet>(
     ensures { DumpsLaterOn O.Reading.Device W.output (O.ended opener.now) part result rules device.old device.new writer.old writer.new }
 {
     let same = rules;
-    match read_whole(alloc, same, device) {
-        Ok(()) => write_part(alloc, opener, rules, device, writer, part),
+    match check_log(alloc, same, device) {
+        Ok(_reached) => write_part(alloc, opener, rules, device, writer, part),
         Err(why) => Err(started_fault(why)),
     }
 }

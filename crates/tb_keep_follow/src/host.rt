@@ -24,6 +24,7 @@ fn capacities(form: &Form) -> (usize, usize)
     match form {
         Form::Follow(_, _, _) => (INPUT_BYTES, 0),
         Form::Dump(_, _) => (0, OUTPUT_BYTES),
+        Form::Check => (0, 0),
     }
 }
 

@@ -1,5 +1,5 @@
 //! The commands of `tbd` over a log: a follower whose entries are in a file, each with the position and both hashes behind it, before
-//! its replies are written; and the history of such a file as a dump, without positions. Over whatever opens devices, any reader and any
+//! its replies are written; the history of such a file as a dump, without positions; and what is in it. Over whatever opens devices, any reader and any
 //! writer. What a log is asked for as a ledger is, is told apart by the file's first bytes. The words of all other forms are
 //! tb_keep_commands's.
 //!
@@ -10,16 +10,18 @@
 //! - `faults`: why a form ends with an exit status other than 0.
 //! - `lines`: the lines that say so, and from which position a log is wanted.
 //! - `parts`: the entries of a log above a commit number, as it grows.
+//! - `checking`: `check`, what is in a log's file.
 //! - `dumping`: `dump`, a file read to its end and then written as a dump, or a part of it.
 //! - `following`: `follow`, a log kept over a file.
 //! - `commands`: `command`, each form, and the exit status of each outcome.
 //! - `host`: `serve`, from a program's input and output to `command`, and `serve_words`, which has the forms over a ledger too.
 //!
-//! specs/Forms is which words ask for what, specs/Heads whose log a file is, specs/Outcomes and specs/Parts what each form does, specs/Exits
+//! specs/Forms is which words ask for what, specs/Heads whose log a file is, specs/Outcomes, specs/Parts and specs/Checks what each form does, specs/Exits
 //! how it ends, specs/Faults the exit status and the line of each fault, specs/Hosts what `serve` does.
 #![tactic(auto)]
 
 mod arguments;
+mod checking;
 mod commands;
 mod dumping;
 mod faults;
@@ -30,6 +32,7 @@ mod lines;
 mod parts;
 
 pub use arguments::{Form, read_form, read_log_form};
+pub use checking::LogSummary;
 pub use commands::command;
 pub use faults::FollowFault;
 pub use heads::{FIRST_BYTES, Looker};

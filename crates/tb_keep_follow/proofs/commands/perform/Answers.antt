@@ -4,5 +4,8 @@ use Rattle.tb_keep_follow.proofs.commands.perform.Goals as goal
 pub returns-in-Follow : goal.returns-in-Follow
 returns-in-Follow g c = rw c.in-Follow.is c.follow_over.ensures
 
+pub returns-in-Check : goal.returns-in-Check
+returns-in-Check g c = rw c.in-Check.is (refl, refl, c.check_over.ensures)
+
 pub returns-in-Dump : goal.returns-in-Dump
 returns-in-Dump g c = rw c.in-Dump.is (refl, refl, c.dump_over.ensures)

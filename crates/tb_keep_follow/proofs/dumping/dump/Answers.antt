@@ -3,8 +3,8 @@ use Rattle.tb_keep_follow.proofs.dumping.dump.Goals as goal
 
 pub returns-in-Ok : goal.returns-in-Ok
 returns-in-Ok g c = record {
-  read = Ok tt;
-  between = c.read_whole.new.device;
+  read = Ok c.in-Ok._reached;
+  between = c.check_log.new.device;
   whole = record { found = c.in-Ok.ensures.found; same = c.in-Ok.ensures.same; untouched = c.in-Ok.ensures.untouched; cause = c.in-Ok.ensures.cause };
   dumps = c.dump_read.ensures;
 }
@@ -12,7 +12,7 @@ returns-in-Ok g c = record {
 pub returns-in-Err : goal.returns-in-Err
 returns-in-Err g c = record {
   read = Err c.in-Err.fault;
-  between = c.read_whole.new.device;
+  between = c.check_log.new.device;
   whole = record { found = c.in-Err.ensures.found; same = c.in-Err.ensures.same; untouched = c.in-Err.ensures.untouched; cause = c.in-Err.ensures.cause };
   dumps = (rw c.started_fault.ensures refl, refl, refl);
 }

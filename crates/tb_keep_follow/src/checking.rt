@@ -1,0 +1,128 @@
+//! What is in a log's file.
+ghost use Rattle.std.specs.Prelude.{◌≡◌};
+ghost use Rattle.tb_keep_commands.specs.Outcomes.{PrintsText};
+ghost use Rattle.tb_keep_follow.specs.Checks.{ChecksFileOn, ChecksFoundOn, ChecksLongOn, log_summary_of, log_summary_text, printed_outcome};
+
+use crate::faults::{FollowFault, started_fault};
+use crate::heads::find_rules;
+use std::alloc::Global;
+use std::{fmt, format};
+use tb_journal::Device;
+use tb_keep::Rules;
+use tb_keep_commands::{Failed, KeepCommandFault, Kind, Live, Summary, disk_fault};
+use tb_keep_log::{Reached, check_log};
+use tb_records::{Sink, put_all};
+
+/// What is in a log's file.
+#[derive(Clone, Copy)]
+pub struct LogSummary {
+    /// What there is to say of each file. It has a record for each entry of the log, and no other.
+    pub summary: Summary,
+    /// The position of the last entry.
+    pub position: u64,
+}
+
+impl LogSummary {
+    /// What is in a file of these rules and of so many bytes that was read to its end.
+    fn of(rules: Rules, reached: Reached, len: usize) -> LogSummary
+        ensures { result ≡ log_summary_of rules reached len }
+    {
+        LogSummary {
+            summary: Summary {
+                rules,
+                records: reached.extent.count,
+                entries: reached.commit,
+                time: reached.time,
+                replayed: true,
+                behind: len.saturating_sub(reached.extent.end).saturating_sub(4),
+            },
+            position: reached.position,
+        }
+    }
+}
+
+impl fmt::Display for LogSummary {
+    ghost use Rattle.std.specs.Prelude.{Some};
+    ghost use Rattle.tb_keep_follow.specs.Checks.{log_summary_text};
+
+    ghost output = { λ summary. Some (log_summary_text summary) };
+
+    fn fmt<W: fmt::Write>(&self, f: &mut fmt::Formatter<W>) -> fmt::Result {
+        write!(f, "{}position {}\n", self.summary, self.position)
+    }
+}
+
+/// Writes what is in a file.
+fn report<W: Sink>(
+    alloc: Global,
+    summary: LogSummary,
+    writer: &mut W,
+) -> Result<(), KeepCommandFault>
+    ensures { PrintsText (log_summary_text summary) result (W.output writer.old) (W.output writer.new) }
+{
+    match format!(in alloc; "{summary}") {
+        Ok(text) => match put_all(writer, text.as_bytes()) {
+            Ok(()) => Ok(()),
+            Err(_) => Err(KeepCommandFault::Device(Failed::Output)),
+        },
+        Err(_) => Err(KeepCommandFault::NoMemory),
+    }
+}
+
+/// What becomes of a check.
+fn printed_outcome(printed: Result<(), KeepCommandFault>) -> Result<(), FollowFault>
+    ensures { result ≡ printed_outcome printed }
+{
+    match printed {
+        Ok(()) => Ok(()),
+        Err(fault) => Err(FollowFault::Kept(fault)),
+    }
+}
+
+/// Reads a whole log's file of so many bytes, and writes what is in it.
+fn check_long<D: Device, W: Sink>(
+    alloc: Global,
+    rules: Rules,
+    device: &mut D,
+    len: usize,
+    writer: &mut W,
+) -> Result<(), FollowFault>
+    ensures { ChecksLongOn D.Device W.output len result rules device.old device.new writer.old writer.new }
+{
+    let same = rules;
+    match check_log(alloc, same, device) {
+        Ok(reached) => {
+            printed_outcome(report(alloc, LogSummary::of(rules, reached, len), writer))
+        }
+        Err(fault) => Err(started_fault(fault)),
+    }
+}
+
+/// Reads a whole log's file, and writes what is in it, and how many bytes are behind that in the file by now.
+fn check_file<D: Live, W: Sink>(
+    alloc: Global,
+    rules: Rules,
+    device: &mut D,
+    writer: &mut W,
+) -> Result<(), FollowFault>
+    ensures { ChecksFileOn D.Device W.output D.whole result rules device.old device.new writer.old writer.new }
+{
+    match device.file_len() {
+        Ok(len) => check_long(alloc, rules, device, len, writer),
+        Err(fault) => Err(FollowFault::Kept(disk_fault(fault))),
+    }
+}
+
+/// The same of a log whose rules are those that its first bytes name.
+pub(crate) fn check_found<D: Live, W: Sink>(
+    alloc: Global,
+    device: &mut D,
+    writer: &mut W,
+) -> Result<(), FollowFault>
+    ensures { ChecksFoundOn D.Device W.output D.whole result device.old device.new writer.old writer.new }
+{
+    match find_rules(device) {
+        Some(rules) => check_file(alloc, rules, device, writer),
+        None => Err(FollowFault::Kept(KeepCommandFault::NotAJournal(Kind::Other))),
+    }
+}

@@ -1,0 +1,199 @@
+"""`tbd check` of a log's file, whose bytes the test writes itself: blocks and records as
+docs/use/TBD.md and FORMATS.md have them, the position and hashes behind each entry by `tb_follow`,
+which has no file. What `tbd follow` refuses is refused by the forms that read, with the same line.
+
+    python3 -m pytest -m quick tests/files/test_log_files.py
+"""
+
+import hashlib
+import struct
+import subprocess
+from dataclasses import dataclass
+
+import pytest
+from tb_client import HEADER, Account, Operation, Transfer, reply_length, request_frame
+from tb_host.checksums import crc32c
+
+from .test_damage import CHECKSUM, LATCH, LENGTH, MAGIC
+
+OPEN, CLOSED = b"\xff" * 4, bytes([90, 195, 150, 105])
+FIXED = LATCH + LENGTH + CHECKSUM
+MARK, STANDING = 6, 73  # bytes of a record before the pairs: the rules, and what a question answers
+QUESTION = b"\2"
+CLIENTS, PROFILE, ENTRIES = 8, 1, 6
+LAST_TIME = 200  # of the last request
+TORN_MAX = (1 << 24) + 11
+SECONDS = 60
+pytestmark = pytest.mark.quick
+
+
+def pair(moment, session, number, operation, body=b""):
+    return struct.pack("<Q", moment) + request_frame(7, session, number, operation, body)
+
+
+def moved(number):
+    """The pair of one transfer."""
+    body = Transfer(number, 1, 2, number, ledger=700, code=10).to_bytes()
+    return pair(LAST_TIME, 1, number, Operation.create_transfers, body)
+
+
+def contents():
+    """The pairs of each entry: a session and two accounts; then the last request again, and two
+    transfers."""
+    accounts = b"".join(Account(id=it, ledger=700, code=10).to_bytes() for it in (1, 2))
+    last = pair(10, 1, 1, Operation.create_accounts, accounts)
+    yield pair(10, 0, 0, Operation.register) + last
+    for entry in range(1, ENTRIES):
+        new = [moved(2 * entry), moved(2 * entry + 1)]
+        yield last + b"".join(new)
+        last = new[-1]
+
+
+def commits(entries):
+    """How many requests of the first entries are executed: no request twice."""
+    return 2 * entries
+
+
+def item(position, pairs):
+    """An entry as it is written to a follower."""
+    numbers = struct.pack("<QI", position, len(pairs))
+    return b"\1" + numbers + struct.pack("<I", crc32c(numbers + pairs)) + pairs
+
+
+def block(record):
+    size = struct.pack("<I", len(record))[:LENGTH]
+    return OPEN + size + struct.pack("<I", crc32c(size + record)) + record
+
+
+def file_of(records):
+    return MAGIC + b"".join(map(block, records)) + CLOSED
+
+
+@dataclass
+class Log:
+    """What the log is made of: its items, and the record of each entry."""
+
+    items: list
+    records: list
+
+    def file(self, entries=None):
+        return file_of(self.records[:entries])
+
+    def at(self, entry):
+        """Where the block of an entry begins, counted from 0."""
+        return len(self.file(entry)) - LATCH
+
+
+@pytest.fixture(scope="module", name="log")
+def fixture_log(program):
+    words, pairs = [program("tb_follow"), str(CLIENTS)], list(contents())
+    items = [item(place + 1, it) for place, it in enumerate(pairs)]
+    records, chain = [], bytes(32)
+    for place, it in enumerate(pairs):
+        given = b"".join(items[: place + 1]) + QUESTION
+        done = subprocess.run(words, input=given, capture_output=True, timeout=SECONDS, check=True)
+        standing = done.stdout[-STANDING:]
+        chain = hashlib.sha256(chain + it).digest()
+        assert standing[: 9 + 32] == b"\2" + struct.pack("<Q", place + 1) + chain
+        records.append(b"TBF1" + bytes([PROFILE, CLIENTS]) + standing + it)
+    return Log(items, records)
+
+
+@dataclass
+class Ran:
+    status: int
+    out: str
+    err: str
+
+
+@pytest.fixture(name="run")
+def fixture_run(tbd, tmp_path):
+    """Runs a form over a file of these bytes, which stay but for what `follow` does."""
+
+    def run(form, data):
+        path = tmp_path / "log"
+        path.write_bytes(data)
+        words = [tbd, form, path, *([str(CLIENTS)] if form == "follow" else [])]
+        done = subprocess.run(words, input=b"", capture_output=True, timeout=SECONDS, check=False)
+        assert form == "follow" or path.read_bytes() == data
+        return Ran(done.returncode, done.stdout.decode("latin-1"), done.stderr.decode())
+
+    return run
+
+
+def test_the_bytes_are_those_that_follow_writes(tbd, tmp_path, log):
+    path = tmp_path / "log"
+    words = [tbd, "follow", path, str(CLIENTS)]
+    subprocess.run(words, input=b"".join(log.items), capture_output=True, check=True)
+    assert path.read_bytes() == log.file()
+
+
+@pytest.mark.parametrize("entries", [1, ENTRIES])
+@pytest.mark.parametrize("torn", [b"", b"torn"])
+def test_check(run, log, entries, torn):
+    done = run("check", log.file(entries) + torn)
+    # each event has a nanosecond of its own, from the moment of its request on
+    time = 10 + 2 if entries == 1 else LAST_TIME + 2 * (entries - 1) - 1
+    what = ", not committed yet or torn" if torn else ""
+    assert (done.status, done.err) == (0, "")
+    assert done.out == (
+        f"records {entries}\nentries {commits(entries)}\nprofile {PROFILE}\nclients_max {CLIENTS}\n"
+        f"last time {time}\nbytes behind {len(torn)}{what}\nposition {entries}\n"
+    )
+
+
+def put(data, at, values):
+    return data[:at] + values + data[at + len(values) :]
+
+
+def other_hashes(log):
+    """A log whose fourth record is whole, and has another hash of the replies."""
+    records = list(log.records)
+    records[3] = put(records[3], MARK + STANDING - 1, bytes([records[3][MARK + STANDING - 1] ^ 1]))
+    return file_of(records)
+
+
+DAMAGED = {
+    "checksum": lambda log: put(log.file(), log.at(3) + LATCH + LENGTH, b"\0\0\0\1"),
+    "length": lambda log: put(log.file(), log.at(3) + LATCH, b"\0\0\0"),
+    "pairs": lambda log: put(log.file(), log.at(3) + FIXED + 100, b"\xee" * 9),
+    "cut": lambda log: log.file()[: log.at(3) + FIXED + 5],
+    "hashes": other_hashes,
+    "gone": lambda log: file_of(log.records[:3] + log.records[4:]),
+    "mark": lambda log: file_of([*log.records[:3], b"TBX1" * 30]),
+    "ledger": lambda log: file_of([*log.records[:3], b"TBK1\1\x08"]),
+}
+
+
+@pytest.mark.parametrize("kind", DAMAGED)
+def test_a_damaged_log(run, log, kind):
+    data = DAMAGED[kind](log)
+    verdicts = [run(form, data) for form in ("follow", "check", "dump")]
+    assert {done.status for done in verdicts} == {5 if kind == "ledger" else 6}
+    assert {done.out for done in verdicts} == {""}
+    assert len({done.err for done in verdicts}) == 1 and verdicts[0].err.startswith("tbd: ")
+
+
+def test_too_many_torn_bytes_are_refused(run, log):
+    few, many = log.file() + bytes(TORN_MAX), log.file() + bytes(TORN_MAX + 1)
+    assert run("check", few).status == 0
+    for form in ("follow", "check", "dump"):
+        done = run(form, many)
+        assert (done.status, done.out) == (6, ""), form
+        assert f"{TORN_MAX + 1} bytes" in done.err
+
+
+def test_a_log_that_is_served(tbd, tmp_path, log):
+    path = tmp_path / "log"
+    words = [tbd, "follow", path, str(CLIENTS)]
+    with subprocess.Popen(words, stdin=subprocess.PIPE, stdout=subprocess.PIPE) as served:
+        served.stdin.write(b"".join(log.items[:4]) + QUESTION)
+        served.stdin.flush()
+        while served.stdout.read(1) != QUESTION:
+            served.stdout.read(8 + 4)
+            served.stdout.read(reply_length(served.stdout.read(HEADER)) - HEADER)
+        done = subprocess.run([tbd, "check", path], capture_output=True, check=True)
+        assert done.stdout.endswith(b"position 4\n")
+        served.stdin.close()
+        served.stdout.read()
+    assert served.returncode == 0
