@@ -23,7 +23,7 @@ sent_by_owner : (id : ℕ) (sent : List Message) (count : ℕ) (offered : ℕ �
 sent_by_owner id sent count offered r offers owner =
     subst (λ (m : Message). m.client ≡ id → IsAmong m sent) owner.offers.2 (offers owner.port owner.made owner.offers.0 r owner.offers.1)
 
-none_invented : (id : ℕ) (sent : List Message) (count : ℕ) (offered : ℕ → List Message) (before h : List Entry)
+pub none_invented : (id : ℕ) (sent : List Message) (count : ℕ) (offered : ℕ → List Message) (before h : List Entry)
     → GrowsByOffers count offered before h → NoneInvented id sent before → OffersSent id sent count offered → NoneInvented id sent h
 none_invented id sent count offered before h grows none offers =
     subst (NoneInvented id sent) (sym grows.grown)

@@ -8,6 +8,7 @@ use Rattle.tb_machine.specs.declared.entries.Entry.{Entry}
 use Rattle.tb_published.specs.Openings.{Opening, LegalIn}
 use Rattle.tb_published.proofs.Prefixes.{prefix_trans, prefix_whole, prefix_length}
 use Rattle.tb_storm.specs.declared.totals.Totals.{Totals}
+use Rattle.tb_storm.specs.Calls.{IsPlayed}
 use Rattle.tb_storm.specs.Totals.{ids_of, AreTotals}
 use Rattle.tb_storm.specs.private.Found.{replies_of, transfers_after, credited_after, Totaled, TotaledIn}
 
@@ -34,10 +35,10 @@ totaled o clients transfers counted summed history totals legal p q same commits
     }
 
 pub in_one : (o : Opening) (clients transfers : ℕ) (history : List Entry) (totals : Totals)
-    → Totaled o clients transfers history totals → replies_of clients transfers ≤ totals.commits → TotaledIn o clients transfers totals
-in_one o clients transfers history totals t enough = record { history = history; whole = t; enough = enough }
+    → Totaled o clients transfers history totals → replies_of clients transfers ≤ totals.commits → IsPlayed o clients transfers history → TotaledIn o clients transfers totals
+in_one o clients transfers history totals t enough is = record { history = history; whole = t; enough = enough; played = is }
 
 pub are_totals : (o : Opening) (clients transfers : ℕ) (totals : Totals) → o.profile ≡ profile.One → o.clients_max ≡ CLIENTS_MAX
     → TotaledIn o clients transfers totals → AreTotals clients transfers totals
 are_totals o clients transfers totals first most t =
-    (o, t.history, first, most, t.whole.legal, t.whole.commits, t.enough, t.whole.found, t.whole.credited)
+    (o, t.history, first, most, t.whole.legal, t.played, t.whole.commits, t.enough, t.whole.found, t.whole.credited)

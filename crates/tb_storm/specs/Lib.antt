@@ -1,3 +1,4 @@
+pub mod Calls
 pub mod Totals
 pub mod Storms
 pub mod private

@@ -8,6 +8,7 @@ use Rattle.tb_ledger.specs.Books.{found_accounts, found_transfers}
 use Rattle.tb_machine.specs.declared.entries.Entry.{Entry}
 use Rattle.tb_published.specs.Openings.{Opening, LegalIn, after_in}
 use Rattle.tb_storm.specs.declared.totals.Totals.{Totals}
+use Rattle.tb_storm.specs.Calls.{IsPlayed}
 
 -- these ids, and those of a client's first transfers, so many
 abbrev pub with_ids_of : List ℕ → ℕ → ℕ → List ℕ
@@ -24,10 +25,11 @@ abbrev pub first_credits : List Account → ℕ
 first_credits [] = 0
 first_credits (account ∷ accounts) = account.credits_posted
 
--- Totals of a legal history by profile 1 that is open to as many clients as can be: the number of its entries, how many of the storm's transfers are
--- found after it, and what account 1000 was credited with. It has as many entries as the clients saw replies, or more: each one to its
--- register and to each of its transfers, and the first client one to its register and one to the accounts.
+-- Totals of the history of a storm, which is legal by profile 1 and open to as many clients as can be: the number of its entries, how many
+-- of the storm's transfers are found after it, and what account 1000 was credited with. It holds each call of each client once, in the entry
+-- that gave the reply which the client took, and nothing else; so it has an entry for each reply.
 abbrev pub AreTotals : ℕ → ℕ → Totals → Type 0
 AreTotals clients transfers totals = (o : Opening) × (h : List Entry) × (o.profile ≡ profile.One) × (o.clients_max ≡ CLIENTS_MAX) × LegalIn o h
+    × IsPlayed o clients transfers h
     × (totals.commits ≡ length h) × (clients * (transfers + 1) + 2 ≤ totals.commits) × (totals.transfers ≡ length (found_transfers (after_in o h).books (ids_of clients transfers)))
     × (totals.credited ≡ first_credits (found_accounts (after_in o h).books (1000 ∷ [])))

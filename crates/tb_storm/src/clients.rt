@@ -1,14 +1,21 @@
-//! The clients of a storm.
-ghost use Rattle.std.specs.Prelude.{◌≡◌, ◌≤◌, ◌+◌, OnOk};
-ghost use Rattle.tb_storm.specs.private.Clients.{offers, repeats_at};
+//! The clients of a storm: each is a `Caller` of tb_caller, with a port and a seat of its own.
+ghost use Rattle.std.specs.Prelude.{◌≡◌, ◌<◌, ◌≤◌, ◌+◌, [], Some, None, IfOk, OnOk};
+ghost use Rattle.tb_records.specs.Messages.{asked};
+ghost use Rattle.tb_caller.specs.declared.callers.Heard.TheVariants as hearing;
+ghost use Rattle.tb_storm.specs.declared.faults.StormFault.TheVariants.{GaveUp};
+ghost use Rattle.tb_storm.specs.Calls.{accounts_call, transfer_call};
+ghost use Rattle.tb_storm.specs.private.Clients.{GoesOn, Hears, IsNew, Plays, Repeats, Returns, offers, repeat_count, repeats_at};
+ghost use Rattle.tb_storm.specs.private.Playing.{IsClosed};
 
+use crate::calls::{create_accounts, create_transfer};
 use crate::faults::StormFault;
-use crate::scale::id_of;
+use crate::network::Line;
 use crate::stage::Stage;
 use std::alloc::Global;
 use std::sync::Wait;
+use tb_caller::{Caller, Heard};
 use tb_published::{Naming, Seat};
-use tb_records::{Account, Body, Items, Request, Status, Transfer};
+use tb_records::{Body, Request};
 use tb_service::Port;
 
 /// How often a call looks for its reply.
@@ -17,113 +24,65 @@ const LOOKS_PER_CALL: u32 = 1_000_000;
 /// How often a request is called.
 const CALLS_MAX: u32 = 100;
 
-/// The account that all transfers credit.
-const BANK: u128 = 1000;
-
-/// An account in ledger 700.
-fn account(id: u128) -> Account {
-    Account {
-        id,
-        ledger: 700,
-        code: 10,
-        ..Account::default()
-    }
-}
-
-/// A client's kth transfer, of the amount k.
-fn transfer(client: u32, k: u32) -> Transfer {
-    Transfer {
-        id: id_of(client, k),
-        debit_account_id: u128::from(client),
-        credit_account_id: BANK,
-        amount: u128::from(k),
-        ledger: 700,
-        code: 10,
-        ..Transfer::default()
-    }
-}
-
-/// A client: its port, until that is closed, its seat, and the fault with which it ended.
+/// A client: its session, its port, its seat, and the fault with which it ended.
 #[derive(Drop)]
 pub(crate) struct Client<J: Naming> {
     number: u32,
-    port: Option<Port>,
+    caller: Caller,
+    pub line: Line,
     pub seat: Seat<J>,
     alloc: Global,
     pub fault: Option<StormFault>,
 }
 
 impl<J: Naming> Client<J> {
-    /// The client with a number, with one of the ports and one of the seats.
-    pub fn new(
-        alloc: Global,
-        number: u32,
-        ports: &mut Vec<Port>,
-        seats: &mut Vec<Seat<J>>,
-    ) -> Result<Client<J>, StormFault> {
-        let port = ports.pop();
-        let Some(seat) = seats.pop() else {
-            drop(port);
-            return Err(StormFault::NoPlace);
-        };
-        Ok(Client {
+    /// The client with a number, with a port and a seat.
+    pub fn new(alloc: Global, number: u32, port: Port, seat: Seat<J>) -> Client<J>
+        ensures { port.offered ≡ [] → IsNew port.service port.number number result }
+    {
+        Client {
             number,
-            port,
+            caller: Caller::new(u128::from(number)),
+            line: Line::Open(port),
             seat,
             alloc,
             fault: None,
-        })
+        }
     }
 
     /// Closes the port.
-    pub fn close<R: Wait>(&mut self, rt: &R) {
-        if let Some(port) = self.port.take() {
-            drop(port.close(rt));
-        }
-    }
-
-    /// A request of this client.
-    fn request(&self, session: u64, number: u32, body: Body) -> Result<Request, StormFault> {
-        match Request::new(u128::from(self.number), session, number, body) {
-            Ok(request) => Ok(request),
-            Err(_) => Err(StormFault::GaveUp),
-        }
-    }
-
-    /// The request that creates its kth transfer.
-    fn transfer_request(&self, session: u64, k: u32) -> Result<Request, StormFault> {
-        let transfers = Vec::from_slice(self.alloc, &[transfer(self.number, k)])?;
-        self.request(session, k, Body::CreateTransfers(Items::new(transfers)))
-    }
-
-    /// Calls once: the session of the reply, None where there is none yet.
-    fn call<R: Wait>(&mut self, rt: &R, request: &Request) -> Result<Option<u64>, StormFault>
-        ensures { offers self.old.port ≤ offers self.new.port }
+    pub fn close<R: Wait>(&mut self, rt: &R)
+        ensures { IsClosed self.old self.new }
     {
-        let Some(port) = &mut self.port else {
+        self.line.close(rt);
+    }
+
+    /// Asks for the reply to the request that waits, and sends it, where the server does not have it yet.
+    fn ask<R: Wait>(&mut self, rt: &R) -> Result<Heard, StormFault>
+        ensures { IfOk result (λ heard. Hears J.opening heard self.old self.new) }
+    {
+        let Line::Open(port) = &mut self.line else {
             return Err(StormFault::NoPlace);
         };
-        let reply = port.call(rt, &mut self.seat, request, LOOKS_PER_CALL)?;
-        let session = match reply.status() {
-            Status::Reply => Some(reply.session()),
-            _ => None,
+        let Some(request) = self.caller.request() else {
+            return Err(StormFault::GaveUp);
         };
+        let reply = port.call(rt, &mut self.seat, request, LOOKS_PER_CALL)?;
+        let heard = self.caller.take_reply(&reply);
         drop(reply);
-        Ok(session)
+        Ok(heard)
     }
 
-    /// Calls until there is a reply, and answers its session; gives up where the server has ended.
-    fn call_on<R: Wait>(
-        &mut self,
-        rt: &R,
-        stage: &Stage,
-        request: &Request,
-    ) -> Result<u64, StormFault>
-        ensures { offers self.old.port ≤ offers self.new.port }
+    /// Asks until the request that waits has its reply; gives up where its session or the server has ended.
+    fn settle<R: Wait>(&mut self, rt: &R, stage: &Stage) -> Result<(), StormFault>
+        ensures { OnOk result (Hears J.opening hearing.Returned self.old self.new) }
     {
         for _ in 0..CALLS_MAX {
-            if let Some(session) = self.call(rt, request)? {
-                return Ok(session);
+            match self.ask(rt)? {
+                Heard::Returned => return Ok(()),
+                Heard::Ended => return Err(StormFault::GaveUp),
+                Heard::Refused => {}
+                Heard::Other => {}
             }
             if stage.is_over() {
                 break;
@@ -132,138 +91,133 @@ impl<J: Naming> Client<J> {
         Err(StormFault::GaveUp)
     }
 
-    /// Sees a request through to its reply, and answers the session of that.
-    fn settle<R: Wait>(
-        &mut self,
-        rt: &R,
-        stage: &Stage,
-        request: Request,
-    ) -> Result<u64, StormFault>
-        ensures { offers self.old.port ≤ offers self.new.port }
+    /// Makes a call, and sees it through to its reply.
+    fn call<R: Wait>(&mut self, rt: &R, stage: &Stage, body: Body) -> Result<(), StormFault>
+        ensures { OnOk result (Returns J.opening body self.old self.new) }
     {
-        let session = self.call_on(rt, stage, &request);
-        drop(request);
-        session
-    }
-
-    /// Registers, and answers the session.
-    fn register<R: Wait>(&mut self, rt: &R, stage: &Stage) -> Result<u64, StormFault>
-        ensures { offers self.old.port ≤ offers self.new.port }
-    {
-        let request = self.request(0, 0, Body::Register)?;
-        self.settle(rt, stage, request)
-    }
-
-    /// The accounts of so many clients, and the one that all transfers credit.
-    fn accounts(&self, clients: u32) -> Result<Vec<Account>, StormFault> {
-        let mut accounts = Vec::new(self.alloc);
-        for id in 1..=clients {
-            accounts.push(account(u128::from(id)))?;
+        if self.caller.make_request(body).is_err() {
+            return Err(StormFault::GaveUp);
         }
-        accounts.push(account(BANK))?;
-        Ok(accounts)
+        self.settle(rt, stage)
     }
 
-    /// Creates an account for each client, and the one that all transfers credit.
-    fn create_all_accounts<R: Wait>(
+    /// Registers, and creates an account for each of so many clients, and the one that all transfers credit.
+    fn make_accounts<R: Wait>(
         &mut self,
         rt: &R,
         stage: &Stage,
         clients: u32,
-    ) -> Result<(), StormFault> {
-        let session = match self.register(rt, stage) {
-            Ok(session) => session,
-            Err(fault) => return Err(fault),
-        };
-        let accounts = match self.accounts(clients) {
-            Ok(accounts) => accounts,
-            Err(fault) => return Err(fault),
-        };
-        let body = Body::CreateAccounts(Items::new(accounts));
-        let request = match self.request(session, 1, body) {
-            Ok(request) => request,
-            Err(fault) => return Err(fault),
-        };
-        match self.settle(rt, stage, request) {
-            Ok(_) => Ok(()),
-            Err(fault) => Err(fault),
+    ) -> Result<(), StormFault>
+        ensures { OnOk result (Plays J.opening (accounts_call clients) 1 self.old self.new) }
+    {
+        if let Err(fault) = self.call(rt, stage, Body::Register) {
+            return Err(fault);
         }
+        let body = create_accounts(self.alloc, clients)?;
+        self.call(rt, stage, body)
     }
 
     /// Creates the accounts of so many clients.
-    pub fn create_accounts<R: Wait>(&mut self, rt: &R, stage: &Stage, clients: u32) {
-        self.fault = self.create_all_accounts(rt, stage, clients).err();
+    pub fn create_accounts<R: Wait>(&mut self, rt: &R, stage: &Stage, clients: u32)
+        ensures { self.new.fault ≡ None → Plays J.opening (accounts_call clients) 1 self.old self.new }
+    {
+        self.fault = self.make_accounts(rt, stage, clients).err();
     }
 
-    /// Offers the request of its kth transfer again. Where it comes back, the server has ended: it gives up.
-    fn repeat<R: Wait>(&mut self, rt: &R, session: u64, k: u32) -> Result<(), StormFault>
-        ensures { OnOk result (offers self.new.port ≡ offers self.old.port + 1) }
+    /// The request of its kth transfer, as it was sent.
+    fn sent(&self, k: u32) -> Result<Request, StormFault>
+        ensures { IfOk result
+            (λ request.
+            request ≡ asked self.now.number self.now.caller.session k (transfer_call self.now.number k)) }
     {
-        let request = self.transfer_request(session, k)?;
-        let Some(port) = &mut self.port else {
-            drop(request);
-            return Err(StormFault::NoPlace);
-        };
-        match port.offer(rt, request) {
-            Ok(()) => Ok(()),
-            Err(back) => {
-                drop(back);
-                Err(StormFault::GaveUp)
-            }
+        let body = create_transfer(self.alloc, self.number, k)?;
+        match Request::new(u128::from(self.number), self.caller.session(), k, body) {
+            Ok(request) => Ok(request),
+            Err(_) => Err(StormFault::GaveUp),
         }
     }
 
-    /// Creates its kth transfer, and offers requests again that were answered: this one, and behind each third one also that of
-    /// the transfer two before it.
-    fn create_one<R: Wait>(
-        &mut self,
-        rt: &R,
-        stage: &Stage,
-        session: u64,
-        k: u32,
-    ) -> Result<(), StormFault>
+    /// The network delivers requests again that were answered: that of the kth transfer, and behind each third one also that of the
+    /// transfer two before it.
+    fn repeat<R: Wait>(&mut self, rt: &R, k: u32) -> Result<(), StormFault>
         requires { 1 ≤ k }
-        ensures { OnOk result (offers self.old.port + repeats_at k ≤ offers self.new.port) }
+        ensures repeats { OnOk result
+            (Repeats (repeats_at self.old.number self.old.caller.session k) self.old self.new) }
+        ensures count { OnOk result (offers self.new.line ≡ offers self.old.line + repeat_count k) }
     {
-        let request = match self.transfer_request(session, k) {
-            Ok(request) => request,
-            Err(fault) => return Err(fault),
-        };
-        if let Err(fault) = self.settle(rt, stage, request) {
-            return Err(fault);
-        }
-        if let Err(fault) = self.repeat(rt, session, k) {
+        let request = self.sent(k)?;
+        if let Err(fault) = self.line.deliver(rt, request) {
             return Err(fault);
         }
         if k % 3 != 0 {
             return Ok(());
         }
-        self.repeat(rt, session, k - 2)
+        let request = self.sent(k - 2)?;
+        self.line.deliver(rt, request)
     }
 
-    /// Creates so many transfers, and offers requests again that were answered.
-    fn create<R: Wait>(&mut self, rt: &R, stage: &Stage, transfers: u32) -> Result<(), StormFault>
-        ensures { OnOk result (offers self.old.port + transfers ≤ offers self.new.port) }
+    /// Creates its next transfer, behind so many, and the network delivers it again.
+    fn create_one<R: Wait>(&mut self, rt: &R, stage: &Stage, done: u32) -> Result<(), StormFault>
+        requires { done < 1000 }
+        ensures on { OnOk result (GoesOn J.opening done (done + 1) self.old self.new) }
+        ensures repeats { OnOk result
+            (offers self.old.line + repeat_count (done + 1) ≤ offers self.new.line) }
     {
-        let session = match self.register(rt, stage) {
-            Ok(session) => session,
-            Err(fault) => return Err(fault),
-        };
+        let body = create_transfer(self.alloc, self.number, done + 1)?;
+        if let Err(fault) = self.call(rt, stage, body) {
+            return Err(fault);
+        }
+        self.repeat(rt, done + 1)
+    }
+
+    /// Creates so many transfers, and the network delivers each again.
+    fn create_all<R: Wait>(
+        &mut self,
+        rt: &R,
+        stage: &Stage,
+        transfers: u32,
+    ) -> Result<(), StormFault>
+        requires { transfers ≤ 1000 }
+        ensures on { OnOk result (GoesOn J.opening 0 transfers self.old self.new) }
+        ensures repeats { OnOk result (offers self.old.line + transfers ≤ offers self.new.line) }
+    {
         for done in 0..transfers {
-            if let Err(fault) = self.create_one(rt, stage, session, done + 1) {
+            if let Err(fault) = self.create_one(rt, stage, done) {
                 return Err(fault);
             }
         }
         Ok(())
     }
 
+    /// Registers, and creates so many transfers.
+    fn make_transfers<R: Wait>(
+        &mut self,
+        rt: &R,
+        stage: &Stage,
+        transfers: u32,
+    ) -> Result<(), StormFault>
+        requires { transfers ≤ 1000 }
+        ensures plays { OnOk result (Plays J.opening (transfer_call self.old.number) transfers self.old self.new) }
+        ensures repeats { OnOk result (offers self.old.line + transfers ≤ offers self.new.line) }
+    {
+        if let Err(fault) = self.call(rt, stage, Body::Register) {
+            return Err(fault);
+        }
+        self.create_all(rt, stage, transfers)
+    }
+
     /// Creates so many transfers.
-    pub fn create_transfers<R: Wait>(&mut self, rt: &R, stage: &Stage, transfers: u32) {
-        self.fault = self.create(rt, stage, transfers).err();
+    pub fn create_transfers<R: Wait>(&mut self, rt: &R, stage: &Stage, transfers: u32)
+        requires { transfers ≤ 1000 }
+        ensures { self.new.fault ≡ None → Plays J.opening (transfer_call self.old.number) transfers self.old self.new }
+    {
+        self.fault = self.make_transfers(rt, stage, transfers).err();
     }
 
     /// Gives up before any call.
-    pub fn give_up(&mut self) {
+    pub fn give_up(&mut self)
+        ensures { self.new.fault ≡ Some GaveUp }
+    {
         self.fault = Some(StormFault::GaveUp);
     }
 }

@@ -6,14 +6,20 @@
 //! - `stage`: what the server's thread reports to the clients: it has begun, it has ended.
 //! - `totals`: what a storm leaves, and its lines.
 //! - `faults`: why a storm does not end well.
-//! - `clients`: a client's thread: it registers, creates, and repeats what was answered.
+//! - `calls`: what the clients call.
+//! - `network`: what carries their requests, and delivers some again that were answered.
+//! - `clients`: a client's thread: a `Caller` of tb_caller, which registers and creates.
+//! - `playing`: all clients, and what the server took of their ports.
 //! - `outcomes`: which fault is reported where there are several.
-//! - `storms`: `storm`, the server's thread, the clients' threads, and the lines.
+//! - `storms`: `storm`, the server's thread, and the lines.
 #![tactic(auto)]
 
+mod calls;
 mod clients;
 mod faults;
+mod network;
 mod outcomes;
+mod playing;
 mod scale;
 mod stage;
 mod storms;

@@ -1,5 +1,5 @@
 //! Which fault of a storm is reported.
-ghost use Rattle.std.specs.Prelude.{◌≡◌, ◌≤◌, Ok, IfOk};
+ghost use Rattle.std.specs.Prelude.{◌≡◌, ◌≤◌, Ok, None, IfOk};
 ghost use Rattle.tb_storm.specs.private.Outcomes.{answered, first_of, outcome_of};
 
 use crate::faults::StormFault;
@@ -24,7 +24,7 @@ pub(crate) fn conclude(
     found: Result<Totals, StormFault>,
 ) -> Result<Totals, StormFault>
     ensures told { result ≡ outcome_of ended fared found }
-    ensures totals { IfOk result (λ totals. found ≡ Ok totals) }
+    ensures totals { IfOk result (λ totals. (found ≡ Ok totals) × (fared ≡ None)) }
 {
     match (ended, fared, found) {
         (Ended::NoMemory, _, _) => Err(StormFault::NoMemory),

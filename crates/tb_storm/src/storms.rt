@@ -1,5 +1,5 @@
 //! A storm: the server's thread, the clients' threads, and the lines that report on them.
-ghost use Rattle.std.specs.Prelude.{◌≡◌, ◌<◌, ◌≤◌, IfOk};
+ghost use Rattle.std.specs.Prelude.{◌≡◌, ◌<◌, ◌≤◌, ◌+◌, [], None, IfOk};
 ghost use mathlib.Core.List.{IsPrefix};
 ghost use Rattle.tb_records.specs.Transport.{risen};
 ghost use Rattle.tb_commands.specs.ExitStatuses.{TellsLine};
@@ -8,11 +8,14 @@ ghost use Rattle.tb_storm.specs.declared.faults.StormFault.{StormFault};
 ghost use Rattle.tb_storm.specs.private.Found.{CountsTransfers, replies_of, credited_after, Totaled, TotaledIn};
 ghost use Rattle.tb_storm.specs.Totals.{first_credits, AreTotals};
 ghost use Rattle.tb_storm.specs.private.Outcomes.{Concludes, fared};
+ghost use Rattle.tb_service.specs.Names.{Name};
+ghost use Rattle.tb_storm.specs.private.Playing.{AreReady, EndsWell, HasRun, HaveMade, IsLearnt};
 ghost use Rattle.tb_storm.specs.Storms.{storm_exit_status, storm_line, Writes, TellsOf, StormExits};
 
 use crate::clients::Client;
 use crate::faults::StormFault;
 use crate::outcomes::{answered, conclude, first_fault};
+use crate::playing::{Clients, play_all, take_in_all};
 use crate::scale::Scale;
 use crate::stage::Stage;
 use crate::totals::{Totals, lines_of};
@@ -22,7 +25,7 @@ use std::sync::Wait;
 use std::thread::{self, Threads};
 use tb_published::{Naming, Opening, Publisher, Seat, SeatCount, open};
 use tb_records::{Account, CLIENTS_MAX, ClientsMax, Profile, Sink, put_all};
-use tb_service::{Finished, Moments, Open, Port, PortCount, Server, service};
+use tb_service::{Finished, Gate, Moments, Open, PortCount, Server, service};
 
 /// Moments 1, 2, 3 and so on.
 #[derive(Drop)]
@@ -34,71 +37,6 @@ impl Moments for Ticks {
     fn now(&mut self) -> u64 {
         self.0 = self.0.saturating_add(1);
         self.0
-    }
-}
-
-/// Adds the client with a number, with one of the ports and one of the seats.
-fn add_client<J: Naming>(
-    alloc: Global,
-    number: u32,
-    ports: &mut Vec<Port>,
-    seats: &mut Vec<Seat<J>>,
-    clients: &mut Vec<Client<J>>,
-) -> Result<(), StormFault> {
-    let client = Client::new(alloc, number, ports, seats)?;
-    clients.push(client)?;
-    Ok(())
-}
-
-/// The clients of a storm: the first makes the accounts, the others the transfers. Each has one of the ports and one of the seats.
-fn make_clients<J: Naming>(
-    alloc: Global,
-    scale: Scale,
-    ports: &mut Vec<Port>,
-    seats: &mut Vec<Seat<J>>,
-) -> Result<(Client<J>, Vec<Client<J>>), StormFault> {
-    let first = Client::new(alloc, 100, ports, seats)?;
-    let mut others = Vec::new(alloc);
-    for number in 1..=scale.clients {
-        if let Err(fault) = add_client(alloc, number, ports, seats, &mut others) {
-            drop(first);
-            drop(others);
-            return Err(fault);
-        }
-    }
-    Ok((first, others))
-}
-
-/// Once the server has begun the first client makes the accounts, and then all others their transfers at once, each in a
-/// thread of its own.
-fn create_all<J: Naming + Send + Sync, R: Threads + Wait + Sync>(
-    rt: &R,
-    stage: &Stage,
-    first: &mut Client<J>,
-    others: &mut Vec<Client<J>>,
-    scale: Scale,
-) {
-    if stage.has_begun(rt) {
-        first.create_accounts(rt, stage, scale.clients);
-    } else {
-        first.give_up();
-    }
-    if first.fault.is_none() {
-        let threads = others.len().max(1);
-        thread::for_each_mut(
-            rt,
-            others.as_mut_slice(),
-            threads,
-            &|_, client: &mut Client<J>| { client.create_transfers(rt, stage, scale.transfers) },
-        );
-    }
-}
-
-/// Closes all ports.
-fn close_all<J: Naming, R: Wait>(rt: &R, first: &mut Client<J>, others: &mut Vec<Client<J>>) {
-    first.close(rt);
-    for client in others.iter_mut() {
-        client.close(rt);
     }
 }
 
@@ -149,6 +87,7 @@ fn totals_of<J: Naming>(
     seat: &mut Seat<J>,
     scale: Scale,
 ) -> Result<Totals, StormFault>
+    ensures begins { IsPrefix seat.old seat.new }
     ensures learnt { IsPrefix publisher.now.shown seat.new }
     ensures totals { IfOk result
         (Totaled J.opening scale.clients scale.transfers publisher.now.history) }
@@ -172,58 +111,98 @@ fn totals_of<J: Naming>(
     })
 }
 
-/// What is reported of a storm whose server has finished.
-fn end<J: Naming, R: Wait>(
-    rt: &R,
+/// What is reported of a storm whose server has finished, before its ports are taken in.
+fn report<J: Naming>(
     alloc: Global,
-    finished: Finished<J>,
-    first: &mut Client<J>,
-    others: &[Client<J>],
+    finished: &Finished<J>,
+    clients: &mut Clients<J>,
     scale: Scale,
 ) -> Result<Totals, StormFault>
-    ensures told { Concludes (replies_of scale.clients scale.transfers) finished.ended
-        (fared first.old.fault others.now) result }
+    ensures told { Concludes (replies_of scale.clients scale.transfers) finished.now.ended
+        (fared clients.old.first.fault clients.old.others.items) result }
     ensures totals { IfOk result
-        (Totaled J.opening scale.clients scale.transfers finished.publisher.history) }
+        (Totaled J.opening scale.clients scale.transfers finished.now.publisher.history) }
     ensures enough { IfOk result
         (λ totals. replies_of scale.clients scale.transfers ≤ totals.commits) }
+    ensures well { IfOk result (λ _. fared clients.old.first.fault clients.old.others.items ≡ None) }
+    ensures learnt { IsLearnt clients.old clients.new }
 {
-    let found = totals_of(alloc, &finished.publisher, &mut first.seat, scale);
-    let ended = finished.ended;
-    drop(finished.close(rt));
+    let found = totals_of(alloc, &finished.publisher, &mut clients.first.seat, scale);
     answered(
         scale.replies(),
-        conclude(ended, fared(first.fault, others), found),
+        conclude(
+            finished.ended,
+            fared(clients.first.fault, clients.others.as_slice()),
+            found,
+        ),
     )
 }
 
+/// What is reported of a storm whose server has finished, once its ports are taken in.
+fn settle<J: Naming>(
+    alloc: Global,
+    finished: &mut Finished<J>,
+    clients: &mut Clients<J>,
+    scale: Scale,
+) -> Result<Totals, StormFault>
+    requires { HaveMade J.opening finished.old.service scale.clients scale.transfers clients.old }
+    ensures same { finished.new ≡ finished.old }
+    ensures well { IfOk result (EndsWell J.opening scale.clients scale.transfers finished.old) }
+{
+    let totals = match report(alloc, finished, clients, scale) {
+        Ok(totals) => totals,
+        Err(fault) => return Err(fault),
+    };
+    if let Err(fault) = take_in_all(finished, clients, scale) {
+        return Err(fault);
+    }
+    Ok(totals)
+}
+
+/// Serves what the ports offer, until each of them is closed.
+fn serve<J: Naming, R: Wait, W: Wait + Drop, M: Moments + Drop, G: Gate + Drop>(
+    rt: &R,
+    stage: &Stage,
+    server: Server<J, W, M, G>,
+) -> Finished<J>
+    ensures run { HasRun server.port_count server.state.history result }
+    ensures same { result.service ≡ server.service }
+{
+    stage.begin();
+    let finished = server.run(rt);
+    stage.end();
+    finished
+}
+
 /// The storm over a server, whose clients these are.
-#[tactic(auto, using(crate::proofs::SeatAnswers::in_one))]
 fn storm_with<J: Naming + Send + Sync, R: Threads + Wait + Sync>(
     rt: &R,
     alloc: Global,
     server: Server<J, &R, Ticks, Open>,
-    first: &mut Client<J>,
-    others: &mut Vec<Client<J>>,
+    clients: Clients<J>,
     scale: Scale,
 ) -> Result<Totals, StormFault>
+    requires begins { server.state.history ≡ [] }
+    requires ports { server.port_count ≡ scale.clients + 1 }
+    requires ready { AreReady server.service scale.clients clients }
     ensures { IfOk result (TotaledIn J.opening scale.clients scale.transfers) }
 {
     let stage = &Stage::new();
-    let (finished, ()) = thread::join(
+    let (mut finished, mut clients) = thread::join(
         rt,
-        move || {
-            stage.begin();
-            let finished = server.run(rt);
-            stage.end();
-            finished
-        },
-        || {
-            create_all(rt, stage, first, others, scale);
-            close_all(rt, first, others);
-        },
+        move || -> Finished<J>
+            ensures run { HasRun server.entry.port_count server.entry.state.history result }
+            ensures same { result.service ≡ server.entry.service }
+        { serve(rt, stage, server) },
+        move || -> Clients<J>
+            ensures { (service : Name) → AreReady service scale.clients clients
+                → HaveMade J.opening service scale.clients scale.transfers result }
+        { play_all(rt, stage, clients, scale) },
     );
-    end(rt, alloc, finished, first, others, scale)
+    let told = settle(alloc, &mut finished, &mut clients, scale);
+    drop(clients);
+    drop(finished.close(rt));
+    told
 }
 
 /// The storm over a publisher and its seats.
@@ -235,20 +214,17 @@ fn storm_over<J: Naming + Send + Sync, R: Threads + Wait + Sync>(
     count: PortCount,
     scale: Scale,
 ) -> Result<Totals, StormFault>
+    requires begins { publisher.history ≡ [] }
+    requires count { count ≡ scale.clients + 1 }
     ensures { IfOk result (TotaledIn J.opening scale.clients scale.transfers) }
 {
     let Ok((server, mut ports)) = service(alloc, publisher, rt, count, Ticks(0), Open) else {
         return Err(StormFault::NoMemory);
     };
-    let made = make_clients(alloc, scale, &mut ports, seats);
+    let made = Clients::new(alloc, scale.clients, &mut ports, seats);
     drop(ports);
     match made {
-        Ok((mut first, mut others)) => {
-            let told = storm_with(rt, alloc, server, &mut first, &mut others, scale);
-            drop(first);
-            drop(others);
-            told
-        }
+        Ok(clients) => storm_with(rt, alloc, server, clients, scale),
         Err(fault) => {
             drop(server);
             Err(fault)

@@ -5,6 +5,7 @@ use Rattle.tb_ledger.specs.Books.{found_accounts, found_transfers}
 use Rattle.tb_machine.specs.declared.entries.Entry.{Entry}
 use Rattle.tb_published.specs.Openings.{Opening, LegalIn, after_in}
 use Rattle.tb_storm.specs.declared.totals.Totals.{Totals}
+use Rattle.tb_storm.specs.Calls.{IsPlayed}
 use Rattle.tb_storm.specs.Totals.{ids_of, first_credits}
 
 -- how many transfers with these ids there are after a history
@@ -30,8 +31,9 @@ pub record Totaled (o : Opening) (clients transfers : ℕ) (history : List Entry
   pub found : totals.transfers ≡ transfers_after o history (ids_of clients transfers)
   pub credited : totals.credited ≡ credited_after o history
 
--- they are those of some history, with an entry for each reply, or more
+-- they are those of the history of a storm, with an entry for each reply, or more
 pub record TotaledIn (o : Opening) (clients transfers : ℕ) (totals : Totals) : Type 0 where
   pub history : List Entry
   pub whole : Totaled o clients transfers history totals
   pub enough : replies_of clients transfers ≤ totals.commits
+  pub played : IsPlayed o clients transfers history
