@@ -8,9 +8,8 @@ use Rattle.tb_machine.specs.declared.entries.Entry.{Entry}
 use Rattle.tb_published.specs.Openings.{Opening, LegalIn}
 use Rattle.tb_published.proofs.Prefixes.{prefix_trans, prefix_whole, prefix_length}
 use Rattle.tb_storm.specs.declared.totals.Totals.{Totals}
-use Rattle.tb_storm.specs.Calls.{IsPlayed}
 use Rattle.tb_storm.specs.Totals.{ids_of, AreTotals}
-use Rattle.tb_storm.specs.private.Found.{replies_of, transfers_after, credited_after, Totaled, TotaledIn}
+use Rattle.tb_storm.specs.private.Found.{transfers_after, credited_after, Totaled, TotaledIn}
 
 -- no storm is larger
 pub few : (clients transfers : ℕ) → clients ≤ 16 → transfers ≤ 1000 → clients * (transfers + 1) ≤ 16016
@@ -33,10 +32,6 @@ totaled o clients transfers counted summed history totals legal p q same commits
       found = subst (λ (h : List Entry). totals.transfers ≡ transfers_after o h (ids_of clients transfers)) all found;
       credited = subst (λ (h : List Entry). totals.credited ≡ credited_after o h) rest credited;
     }
-
-pub in_one : (o : Opening) (clients transfers : ℕ) (history : List Entry) (totals : Totals)
-    → Totaled o clients transfers history totals → replies_of clients transfers ≤ totals.commits → IsPlayed o clients transfers history → TotaledIn o clients transfers totals
-in_one o clients transfers history totals t enough is = record { history = history; whole = t; enough = enough; played = is }
 
 pub are_totals : (o : Opening) (clients transfers : ℕ) (totals : Totals) → o.profile ≡ profile.One → o.clients_max ≡ CLIENTS_MAX
     → TotaledIn o clients transfers totals → AreTotals clients transfers totals
