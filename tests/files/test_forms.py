@@ -15,63 +15,63 @@ from .kinds import AGAIN, DUMP, EMPTY_DUMP, ENTRIES, FILES, REPLIES, SCRIPT
 
 pytestmark = pytest.mark.quick
 CLIENTS = "CLIENTS_MAX is 1 to 64"
-OPTIONS = "PROFILE is 1 or 2, and only options may follow it, each once"
-DUMP_OPTIONS = "dump: only --after COMMIT and --follow may follow FILE"
-NO_FILE = "FILE is a number or begins with -; write ./FILE"
-NO_NEW = "NEW is a number or begins with -; write ./NEW"
-UNKNOWN = "unknown; tbd --help shows the forms"
-# Words that are no form, and what is said of them.
+COMMIT = "COMMIT is 0 to 9223372036854775807"
+OPTIONS = "unknown option; those of run are --existing, --progress and --drop-torn"
+LOG_OPTIONS = "unknown option; those of follow are --existing and --drop-torn"
+NO_FILE = "FILE is a number; write ./FILE"
+MANY = "too many words"
+UNKNOWN = "unknown; --help shows the forms"
+# Words that are no form, and what is said behind those up to the wrong one.
 WRONG = [
-    ("serve", f"serve: {UNKNOWN}"),
-    ("serve ledger", f"serve: {UNKNOWN}"),
-    ("serve 64", f"serve: {UNKNOWN}"),
-    ("folow ledger 2", f"folow: {UNKNOWN}"),
-    ("run", "run: FILE and CLIENTS_MAX are missing"),
-    ("run ledger", "run ledger: CLIENTS_MAX is missing, 1 to 64"),
-    ("run ledger 0", f"run ledger 0: {CLIENTS}"),
-    ("run ledger 65 1", f"run ledger 65 1: {CLIENTS}"),
-    ("run ledger 64 3", "run ledger 64 3: PROFILE is 1 or 2"),
-    ("run ledger 64 --follow", "run ledger 64 --follow: PROFILE is 1 or 2"),
-    ("run ledger 2 1 x", f"run ledger 2 1 x: {OPTIONS}"),
-    ("run ledger 2 1 --progress x", f"run ledger 2 1 --progress x: {OPTIONS}"),
-    ("run ledger 2 --existing --existing", f"run ledger 2 --existing --existing: {OPTIONS}"),
-    ("run ledger 2 1 --progress --existing x", "run: too many words"),
-    ("run ledger 65 --progress", f"run ledger 65 --progress: {CLIENTS}"),
-    ("run ledger 64 3 --progress", f"run ledger 64 3 --progress: {OPTIONS}"),
-    ("run ledger 64 --progress 2", f"run ledger 64 --progress 2: {OPTIONS}"),
-    ("follow", "follow: FILE and CLIENTS_MAX are missing"),
-    ("follow ledger", "follow ledger: CLIENTS_MAX is missing, 1 to 64"),
-    ("follow ledger 65", f"follow ledger 65: {CLIENTS}"),
-    ("follow ledger 2 3", "follow ledger 2 3: PROFILE is 1 or 2"),
-    ("follow ledger 2 1 --progress", f"follow ledger 2 1 --progress: {OPTIONS}"),
-    ("follow ledger 2 1 --existing x", "follow: too many words"),
-    ("dump", "dump: FILE is missing"),
-    ("dump ledger 65", DUMP_OPTIONS),
-    ("dump ledger --after", DUMP_OPTIONS),
-    ("dump ledger --after 9223372036854775808", DUMP_OPTIONS),
-    ("dump ledger --follow --after x", DUMP_OPTIONS),
-    ("dump ledger --follow 1 --after", DUMP_OPTIONS),
-    ("dump ledger --after --follow 1", DUMP_OPTIONS),
-    ("check", "check: FILE is missing"),
-    ("check ledger 2", "check: too many words"),
-    ("salvage", "salvage: FILE and NEW are missing"),
-    ("backup ledger", "backup ledger: NEW is missing"),
-    ("salvage ledger 64", f"salvage ledger 64: {NO_NEW}"),
-    ("backup ledger -o", f"backup ledger -o: {NO_NEW}"),
-    ("salvage ledger new more", "salvage: too many words"),
-    ("--help run", "--help: too many words"),
-    ("--help 64", "--help: too many words"),
+    ("serve", UNKNOWN, 1),
+    ("serve ledger", UNKNOWN, 1),
+    ("serve 64", UNKNOWN, 1),
+    ("folow ledger 2", UNKNOWN, 1),
+    ("run", "FILE and CLIENTS_MAX are missing", 1),
+    ("run ledger", "CLIENTS_MAX is missing, 1 to 64", 2),
+    ("run ledger 0", CLIENTS, 3),
+    ("run ledger 65 1", CLIENTS, 3),
+    ("run ledger 64 3", "PROFILE is 1 or 2", 4),
+    ("run ledger 64 --follow", OPTIONS, 4),
+    ("run ledger 2 1 x", MANY, 5),
+    ("run ledger 2 1 --progress x", MANY, 6),
+    ("run ledger 2 --existing --existing", "an option is given once", 5),
+    ("run ledger 2 1 --progress --existing x", MANY, 7),
+    ("run ledger 65 --progress", CLIENTS, 3),
+    ("run ledger 64 3 --progress", "PROFILE is 1 or 2", 4),
+    ("run ledger 64 --progress 3", "PROFILE is 1 or 2", 5),
+    ("follow", "FILE and CLIENTS_MAX are missing", 1),
+    ("follow ledger", "CLIENTS_MAX is missing, 1 to 64", 2),
+    ("follow ledger 65", CLIENTS, 3),
+    ("follow ledger 2 3", "PROFILE is 1 or 2", 4),
+    ("follow ledger 2 1 --progress", LOG_OPTIONS, 5),
+    ("follow ledger 2 1 --existing x", MANY, 6),
+    ("dump", "FILE is missing", 1),
+    ("dump ledger 65", MANY, 3),
+    ("dump ledger --after", "COMMIT is missing, 0 to 9223372036854775807", 3),
+    ("dump ledger --after 9223372036854775808", COMMIT, 4),
+    ("dump ledger --follow --after x", COMMIT, 5),
+    ("dump ledger --follow 1 --after", MANY, 4),
+    ("dump ledger --after --follow 1", COMMIT, 4),
+    ("check", "FILE is missing", 1),
+    ("check ledger 2", MANY, 3),
+    ("check ledger --quick --quick", "an option is given once", 4),
+    ("check ledger --x", "unknown option; that of check is --quick", 3),
+    ("salvage", "FILE and NEW are missing", 1),
+    ("backup ledger", "NEW is missing", 2),
+    ("salvage ledger 64", "NEW is a number; write ./NEW", 3),
+    ("backup ledger -o", "unknown option; write ./NAME for a file of that name", 3),
+    ("salvage ledger new more", MANY, 4),
+    ("--help run", MANY, 2),
+    ("--help 64", MANY, 2),
     # A number or an option is no FILE.
-    ("run 64 1", f"run 64: {NO_FILE}"),
-    ("run 0 64 2", f"run 0: {NO_FILE}"),
-    ("run --help", f"run --help: {NO_FILE}"),
-    ("run - 64", f"run -: {NO_FILE}"),
-    ("follow 64 2", f"follow 64: {NO_FILE}"),
-    (f"dump {'9876543210' * 4}", f"dump {'9876543210' * 4}: {NO_FILE}"),
-    ("check -h", f"check -h: {NO_FILE}"),
-    ("check 1 2", f"check 1: {NO_FILE}"),
-    ("salvage 64 new", f"salvage 64: {NO_FILE}"),
-    ("backup -h", f"backup -h: {NO_FILE}"),
+    ("run 64 1", NO_FILE, 2),
+    ("run 0 64 2", NO_FILE, 2),
+    ("run - 64", OPTIONS, 2),
+    ("follow 64 2", NO_FILE, 2),
+    (f"dump {'9876543210' * 4}", NO_FILE, 2),
+    ("check 1 2", NO_FILE, 2),
+    ("salvage 64 new", NO_FILE, 2),
 ]
 
 
@@ -85,10 +85,11 @@ def fixture_tbd(program):
     return str(program("tbd").resolve())
 
 
-@pytest.mark.parametrize("words, said", WRONG, ids=[words for words, _ in WRONG])
-def test_words_that_are_no_form(tbd, tmp_path, words, said):
+@pytest.mark.parametrize("words, said, count", WRONG, ids=[words for words, *_ in WRONG])
+def test_words_that_are_no_form(tbd, tmp_path, words, said, count):
     told = kinds.ran(tbd, tmp_path, words.split())
-    assert told == (2, b"", f"tbd: Usage: {said}\n")
+    shown = " ".join(words.split()[:count])
+    assert told == (2, b"", f"tbd: Usage: {shown}: {said}\n")
     assert not list(tmp_path.iterdir())
 
 

@@ -1,4 +1,4 @@
-"""Files whose records are no ledger's, or not in their order: `tbd` names the first one refused, and
+"""Files whose records are no ledger's, or not in their order: `tbd` names the first one refused,
 and a salvage takes what is before it. Each checksum is right unless a row says otherwise.
 
     python3 -m pytest -m quick tests/files/test_records.py
