@@ -1,5 +1,5 @@
 //! Tests of tb_machine and of the libraries that it is built on, by their public calls alone, and each allocation of a map, a ledger
-//! and a machine refused in turn.
+//! and a machine refused in turn. What words, input and output do to `tbs` is tried over the program, by tests/programs.
 //!
 //! Modules:
 //!
@@ -9,12 +9,9 @@
 //! - `ledger`: of tb_ledger.
 //! - `sessions`: of tb_sessions.
 //! - `machine`: of tb_machine.
-//! - `commands`: of tb_commands.
 //! - `refusing`: of avl_tree and tb_machine, over an allocator that refuses.
 #![tactic(auto)]
 
-#[cfg(test)]
-mod commands;
 #[cfg(test)]
 mod comparing;
 #[cfg(test)]

@@ -9,7 +9,7 @@
 //! - `frames`: frames in hexadecimal.
 //! - `machines`: what machines are asked.
 //! - `records`: what the machine's own lookups find.
-//! - `classes`: sessions by the machine's own calls.
+//! - `classes`: a register and its repeat by the machine's own calls.
 //! - `serving`: scripts served.
 //! - `accounts`: accounts that are created or refused.
 //! - `amounts`: balancing, and sums that would pass 128 bits.
@@ -17,26 +17,22 @@
 //! - `pending`: posts, voids, closing and expiry.
 //! - `sessions`: registers, repeats, refusals and evictions, by scripts.
 //! - `forms`: `run`, `dump` and `replay` as one call.
-//! - `conversations`: replies leave before the program waits.
-//! - `holding`: nothing is asked for while something is held back.
 //! - `asking`: nothing is asked again, and what was read is answered.
 //! - `faults`: scripts that end before their time.
-//! - `entries`: entries by themselves.
+//! - `entries`: the copy of an entry.
 //! - `dumps`: scripts dumped, dumps replayed.
-//! - `restoring`: records of a journal, and machines restored from them.
+//! - `restoring`: a machine restored from records of a journal.
 mod accounts;
 mod amounts;
 mod asking;
 mod chains;
 mod classes;
-mod conversations;
 mod dumps;
 mod entries;
 mod faults;
 mod fixtures;
 mod forms;
 mod frames;
-mod holding;
 mod machines;
 mod pending;
 mod records;

@@ -5,7 +5,7 @@
 //! - `vectors`: frames and records in bytes, and as values.
 //! - `frame_tests`: requests and records as they are read.
 //! - `reply_tests`: replies, and frames as they are written.
-//! - `name_tests`: bits and codes and their names, each way.
+//! - `name_tests`: names as they are shown, and the limits.
 //! - `asking_tests`: a reader or writer is asked once for each step.
 //! - `writer_tests`: writers that fail in a frame, or take nothing of it.
 mod asking_tests;

@@ -1,13 +1,17 @@
 //! Accounts that are created or refused, and the most of them in one request.
 use crate::comparing::holds_at;
+use crate::machine::faults::expect_fault;
 use crate::machine::rows::{AccountRow, TransferRow as Row};
-use crate::machine::scripts::Script;
+use crate::machine::scripts::{Head, Script};
 use crate::machine::serving::{PROFILES, expect_all, serve};
 use crate::machine::steps::{BEGIN, Step, put_steps};
+use std::alloc::Global;
 use std::process::Abort;
 use tb_fixtures::account;
+use tb_machine::RunFault;
 use tb_records::{
-    AccountFlag, CreateAccountResult as AccountOutcome, CreateTransferResult as Outcome, Operation,
+    AccountFlag, CreateAccountResult as AccountOutcome, CreateTransferResult as Outcome,
+    FrameFault, Operation,
 };
 
 /// Nine accounts, of which the last is right.
@@ -67,9 +71,28 @@ const THREE_OF_MOST: [Step; 6] = [
     Step::Send(Operation::LookupAccounts),
 ];
 
+/// A request that announces one account more is refused.
+fn expect_too_many(rt: &impl Abort, alloc: Global) {
+    let mut script = Script::new(alloc);
+    script.register(rt, 7, 1);
+    script.ask_header(rt, Head::of_seven(1, Operation::CreateAccounts), 1_048_448);
+    expect_fault(rt, script, RunFault::Frame(FrameFault::TooMany));
+}
+
+/// A script whose second frame ends after 47 bytes: the first reply is written.
+fn expect_cut(rt: &impl Abort, alloc: Global) {
+    let mut script = Script::new(alloc);
+    script.register(rt, 7, 1);
+    script.ask_header(rt, Head::of_seven(1, Operation::CreateAccounts), 0);
+    script.bytes.truncate(56 + 8 + 47);
+    expect_fault(rt, script, RunFault::Frame(FrameFault::Short));
+}
+
 /// Client 7 creates accounts 1 to 8190 in one request, and looks three up.
 #[test]
-fn most_events(rt: HostRuntime) {
+fn largest_body_and_cut_script(rt: HostRuntime) {
+    expect_too_many(&rt, rt.alloc());
+    expect_cut(&rt, rt.alloc());
     let mut script = Script::new(rt.alloc());
     script.register(&rt, 7, 1);
     put_most(&rt, &mut script);

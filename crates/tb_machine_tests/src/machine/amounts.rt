@@ -6,8 +6,8 @@ use tb_records::{
     AccountFlag, CreateAccountResult as AccountOutcome, CreateTransferResult as Outcome, Operation,
 };
 
-/// A balancing debit of 80 where 50 is left, its repeats, and one where nothing is left.
-const DEBIT_LOWERED: [Step; 16] = [
+/// A balancing debit of 80 where 50 is left, and its repeats.
+const DEBIT_LOWERED: [Step; 11] = [
     Step::Single(Row::Plain(1, 2, 1, 100), Outcome::Ok),
     Step::Single(Row::Plain(2, 1, 2, 20), Outcome::Ok),
     Step::Single(Row::Held(3, 30), Outcome::Ok),
@@ -22,6 +22,15 @@ const DEBIT_LOWERED: [Step; 16] = [
     Step::Id(4),
     Step::FoundTransfer(17, Row::DebitBalanced(4, 1, 2, 50)),
     Step::Send(Operation::LookupTransfers),
+];
+
+#[test]
+fn balancing_debit_lowers(rt: HostRuntime) {
+    serve(&rt, rt.alloc(), &PROFILES, &[&BEGIN, &DEBIT_LOWERED]);
+}
+
+/// One more, where nothing is left.
+const DEBIT_TO_ZERO: [Step; 5] = [
     Step::Single(Row::DebitBalanced(5, 1, 2, 10), Outcome::Ok),
     Step::Id(5),
     Step::FoundTransfer(22, Row::DebitBalanced(5, 1, 2, 0)),
@@ -30,8 +39,9 @@ const DEBIT_LOWERED: [Step; 16] = [
 ];
 
 #[test]
-fn balancing_debit_lowers(rt: HostRuntime) {
-    serve(&rt, rt.alloc(), &PROFILES, &[&BEGIN, &DEBIT_LOWERED]);
+fn balancing_debit_to_zero(rt: HostRuntime) {
+    let parts: [&[Step]; 3] = [&BEGIN, &DEBIT_LOWERED, &DEBIT_TO_ZERO];
+    serve(&rt, rt.alloc(), &PROFILES, &parts);
 }
 
 /// Either side can be what limits a transfer that balances both. An account created closed takes none.

@@ -1,10 +1,8 @@
-//! Sessions by the machine's own calls: repeats and classes.
+//! Sessions by the machine's own calls: a register and its repeat.
 use crate::comparing::{holds, holds_at};
 use crate::machine::machines::{
-    Ask, FIRST_FOUR, Numbers, ReplyNumbers, class_of, enter, enter_all, entry_of, machine,
-    reply_of, request_of,
+    Ask, Numbers, ReplyNumbers, class_of, enter, machine, reply_of, request_of,
 };
-use crate::machine::rows::TransferRow;
 use std::alloc::Global;
 use std::process::Abort;
 use tb_machine::{Machine, answer_of};
@@ -65,44 +63,5 @@ fn expect_repeat(rt: &impl Abort, alloc: Global, machine: &mut Machine<Global>) 
 fn register_repeated(rt: HostRuntime) {
     let mut machine = machine(&rt, rt.alloc(), 2);
     expect_repeat(&rt, rt.alloc(), &mut machine);
-    drop(machine);
-}
-
-/// A request that creates transfer 11 of an amount: its class, and whether its entry may come next, which only a New one may.
-fn expect_class(
-    rt: &impl Abort,
-    alloc: Global,
-    machine: &Machine<Global>,
-    numbers: Numbers,
-    amount: u128,
-    class: Class,
-) {
-    let ask = Ask::Transfer(TransferRow::Plain(11, 1, 2, amount));
-    let entry = entry_of(rt, alloc, machine, numbers, ask);
-    let right = machine.fits(&entry) == (class == Class::New);
-    holds_at(rt, right, &numbers);
-    holds_at(rt, machine.class(&entry.request) == class, &numbers);
-    drop(entry);
-}
-
-/// Requests after client 7's third, that transferred 100: an amount, and the class.
-const CLASSES: [(Numbers, u128, Class); 8] = [
-    ((7, 1, 3), 100, Class::Repeat),
-    ((7, 1, 2), 100, Class::Older),
-    ((7, 1, 3), 101, Class::Collision),
-    ((7, 1, 5), 100, Class::NewerRequest),
-    ((7, 2, 4), 100, Class::NewerSession),
-    ((7, 0, 4), 100, Class::SessionTooLow),
-    ((9, 1, 1), 100, Class::NoSession),
-    ((7, 1, 4), 100, Class::New),
-];
-
-#[test]
-fn each_refusal_by_its_class(rt: HostRuntime) {
-    let mut machine = machine(&rt, rt.alloc(), 2);
-    enter_all(&rt, rt.alloc(), &mut machine, &FIRST_FOUR);
-    for (numbers, amount, class) in &CLASSES {
-        expect_class(&rt, rt.alloc(), &machine, *numbers, *amount, *class);
-    }
     drop(machine);
 }

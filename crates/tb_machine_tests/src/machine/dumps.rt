@@ -87,20 +87,6 @@ fn dumped(
     writer.into_inner()
 }
 
-/// Dumps a script, and compares the answer and how many bytes were written.
-fn expect_length(
-    rt: &impl Abort,
-    alloc: Global,
-    at: Option<u64>,
-    script: &[u8],
-    answer: Result<u64, RunFault>,
-    length: usize,
-) {
-    let dump = dumped(rt, alloc, at, script, answer);
-    holds_at(rt, dump.len() == length, &length);
-    drop(dump);
-}
-
 /// Replays a dump, and compares the answer; gives the replies.
 fn replayed(
     rt: &impl Abort,
@@ -268,17 +254,4 @@ fn dump_faults(rt: HostRuntime) {
     for row in &ROWS {
         expect_row(&rt, rt.alloc(), *row);
     }
-}
-
-/// No mark goes out before an entry that there is no time for, or that can't be read.
-#[test]
-fn no_mark_without_its_entry(rt: HostRuntime) {
-    let mut script = Vec::new(rt.alloc());
-    put_register(&rt, &mut script, i64::MAX as u64, 7);
-    put_register(&rt, &mut script, 0, 8);
-    let late = Err(RunFault::TimeExhausted);
-    expect_length(&rt, rt.alloc(), Some(1), &script, late, 80);
-    let short = Err(RunFault::Frame(FrameFault::Short));
-    expect_length(&rt, rt.alloc(), Some(0), &[0; 8], short, 16);
-    drop(script);
 }

@@ -1,46 +1,7 @@
-//! Entries by themselves: the last time, and their copies.
+//! The copy of an entry.
 use crate::comparing::holds;
-use crate::machine::machines::{Ask, apply_entry, machine, request_of};
-use std::alloc::Global;
-use std::process::Abort;
-use tb_machine::{Entry, Machine};
-
-/// The last moment that there is.
-const LAST: u64 = 9_223_372_036_854_775_807;
-
-/// The last moment can be the time of an entry, and then of no second.
-fn expect_last(rt: &impl Abort, machine: &mut Machine<Global>, register: &Entry) {
-    let after = machine.next_time(LAST + 1, 0);
-    holds(rt, after.is_none(), "a time behind the last moment");
-    holds(
-        rt,
-        machine.next_time(LAST, 0) == Some(LAST),
-        "the last moment",
-    );
-    apply_entry(rt, machine, register);
-    holds(rt, machine.commit() == 1, "entries");
-    holds(rt, machine.next_time(0, 0).is_none(), "a second time");
-}
-
-/// A register's entry at the last moment, and none behind it.
-#[test]
-fn time_runs_out(rt: HostRuntime) {
-    let mut machine = machine(&rt, rt.alloc(), 2);
-    let early = request_of(&rt, rt.alloc(), (7, 0, 0), Ask::Register);
-    let register = machine.next_entry(early, LAST).expect(&rt, "an entry");
-    holds(
-        &rt,
-        (register.commit, register.time) == (1, LAST),
-        "numbers",
-    );
-    expect_last(&rt, &mut machine, &register);
-    drop(register);
-    let late = request_of(&rt, rt.alloc(), (8, 0, 0), Ask::Register);
-    let none = machine.next_entry(late, LAST);
-    holds(&rt, none.is_none(), "an entry behind the last moment");
-    drop(none);
-    drop(machine);
-}
+use crate::machine::machines::{Ask, request_of};
+use tb_machine::Entry;
 
 /// Two entries have the same numbers and the same body.
 fn alike(one: &Entry, other: &Entry) -> bool {

@@ -7,10 +7,10 @@ use crate::machine::steps::{BEGIN, Step, THIRD, script_of};
 use std::alloc::Global;
 use std::process::Abort;
 use tb_machine::RunFault;
-use tb_records::{ClientsMax, FrameFault, Operation, Profile};
+use tb_records::{ClientsMax, FrameFault, Profile};
 
 /// Serves a script by each profile as far as its fault, for two clients at most, and lets it go.
-fn expect_fault(rt: &impl Abort, script: Script, fault: RunFault) {
+pub fn expect_fault(rt: &impl Abort, script: Script, fault: RunFault) {
     let clients_max = clients_max(rt, 2);
     for profile in &PROFILES {
         expect(rt, &script, clients_max, *profile, Err(fault));
@@ -42,15 +42,6 @@ fn expect_exhausted(rt: &impl Abort, alloc: Global, steps: &[Step]) {
 fn time_runs_out(rt: HostRuntime) {
     expect_exhausted(&rt, rt.alloc(), &EXHAUSTED);
     expect_exhausted(&rt, rt.alloc(), &[Step::Moment(LAST + 1)]);
-}
-
-/// A header announces one account more than a body may have.
-#[test]
-fn too_many_events(rt: HostRuntime) {
-    let mut script = Script::new(rt.alloc());
-    script.register(&rt, 7, 1);
-    script.ask_header(&rt, Head::of_seven(1, Operation::CreateAccounts), 1_048_448);
-    expect_fault(&rt, script, RunFault::Frame(FrameFault::TooMany));
 }
 
 /// The answer to the three requests cut at a length, and how many bytes are written: the replies to all whole pairs.

@@ -8,6 +8,16 @@ use crate::machine::steps::{BEGIN, Step, THIRD, put_steps};
 use std::process::Abort;
 use tb_records::{CreateTransferResult, Operation, Status};
 
+#[test]
+fn empty_script(rt: HostRuntime) {
+    serve(&rt, rt.alloc(), &PROFILES, &[]);
+}
+
+#[test]
+fn first_register(rt: HostRuntime) {
+    serve(&rt, rt.alloc(), &PROFILES, &[&[Step::Register(7, 1)]]);
+}
+
 /// The history has one entry.
 const REPEATED: [Step; 3] = [
     Step::Register(7, 1),

@@ -1,23 +1,14 @@
-//! The vectors of requests and records, and what readers do that fail, end or stay at a fault.
+//! The faults of requests, and readers that fail or stay at a fault. Frames of each kind are tried over `tbs`, by tests/programs.
 use crate::comparing::{holds, holds_at};
-use crate::records::vectors::{CREATION, REGISTER, account, creation, first, lookup, record, with};
-use std::alloc::{AllocError, Global};
+use crate::records::vectors::{CREATION, REGISTER, account, creation, lookup, with};
+use std::alloc::Global;
 use std::io;
 use std::io::{BufReader, Error, ErrorKind, Read};
 use std::process::Abort;
 use tb_records::{
-    Account, Body, Buffered, Counting, FrameFault, Operation, Request, RequestStream, Source,
-    Transfer, read_request, read_timed_from,
+    Body, Buffered, Counting, FrameFault, Operation, Request, RequestStream, Source, read_request,
+    read_timed_from,
 };
-
-/// A register, a creation and a lookup, one behind the other.
-fn frames() -> [u8; 448] {
-    let mut bytes = [0; 448];
-    bytes[..48].copy_from_slice(&REGISTER);
-    bytes[48..352].copy_from_slice(&creation(&CREATION));
-    bytes[352..].copy_from_slice(&lookup());
-    bytes
-}
 
 /// Says that the request is of client 7, with these numbers.
 fn has_numbers(request: &Request, session: u64, number: u32, operation: Operation) -> bool {
@@ -95,68 +86,6 @@ fn timed_frame(
     }
 }
 
-/// The bytes 0, 1, 2 and so on.
-fn counted() -> [u8; 128] {
-    let mut bytes = [0u8; 128];
-    for (i, byte) in bytes.iter_mut().enumerate() {
-        *byte = i as u8;
-    }
-    bytes
-}
-
-#[test]
-fn accounts_in_bytes(rt: HostRuntime) {
-    holds(&rt, account(1, 0).to_bytes() == record(1, 0), "accounts");
-    holds(
-        &rt,
-        Account::from_bytes(&record(2, 0)) == account(2, 0),
-        "accounts",
-    );
-    holds(
-        &rt,
-        Account::from_bytes(&counted()).to_bytes() == counted(),
-        "accounts",
-    );
-}
-
-#[test]
-fn transfers_in_bytes(rt: HostRuntime) {
-    let transfer = Transfer::from_bytes(&counted());
-    holds(
-        &rt,
-        transfer.id == 0x0f0e_0d0c_0b0a_0908_0706_0504_0302_0100,
-        "transfers",
-    );
-    holds(
-        &rt,
-        transfer.pending_id == 0x4f4e_4d4c_4b4a_4948_4746_4544_4342_4140,
-        "transfers",
-    );
-    holds(
-        &rt,
-        transfer.timeout == 0x6f6e_6d6c && transfer.flags == 0x7776,
-        "transfers",
-    );
-    holds(&rt, transfer.to_bytes() == counted(), "transfers");
-}
-
-/// One of the three frames is read, of this length.
-fn expect_frame(rt: &impl Abort, alloc: Global, bytes: &[u8], frame: u32, length: usize) {
-    holds(
-        rt,
-        read_frame(alloc, bytes) == Ok((frame, length)),
-        "a frame",
-    );
-}
-
-#[test]
-fn frames_are_read(rt: HostRuntime) {
-    let alloc = rt.alloc();
-    expect_frame(&rt, alloc, &REGISTER, 1, 48);
-    expect_frame(&rt, alloc, &creation(&CREATION), 2, 304);
-    expect_frame(&rt, alloc, &lookup(), 3, 96);
-}
-
 /// Two bytes of a register that are changed, each by its place, and the fault.
 const REQUEST_FAULTS: [(usize, u8, usize, u8, FrameFault); 8] = [
     (0, 0, 0, 0, FrameFault::ClientZero),
@@ -181,112 +110,6 @@ fn request_faults_in_order(rt: HostRuntime) {
         read_frame(alloc, &REGISTER[..47]) == Err(FrameFault::Short),
         "a cut",
     );
-}
-
-/// The place of a creation's byte that is changed and the byte, the three bytes of its length, and the fault.
-const CREATION_FAULTS: [(usize, u8, u8, u8, u8, FrameFault); 4] = [
-    (24, 0, 0, 1, 0, FrameFault::RequestZero),
-    (24, 1, 0xff, 0, 0, FrameFault::BadLength),
-    (24, 1, 0x80, 0xff, 0x0f, FrameFault::TooMany),
-    (24, 1, 0x80, 1, 0, FrameFault::Short),
-];
-
-#[test]
-fn creation_faults_in_order(rt: HostRuntime) {
-    let alloc = rt.alloc();
-    for (at, byte, low, middle, high, fault) in &CREATION_FAULTS {
-        let header = with(&with(&CREATION, *at, *byte), 32, *low);
-        let header = with(&with(&header, 33, *middle), 34, *high);
-        let found = read_frame(alloc, &creation(&header));
-        holds_at(&rt, found == Err(*fault), low);
-    }
-}
-
-/// The frame that creates 8190 accounts, or with 0x80 as the lowest byte of its length 8191.
-fn many(alloc: Global, low: u8) -> Result<Vec<u8>, AllocError> {
-    let header = with(&with(&with(&CREATION, 32, low), 33, 0xff), 34, 0x0f);
-    let mut bytes = Vec::new(alloc);
-    bytes.extend_from_slice(&header)?;
-    let item = record(1, 0);
-    for _ in 0..8191 {
-        bytes.extend_from_slice(&item)?;
-    }
-    Ok(bytes)
-}
-
-/// The number of items that are read, and the length of their frame.
-fn read_count(alloc: Global, bytes: &[u8]) -> Result<(usize, usize), FrameFault> {
-    let (request, n) = read_request(alloc, bytes)?;
-    let count = request.body().len();
-    drop(request);
-    Ok((count, n))
-}
-
-#[test]
-fn largest_body(rt: HostRuntime) {
-    let alloc = rt.alloc();
-    let most = many(alloc, 0).expect(&rt, "memory");
-    holds(
-        &rt,
-        read_count(alloc, most.as_slice()) == Ok((8190, 1_048_368)),
-        "bodies",
-    );
-    let more = many(alloc, 0x80).expect(&rt, "memory");
-    holds(
-        &rt,
-        read_count(alloc, more.as_slice()) == Err(FrameFault::TooMany),
-        "bodies",
-    );
-}
-
-#[test]
-fn stream_of_frames(rt: HostRuntime) {
-    let bytes = frames();
-    let mut stream = RequestStream::new(Counting::new(&bytes[..]));
-    for frame in &[Some(1), Some(2), Some(3), None, None] {
-        let next = next_frame(rt.alloc(), &mut stream);
-        holds(&rt, next == Ok(*frame), "a frame");
-    }
-}
-
-#[test]
-fn stream_is_cut(rt: HostRuntime) {
-    let bytes = frames();
-    let mut stream = RequestStream::new(Counting::new(first(&bytes, 100)));
-    for answer in &[Ok(Some(1)), Err(FrameFault::Short), Err(FrameFault::Short)] {
-        let next = next_frame(rt.alloc(), &mut stream);
-        holds(&rt, next == *answer, "a cut");
-    }
-}
-
-/// A moment of 10 and a register, and 8 bytes more.
-fn timed_register() -> [u8; 64] {
-    let mut bytes = [0; 64];
-    bytes[0] = 10;
-    bytes[8..56].copy_from_slice(&REGISTER);
-    bytes
-}
-
-#[test]
-fn stream_of_moments(rt: HostRuntime) {
-    let bytes = timed_register();
-    let mut stream = RequestStream::new(Counting::new(&bytes[..]));
-    let one = timed_frame(stream.next_timed(rt.alloc()));
-    holds(&rt, one == Ok(Some((10, 1))), "a moment");
-    let next = timed_frame(stream.next_timed(rt.alloc()));
-    holds(&rt, next == Err(FrameFault::Short), "a moment alone");
-}
-
-#[test]
-fn moments_of_a_reader(rt: HostRuntime) {
-    let bytes = timed_register();
-    let mut source = Counting::new(first(&bytes, 56));
-    for answer in &[Some((10, 1)), None] {
-        let read = timed_frame(read_timed_from(rt.alloc(), &mut source));
-        holds(&rt, read == Ok(*answer), "a moment");
-    }
-    let cut = timed_frame(read_timed_from(rt.alloc(), &mut Counting::new(first(&bytes, 7))));
-    holds(&rt, cut == Err(FrameFault::Short), "a cut moment");
 }
 
 /// A creation with a reserved byte that is not 0, and a register behind it.
@@ -332,20 +155,6 @@ impl Read for Failing<'_> {
     }
 }
 
-#[test]
-fn reader_fails_in_mid_stream(rt: HostRuntime) {
-    let bytes = creation(&CREATION);
-    for good in 0..3 {
-        let rest = &bytes[..];
-        let mut stream = RequestStream::new(Counting::new(Failing { rest, good }));
-        for _ in 0..2 {
-            let answer = next_frame(rt.alloc(), &mut stream);
-            holds_at(&rt, answer == Err(FrameFault::Device), &good);
-        }
-        holds_at(&rt, stream.into_source().failures() == 1, &good);
-    }
-}
-
 /// A register, a creation and a lookup, each behind the moment 10.
 fn timed_frames() -> [u8; 472] {
     let mut bytes = [0; 472];
@@ -356,19 +165,6 @@ fn timed_frames() -> [u8; 472] {
     bytes[368] = 10;
     bytes[376..].copy_from_slice(&lookup());
     bytes
-}
-
-#[test]
-fn pairs_of_a_buffer(rt: HostRuntime) {
-    let bytes = timed_frames();
-    for capacity in &[1, 56, 400, 4096] {
-        let reader = BufReader::with_capacity(rt.alloc(), *capacity, &bytes[..]);
-        let mut source = Buffered::new(reader.expect(&rt, "a buffer"));
-        for answer in &[Some((10, 1)), Some((10, 2)), Some((10, 3)), None] {
-            let read = timed_frame(read_timed_from(rt.alloc(), &mut source));
-            holds(&rt, read == Ok(*answer), "a pair");
-        }
-    }
 }
 
 #[test]

@@ -1,42 +1,17 @@
-//! The vectors of replies, and requests and replies as they are written.
+//! The faults of replies, and requests and replies as they are written and read. Frames of each kind are tried over `tbs`, by
+//! tests/programs.
 ghost use Rattle.std.specs.Prelude.{◌≡◌, MatchResult};
 
 use crate::comparing::{holds, holds_at};
 use crate::records::vectors::{
-    CREATED, CREATION, REGISTER, REGISTERED, account, creation, found_bytes, lookup, movement,
-    record, transfer, two_behind, with,
+    CREATED, CREATION, REGISTER, REGISTERED, account, creation, found_bytes, lookup, with,
 };
-use std::alloc::{AllocError, Global};
+use std::alloc::Global;
 use std::process::Abort;
 use tb_records::{
-    Account, Body, Counting, CreateTransferResult, EventResult, FrameFault, ITEMS_MAX, Items,
-    Operation, Reply, ReplyBody, Request, Status, Transfer, read_reply, send_reply, write_reply,
-    write_request,
+    Account, Body, Counting, EventResult, FrameFault, Items, Operation, Reply, ReplyBody, Request,
+    Status, read_reply, send_reply, write_reply, write_request,
 };
-
-/// A chain of three events was broken by event 1, whose debit account is not found: the reply to the third request of session 1, by entry 4.
-const BROKEN_CHAIN: [u8; 72] = [
-    7, 0, 0, 0, 0, 0, 0, 0, 0, 0, 0, 0, 0, 0, 0, 0, //
-    1, 0, 0, 0, 0, 0, 0, 0, 3, 0, 0, 0, 0x82, 0, 0, 0, //
-    24, 0, 0, 0, 4, 0, 0, 0, 0, 0, 0, 0, 0, 0, 0, 0, //
-    0, 0, 0, 0, 1, 0, 0, 0, //
-    1, 0, 0, 0, 0x15, 0, 0, 0, //
-    2, 0, 0, 0, 1, 0, 0, 0,
-];
-
-/// Two transfers were found: the reply to the fourth, by entry 5.
-const MOVED: [u8; 48] = [
-    7, 0, 0, 0, 0, 0, 0, 0, 0, 0, 0, 0, 0, 0, 0, 0, //
-    1, 0, 0, 0, 0, 0, 0, 0, 4, 0, 0, 0, 0x84, 0, 0, 0, //
-    0, 1, 0, 0, 5, 0, 0, 0, 0, 0, 0, 0, 0, 0, 0, 0,
-];
-
-/// The fifth, a lookup of transfers, is refused: its session is too low.
-const TOO_LOW: [u8; 48] = [
-    7, 0, 0, 0, 0, 0, 0, 0, 0, 0, 0, 0, 0, 0, 0, 0, //
-    1, 0, 0, 0, 0, 0, 0, 0, 5, 0, 0, 0, 0x84, 2, 0, 0, //
-    0, 0, 0, 0, 0, 0, 0, 0, 0, 0, 0, 0, 0, 0, 0, 0,
-];
 
 /// The items, or NoMemory.
 fn items<T: Copy + Drop>(alloc: Global, slice: &[T]) -> Result<Items<T>, FrameFault> {
@@ -84,17 +59,6 @@ fn accounts(
 ) -> Result<Reply, FrameFault> {
     let body = ReplyBody::Accounts(items(alloc, found)?);
     answer(number, Operation::LookupAccounts, commit, body)
-}
-
-/// The reply that lists transfers.
-fn transfers(
-    alloc: Global,
-    number: u32,
-    commit: u64,
-    found: &[Transfer],
-) -> Result<Reply, FrameFault> {
-    let body = ReplyBody::Transfers(items(alloc, found)?);
-    answer(number, Operation::LookupTransfers, commit, body)
 }
 
 /// The reply to the lookup of accounts 2, 9 and 1.
@@ -161,30 +125,6 @@ fn replies_both_ways(rt: HostRuntime) {
     expect_both(&rt, alloc, found(alloc), &found_bytes());
 }
 
-/// An event of a batch and its result.
-fn event(index: u32, verdict: CreateTransferResult) -> EventResult {
-    let result = verdict.code();
-    EventResult { index, result }
-}
-
-#[test]
-fn results_both_ways(rt: HostRuntime) {
-    let codes = [
-        event(0, CreateTransferResult::LinkedEventFailed),
-        event(1, CreateTransferResult::DebitAccountNotFound),
-        event(2, CreateTransferResult::LinkedEventFailed),
-    ];
-    let reply = results(rt.alloc(), 3, Operation::CreateTransfers, 4, &codes);
-    expect_both(&rt, rt.alloc(), reply, &BROKEN_CHAIN);
-}
-
-#[test]
-fn transfers_both_ways(rt: HostRuntime) {
-    let reply = transfers(rt.alloc(), 4, 5, &[transfer(9), transfer(8)]);
-    let bytes = two_behind(&MOVED, &movement(9), &movement(8));
-    expect_both(&rt, rt.alloc(), reply, &bytes);
-}
-
 /// Says that the request is appended to other bytes as these.
 fn is_appended(alloc: Global, request: &Request, bytes: &[u8]) -> bool {
     let Ok(mut out) = REGISTER.to_vec(alloc) else {
@@ -249,112 +189,6 @@ fn reply_faults_in_order(rt: HostRuntime) {
         fault_in(alloc, &REGISTERED[..47]) == Some(FrameFault::Short),
         "a cut",
     );
-}
-
-/// The same of the reply to a creation.
-const CREATED_FAULTS: [(usize, u8, FrameFault); 6] = [
-    (24, 0, FrameFault::RequestZero),
-    (29, 4, FrameFault::ReplyNumbers),
-    (36, 1, FrameFault::ReplyNumbers),
-    (32, 4, FrameFault::BadLength),
-    (34, 1, FrameFault::TooMany),
-    (32, 8, FrameFault::Short),
-];
-
-#[test]
-fn created_faults_in_order(rt: HostRuntime) {
-    for (at, byte, fault) in &CREATED_FAULTS {
-        let found = fault_in(rt.alloc(), &with(&CREATED, *at, *byte));
-        holds_at(&rt, found == Some(*fault), at);
-    }
-}
-
-/// The operations of a register and of creating accounts, and one that is none.
-const OPENS: u8 = 2;
-
-const CREATES: u8 = 129;
-
-const UNKNOWN: u8 = 3;
-
-/// New replies that are refused, without a body and in session 1: the client, number and operation, the status, the commit, and the fault.
-const REFUSED: [((u128, u32, u8), Status, u64, FrameFault); 9] = [
-    ((0, 1, CREATES), Status::Reply, 2, FrameFault::ClientZero),
-    (
-        (7, 1, UNKNOWN),
-        Status::Reply,
-        2,
-        FrameFault::UnknownOperation,
-    ),
-    ((7, 1, OPENS), Status::Reply, 1, FrameFault::RegisterNumbers),
-    (
-        (7, 0, OPENS),
-        Status::NotYet,
-        0,
-        FrameFault::RegisterNumbers,
-    ),
-    ((7, 0, CREATES), Status::Reply, 2, FrameFault::RequestZero),
-    ((7, 0, OPENS), Status::Reply, 2, FrameFault::ReplyNumbers),
-    ((7, 1, CREATES), Status::Reply, 1, FrameFault::ReplyNumbers),
-    ((7, 1, CREATES), Status::Older, 2, FrameFault::ReplyNumbers),
-    ((7, 1, CREATES), Status::Reply, 2, FrameFault::BadLength),
-];
-
-/// The fault of a new reply in session 1 with no body.
-fn fault_of(
-    client: u128,
-    request: u32,
-    operation: u8,
-    status: Status,
-    commit: u64,
-) -> Option<FrameFault> {
-    Reply::new(
-        client,
-        1,
-        request,
-        operation,
-        status,
-        commit,
-        ReplyBody::Empty,
-    )
-    .err()
-}
-
-#[test]
-fn faults_of_new_replies(rt: HostRuntime) {
-    for ((client, request, operation), status, commit, fault) in &REFUSED {
-        let found = fault_of(*client, *request, *operation, *status, *commit);
-        holds_at(&rt, found == Some(*fault), operation);
-    }
-    let refusal = fault_of(7, 1, CREATES, Status::Older, 0);
-    holds(&rt, refusal.is_none(), "a refusal");
-    let registered = fault_of(7, 0, OPENS, Status::Reply, 1);
-    holds(&rt, registered.is_none(), "the reply to a register");
-}
-
-#[test]
-fn body_of_another_kind(rt: HostRuntime) {
-    let none: Vec<Account> = Vec::new(rt.alloc());
-    let reply = answer(
-        1,
-        Operation::LookupTransfers,
-        2,
-        ReplyBody::Accounts(Items::new(none)),
-    );
-    holds(&rt, reply.err() == Some(FrameFault::BadLength), "the body");
-}
-
-/// The refusal of the fifth request, a lookup of transfer 9.
-fn too_low(alloc: Global) -> Result<Reply, FrameFault> {
-    let ids = items(alloc, &[9u128])?;
-    let request = ask(5, Body::LookupTransfers(ids))?;
-    let refusal = Reply::refusal(&request, Status::SessionTooLow);
-    drop(request);
-    Ok(refusal)
-}
-
-#[test]
-fn refusals_name_the_request(rt: HostRuntime) {
-    expect_both(&rt, rt.alloc(), too_low(rt.alloc()), &TOO_LOW);
 }
 
 /// A copy of the reply to the lookup.
@@ -424,34 +258,6 @@ fn bodies_are_the_same(rt: HostRuntime) {
     holds(&rt, kept && !mistaken, "the body");
 }
 
-#[test]
-fn bodies_of_other_operations(rt: HostRuntime) {
-    let accounts = Body::LookupAccounts(items(rt.alloc(), &[1u128]).expect(&rt, "memory"));
-    let transfers = Body::LookupTransfers(items(rt.alloc(), &[1u128]).expect(&rt, "memory"));
-    let events = Body::CreateTransfers(items(rt.alloc(), &[transfer(1)]).expect(&rt, "memory"));
-    let mistaken = accounts.same(&transfers);
-    let kept = copies(rt.alloc(), &events);
-    drop(accounts);
-    drop(transfers);
-    drop(events);
-    holds(&rt, kept && !mistaken, "the body");
-}
-
-/// The reply that lists so many results.
-fn many(alloc: Global, count: usize) -> Result<Reply, FrameFault> {
-    let open = event(1, CreateTransferResult::LinkedEventChainOpen);
-    let codes = vec![in alloc; open; count]?;
-    let body = ReplyBody::Results(Items::new(codes));
-    answer(1, Operation::CreateTransfers, 2, body)
-}
-
-/// The frame of the reply; none where memory is wanting.
-fn frame_of(alloc: Global, reply: &Reply) -> Result<Vec<u8>, AllocError> {
-    let mut out = Vec::new(alloc);
-    write_reply(reply, &mut out)?;
-    Ok(out)
-}
-
 /// Writes a reply and reads it back. That no other one is read follows of the contracts alone: what was written is the
 /// reply's own encoding, of which there is one reading.
 fn read_back(alloc: Global, reply: &Reply) -> Result<Reply, FrameFault>
@@ -471,25 +277,4 @@ fn replies_come_back(rt: HostRuntime) {
     drop(read);
     drop(reply);
     holds(&rt, is_same, "the reply");
-}
-
-#[test]
-fn largest_reply(rt: HostRuntime) {
-    let most = many(rt.alloc(), ITEMS_MAX).expect(&rt, "a reply");
-    let bytes = frame_of(rt.alloc(), &most).expect(&rt, "memory");
-    let sizes = (most.body().len(), bytes.len());
-    let read = is_read(rt.alloc(), bytes.as_slice());
-    let sent = is_sent(rt.alloc(), &most, bytes.as_slice());
-    drop(bytes);
-    drop(most);
-    holds(
-        &rt,
-        read && sent && sizes == (ITEMS_MAX, 65568),
-        "the reply",
-    );
-    holds(
-        &rt,
-        many(rt.alloc(), ITEMS_MAX + 1).err() == Some(FrameFault::TooMany),
-        "the reply",
-    );
 }

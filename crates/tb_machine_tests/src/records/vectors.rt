@@ -1,5 +1,5 @@
 //! Frames and records in bytes, and as values.
-use tb_records::{Account, Transfer};
+use tb_records::Account;
 
 /// Client 7 registers.
 pub(crate) const REGISTER: [u8; 48] = [
@@ -49,7 +49,7 @@ fn last(time: u8) -> [u8; 16] {
 }
 
 /// The 128 bytes of an account.
-pub(crate) fn record(id: u8, time: u8) -> [u8; 128] {
+fn record(id: u8, time: u8) -> [u8; 128] {
     let mut bytes = [0; 128];
     bytes[0] = id;
     bytes[112..].copy_from_slice(&last(time));
@@ -67,31 +67,8 @@ pub(crate) fn account(id: u128, timestamp: u64) -> Account {
     }
 }
 
-/// The 128 bytes of a transfer of 30 from account 1 to account 2, made at 20.
-pub(crate) fn movement(id: u8) -> [u8; 128] {
-    let mut bytes = record(id, 20);
-    bytes[16] = 1;
-    bytes[32] = 2;
-    bytes[48] = 30;
-    bytes
-}
-
-/// That transfer.
-pub(crate) fn transfer(id: u128) -> Transfer {
-    Transfer {
-        id,
-        debit_account_id: 1,
-        credit_account_id: 2,
-        amount: 30,
-        ledger: 700,
-        code: 10,
-        timestamp: 20,
-        ..Transfer::default()
-    }
-}
-
 /// A header, and two records behind it.
-pub(crate) fn two_behind(header: &[u8; 48], one: &[u8; 128], other: &[u8; 128]) -> [u8; 304] {
+fn two_behind(header: &[u8; 48], one: &[u8; 128], other: &[u8; 128]) -> [u8; 304] {
     let mut bytes = [0; 304];
     let (front, records) = bytes.split_at_mut(48);
     front.copy_from_slice(header);
@@ -128,12 +105,4 @@ pub(crate) fn with(header: &[u8; 48], at: usize, byte: u8) -> [u8; 48] {
         *place = byte;
     }
     changed
-}
-
-/// The first bytes, at most so many.
-pub(crate) fn first(bytes: &[u8], count: usize) -> &[u8] {
-    match bytes.get(..count) {
-        Some(front) => front,
-        None => bytes,
-    }
 }
