@@ -438,7 +438,7 @@ def in_python():
 
 
 def in_pages(page):
-    """What docs/use/FORMATS.md says of operations, statuses, flags and faults."""
+    """What docs/use/FORMATS.md says of operations, statuses and flags."""
     by_number = {
         name: {number: text for number, text in defined(file, number_word, text_word).values()}
         for file, number_word, text_word, _, _, name in KINDS
@@ -462,10 +462,3 @@ def in_pages(page):
             by_number[name],
             {int(bit): flag for bit, flag in re.findall(r"(\d+) (\w+)", listed)},
         )
-    (listed,) = re.findall(r"`FrameFault::number` returns (.*?);", page, re.S)
-    faults = {int(number): name for number, name in re.findall(r"(\d+) (\w+)", listed)}
-    yield same(
-        "faults on the page of formats",
-        {number: it for it, number in numbers(spec("Faults"), "fault_number").items()},
-        faults,
-    )

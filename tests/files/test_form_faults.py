@@ -77,10 +77,10 @@ def is_told(told, fault, file, news=("",)):
 @pytest.mark.parametrize("call, why, fault", FAULTS)
 @pytest.mark.parametrize("words", ["check ledger", "dump ledger", "dump ledger --after 1"])
 def test_a_form_that_reads(tbd, shim, tmp_path, words, call, why, fault):
-    """It syncs and writes nothing. The first read of a dump looks whether the file is a log's; if
-    it fails the file is read as a ledger's."""
+    """It syncs and writes nothing. The first read looks whether the file is a log's; if it fails
+    the file is read as a ledger's."""
     failing = Failing(tbd, shim, tmp_path, words)
-    told = list(failing.turns("a ledger", call, why, 2 if words.startswith("dump") else 1))
+    told = list(failing.turns("a ledger", call, why, 2))
     assert bool(told) == (call == "read")
     whole = {"check ledger": b"", "dump ledger": kinds.DUMP}.get(words, kinds.ENTRIES[1])
     for number, it in told:

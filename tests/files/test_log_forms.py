@@ -74,7 +74,6 @@ ROTTEN = (
     "words, told",
     [
         (["run", "ledger", "2"], NO_HEAD),
-        (["check", "ledger"], NO_HEAD),
         (["salvage", "ledger", "new"], NO_HEAD),
         (["follow", "ledger", "3"], RULES),
         (["follow", "ledger", "2", "2"], RULES),
