@@ -87,8 +87,13 @@ REFUSED = {
     "no such moment": (journal(HEAD, FIRST, registered(2, 1 << 63, 8)), 6, b"next: Time"),
     "a short record": (journal(HEAD, FIRST, SECOND[:15]), 6, b"entry 2 is none: Short"),
     "no frame": (journal(HEAD, FIRST, SECOND + b"\0"), 6, b"entry 2 is none: BadLength"),
-    "no latch": (journal(HEAD, FIRST)[:-4], 6, b"the block at byte"),
-    "a rotten record": (journal(HEAD, FIRST).replace(b"TBK1", b"TBK2"), 6, b"at byte 8"),
+    "no latch": (journal(HEAD, FIRST)[:-4], 6, b"the block at byte 100 (entry 2) is not what"),
+    "a rotten head": (
+        journal(HEAD, FIRST).replace(b"TBK1", b"TBK2"),
+        6,
+        b"at byte 8 (the head) is",
+    ),
+    "a rotten entry": (journal(HEAD, FIRST).replace(FIRST, SECOND), 6, b"at byte 25 (entry 1) is"),
     "many torn bytes": (journal(HEAD, FIRST, behind=bytes(TORN_MAX + 1)), 6, b"than one batch"),
 }
 

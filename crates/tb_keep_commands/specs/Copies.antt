@@ -191,7 +191,7 @@ module _ {O D E : Type 0} (its : KnownFiles O D E) (new : List ℕ) where
 
 -- rows
 
-pub three_rescued : rescued_text (record { copied = record { entries = 9; time = 19; end = 94; behind = 88; damage = Some (Block 94) }; more = 3; first = 182 })
+pub three_rescued : rescued_text (record { copied = record { entries = 9; time = 19; end = 94; behind = 88; damage = Some (Block 94 None) }; more = 3; first = 182 })
     ≡ codes "entries 9\nlast commit 9\nlast time 19\nbytes lost 88 behind byte 94: Damaged: at byte 94\nread on 3 of the entries from byte 182\n"
 unfolding digits
 three_rescued = refl
@@ -201,7 +201,7 @@ pub two_copied : copied_text (record { entries = 2; time = 11; end = 182; behind
 unfolding digits
 two_copied = refl
 
-pub one_copied : copied_text (record { entries = 1; time = 10; end = 94; behind = 88; damage = Some (Block 94) })
+pub one_copied : copied_text (record { entries = 1; time = 10; end = 94; behind = 88; damage = Some (Block 94 None) })
     ≡ codes "entries 1\nlast commit 1\nlast time 10\nbytes lost 88 behind byte 94: Damaged: at byte 94\n"
 unfolding digits
 one_copied = refl

@@ -102,7 +102,7 @@ disk_fault disk.SyncFailed = SyncFailed
 
 abbrev pub refused_fault : Refusal → KeepCommandFault
 refused_fault refusal.NotAJournal = NotAJournal kind.Unread
-refused_fault (refusal.Damaged at) = Damaged (Block at)
+refused_fault (refusal.Damaged at) = Damaged (Block at None)
 
 abbrev pub opened_fault : OpenFault → KeepCommandFault
 opened_fault (opened.Refused why) = refused_fault why
@@ -206,14 +206,21 @@ abbrev pub place_line : List ℕ → ℕ → List ℕ → List ℕ
 place_line first place what = line_of (numbered first place ++ (codes ": " ++ what))
 
 abbrev pub damage_text : Damage → List ℕ
-damage_text (Block at) = codes "at byte " ++ decimal at
+damage_text (Block at entry) = codes "at byte " ++ decimal at
 damage_text (Record place fault) = codes "record " ++ decimal place ++ (codes ": " ++ fault_name fault)
 damage_text (Entry fault) = codes "record " ++ decimal fault.place ++ (codes ": " ++ unfit_name fault.cause)
 damage_text (Torn at bytes) = (decimal bytes ++ codes " bytes behind byte ") ++ (decimal at ++ codes ", more than one batch can have")
 
+-- of which entry a block is that is not what was written: record 0 is the head
+abbrev pub unread_text : Option ℕ → List ℕ
+unread_text None = codes " is not what was written"
+unread_text (Some n) =
+    if n == 0 then codes " (the head) is not what was written"
+    else codes " (entry " ++ counted n (codes ") is not what was written")
+
 -- the same in a line of its own, of a file with this path: entry N is the record N behind the head
 abbrev pub harm_text : Damage → List ℕ
-harm_text (Block at) = codes "the block at byte " ++ (decimal at ++ codes " is not what was written")
+harm_text (Block at entry) = numbered (codes "the block at byte ") at ++ unread_text entry
 harm_text (Record place fault) = numbered (codes "entry ") place ++ (codes " is none: " ++ fault_name fault)
 harm_text (Entry fault) = numbered (codes "entry ") fault.place ++ (codes " may not come next: " ++ unfit_name fault.cause)
 harm_text (Torn at bytes) = counted bytes (codes " bytes are behind byte ") ++ counted at (codes ", more than one batch can have")
@@ -224,6 +231,17 @@ damaged_text first damage path next = named first path (codes ": ") ++ (harm_tex
 
 abbrev pub damage_line : Damage → List ℕ → List ℕ → List ℕ
 damage_line damage path next = line_of (damaged_text (codes "tbd: Damaged: ") damage path next)
+
+-- it is known that the head is damaged, without which no file is read
+abbrev pub is_of_head : Damage → Bool
+is_of_head (Block at (Some n)) = n == 0
+is_of_head damage = false
+
+-- what is to be done about damage of a ledger's file
+abbrev pub next_of : Damage → List ℕ
+next_of damage =
+    if is_of_head damage then codes "; restore a backup: tbd salvage needs the head"
+    else codes "; tbd salvage makes a new file of the entries before it"
 
 -- what is wrong with an entry in the file of this path, and what is to be done
 abbrev pub wrong_text : WrongEntry → List ℕ → List ℕ → List ℕ
@@ -289,7 +307,7 @@ fault_text NoMemory path = codes "NoMemory"
 fault_text (Request fault) path = run_fault_name fault
 fault_text (NotAJournal kind) path = kind_text kind path
 fault_text NoHead path = named (codes "NotAJournal: ") path (codes " has no ledger's head; tbd follow serves a log")
-fault_text (Damaged damage) path = damaged_text (codes "Damaged: ") damage path (codes "; tbd salvage makes a new file of the entries before it")
+fault_text (Damaged damage) path = damaged_text (codes "Damaged: ") damage path (next_of damage)
 fault_text (OtherRules numbers) path = mismatch_text numbers path
 fault_text Full path = full_text path
 fault_text SyncFailed path = sync_text path
@@ -412,10 +430,16 @@ read_line read all = line_of (read_text read all)
 -- rows
 
 pub line_of_a_block :
-    fault_line (Damaged (Block 94)) (codes "ledger")
-    ≡ codes "tbd: Damaged: ledger: the block at byte 94 is not what was written; tbd salvage makes a new file of the entries before it\n"
+    fault_line (Damaged (Block 94 (Some 3))) (codes "ledger")
+    ≡ codes "tbd: Damaged: ledger: the block at byte 94 (entry 3) is not what was written; tbd salvage makes a new file of the entries before it\n"
 unfolding digits printable chars lib.Utf8.encode
 line_of_a_block = refl
+
+pub line_of_a_head :
+    fault_line (Damaged (Block 8 (Some 0))) (codes "ledger")
+    ≡ codes "tbd: Damaged: ledger: the block at byte 8 (the head) is not what was written; restore a backup: tbd salvage needs the head\n"
+unfolding digits printable chars lib.Utf8.encode
+line_of_a_head = refl
 
 pub line_of_a_name : fault_line (Opening opening.Missing) (codes "ledger") ≡ codes "tbd: Device: cannot find ledger; look at its name and at its folder\n"
 unfolding printable chars lib.Utf8.encode

@@ -40,7 +40,7 @@ impl fmt::Display for Damage {
 
     fn fmt<W: fmt::Write>(&self, f: &mut fmt::Formatter<W>) -> fmt::Result {
         match *self {
-            Damage::Block { at } => write!(f, "at byte {at}"),
+            Damage::Block { at, .. } => write!(f, "at byte {at}"),
             Damage::Record { place, fault } => {
                 let name = fault.name();
                 write!(f, "record {place}: {name}")

@@ -73,22 +73,26 @@ fn end_copy<N: Device + Drop, W: Sink>(
 }
 
 /// The fault of a file that was not copied, with what there is to say of it.
-fn named_copy<D: Device>(from: &mut D, fault: SalvageFault) -> KeepCommandFault
+fn named_copy<D: Device>(alloc: Global, from: &mut D, fault: SalvageFault) -> KeepCommandFault
     ensures { NamesCopy D.Device fault result from.old from.new }
 {
     match fault {
-        SalvageFault::Old(fault) => named(from, fault),
+        SalvageFault::Old(fault) => named(alloc, from, fault),
         SalvageFault::New(fault) => new_fault(started_fault(fault)),
     }
 }
 
 /// The same, of a new file that was not made to its end.
-fn uncopied<D: Device, N: Device + Drop>(from: &mut D, failed: NotSalvaged<N>) -> KeepCommandFault
+fn uncopied<D: Device, N: Device + Drop>(
+    alloc: Global,
+    from: &mut D,
+    failed: NotSalvaged<N>,
+) -> KeepCommandFault
     ensures { NamesCopy D.Device failed.fault result from.old from.new }
 {
     let NotSalvaged { device, fault } = failed;
     drop(device);
-    named_copy(from, fault)
+    named_copy(alloc, from, fault)
 }
 
 /// Writes what was copied of a file, and read on behind its damage.
@@ -132,7 +136,7 @@ fn rescue<D: Live, N: Device + Drop, W: Sink>(
         }
         Err(fault) => {
             drop(keeper);
-            Err(named_copy(from, fault))
+            Err(named_copy(alloc, from, fault))
         }
     }
 }
@@ -170,7 +174,7 @@ fn copy_long<D: Live, N: Device + Drop, W: Sink>(
 {
     match salvage(alloc, from, into) {
         Ok(salvaged) => end_by(alloc, from, len, salvaged, whole, writer),
-        Err(failed) => Err(uncopied(from, failed)),
+        Err(failed) => Err(uncopied(alloc, from, failed)),
     }
 }
 
@@ -226,7 +230,7 @@ fn copy_headed<O: Opener, W: Sink>(
 {
     match read_rules(alloc, from) {
         Ok(_rules) => copy_made(alloc, opener, new, from, whole, writer),
-        Err(fault) => Err(named(from, fault)),
+        Err(fault) => Err(named(alloc, from, fault)),
     }
 }
 

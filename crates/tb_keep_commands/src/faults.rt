@@ -1,6 +1,6 @@
 //! Why a command ends with an exit status other than 0.
 ghost use Rattle.std.specs.Prelude.{◌≡◌, ◌<◌};
-ghost use Rattle.tb_keep_commands.specs.ExitStatuses.{fault_path, fault_exit_status, opening_exit_status, new_fault, numbers_of, opened_fault, read_fault, reason_fault, refused_fault, disk_fault, dumped_fault, started_fault, kept_fault, words_fault};
+ghost use Rattle.tb_keep_commands.specs.ExitStatuses.{is_of_head, fault_path, fault_exit_status, opening_exit_status, new_fault, numbers_of, opened_fault, read_fault, reason_fault, refused_fault, disk_fault, dumped_fault, started_fault, kept_fault, words_fault};
 
 use crate::asides::{Reason, Uncopied};
 use crate::kinds::Kind;
@@ -55,14 +55,30 @@ pub(crate) fn numbers_of(rules: Rules) -> Numbers
 /// What is damaged in a file.
 #[derive(Clone, Copy, Debug, PartialEq, Eq)]
 pub enum Damage {
-    /// The block at this offset is not whole, or its checksum does not match.
-    Block { at: usize },
+    /// The block at this offset is not whole, or its checksum does not match: that of the record of this number, or of one that was
+    /// not counted. Record 0 is the head, and each record behind it has the number that its entry has.
+    Block { at: usize, entry: Option<u64> },
     /// The record of this place, 1, 2, 3 and so on behind the head, is that of no entry.
     Record { place: u64, fault: FrameFault },
     /// The entry may not come next.
     Entry(RestoreFault),
     /// Behind the records, which end at this offset, are more bytes than a batch can have that was not committed.
     Torn { at: u64, bytes: u64 },
+}
+
+impl Damage {
+    /// Says whether it is known that the head is damaged, without which no file is read.
+    pub(crate) fn is_of_head(self) -> bool
+        ensures { result ≡ is_of_head self }
+    {
+        match self {
+            Damage::Block {
+                entry: Some(entry),
+                ..
+            } => entry == 0,
+            _ => false,
+        }
+    }
 }
 
 /// Why a command ends with an exit status other than 0.
@@ -128,7 +144,7 @@ fn refused_fault(why: Refusal) -> KeepCommandFault
 {
     match why {
         Refusal::NotAJournal => KeepCommandFault::NotAJournal(Kind::Unread),
-        Refusal::Damaged { at } => KeepCommandFault::Damaged(Damage::Block { at }),
+        Refusal::Damaged { at } => { KeepCommandFault::Damaged(Damage::Block { at, entry: None }) }
     }
 }
 

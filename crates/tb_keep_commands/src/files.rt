@@ -94,7 +94,7 @@ pub(crate) fn dump<D: Device, W: Sink>(
 {
     match read_whole(alloc, device) {
         Ok(found) => dump_found(alloc, device, found, writer),
-        Err(fault) => Err(named(device, fault)),
+        Err(fault) => Err(named(alloc, device, fault)),
     }
 }
 
@@ -123,7 +123,7 @@ fn check_long<D: Device, W: Sink>(
 {
     match read_by(alloc, device, quick) {
         Ok(found) => report(alloc, found.summary(len, quick), writer),
-        Err(fault) => Err(named(device, fault)),
+        Err(fault) => Err(named(alloc, device, fault)),
     }
 }
 

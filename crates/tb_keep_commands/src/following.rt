@@ -204,6 +204,6 @@ pub(crate) fn follow<O: Opener, W: Outlet>(
 {
     match read_whole(alloc, device) {
         Ok(found) => part_found(alloc, opener, device, found.rules, writer, part),
-        Err(fault) => Err(named(device, fault)),
+        Err(fault) => Err(named(alloc, device, fault)),
     }
 }

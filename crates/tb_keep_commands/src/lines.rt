@@ -1,6 +1,6 @@
 //! The lines of standard error.
 ghost use Rattle.std.specs.Prelude.{◌≡◌, ◌++◌, Some, codes, map, string_bytes};
-ghost use Rattle.tb_keep_commands.specs.ExitStatuses.{damage_line, harm_text, damaged_text, opening_text, wrong_text, failed_text, kind_text, numbers_text, both_text, mismatch_text, fault_text, fault_line, reading_line, shown_words, said_text, wrong_line, usage_lines, counted, line_of, named, numbered, place_line, read_line, rules_text, said_with, Passes, Says, TellsMade, TellsCut, TellsReading, TellsReady, TellsFrames};
+ghost use Rattle.tb_keep_commands.specs.ExitStatuses.{damage_line, harm_text, unread_text, next_of, damaged_text, opening_text, wrong_text, failed_text, kind_text, numbers_text, both_text, mismatch_text, fault_text, fault_line, reading_line, shown_words, said_text, wrong_line, usage_lines, counted, line_of, named, numbered, place_line, read_line, rules_text, said_with, Passes, Says, TellsMade, TellsCut, TellsReading, TellsReady, TellsFrames};
 ghost use Rattle.tb_keep_commands.specs.Asides.{uncopied_text};
 ghost use Rattle.tb_keep_commands.specs.Forms.{wrong};
 ghost use Rattle.tb_keep_commands.specs.Printable.{printable};
@@ -119,17 +119,37 @@ fn put_between<E: Sink>(
     }
 }
 
+/// Writes of which entry a block is that is not what was written, behind its place.
+fn put_unread<E: Sink>(faults: &mut E, entry: Option<u64>) -> Result<(), FrameFault>
+    ensures { Puts E.Sink result (unread_text entry) faults }
+{
+    match entry {
+        None => put_all(faults, b" is not what was written"),
+        Some(number) => {
+            if number == 0 {
+                return put_all(faults, b" (the head) is not what was written");
+            }
+            put_between(faults, " (entry ", number, ") is not what was written")
+        }
+    }
+}
+
+/// Writes that the block at this offset, of this entry, is not what was written.
+fn put_block<E: Sink>(faults: &mut E, at: u64, entry: Option<u64>) -> Result<(), FrameFault>
+    ensures { Puts E.Sink result (numbered (codes "the block at byte ") at ++ unread_text entry) faults }
+{
+    match put_number(faults, "the block at byte ", at) {
+        Ok(()) => put_unread(faults, entry),
+        Err(fault) => Err(fault),
+    }
+}
+
 /// Writes what is damaged.
 fn put_harm<E: Sink>(faults: &mut E, damage: Damage) -> Result<(), FrameFault>
     ensures { Puts E.Sink result (harm_text damage) faults }
 {
     match damage {
-        Damage::Block { at } => put_between(
-            faults,
-            "the block at byte ",
-            at as u64,
-            " is not what was written",
-        ),
+        Damage::Block { at, entry } => put_block(faults, at as u64, entry),
         Damage::Record { place, fault } => {
             put_place(faults, "entry ", place, " is none: ", fault.name())
         }
@@ -216,8 +236,16 @@ fn put_harmed<E: Sink>(faults: &mut E, damage: Damage, last: &str) -> Result<(),
     }
 }
 
-/// What is to be done about damage.
-const SALVAGE: &str = "; tbd salvage makes a new file of the entries before it";
+/// What is to be done about damage of a ledger's file.
+fn next_of(damage: Damage) -> &'static str
+    ensures { result.now ≡ next_of damage }
+{
+    if damage.is_of_head() {
+        "; restore a backup: tbd salvage needs the head"
+    } else {
+        "; tbd salvage makes a new file of the entries before it"
+    }
+}
 
 /// Writes a text, what is damaged in a file of this path, and what is to be done.
 fn put_damaged<E: Sink>(
@@ -416,7 +444,7 @@ fn put_fault<E: Sink>(faults: &mut E, fault: KeepCommandFault, path: &str) -> Re
         KeepCommandFault::NotAJournal(kind) => put_kind(faults, kind, path),
         KeepCommandFault::NoHead => put_named(faults, "NotAJournal: ", path, NO_HEAD),
         KeepCommandFault::Damaged(damage) => {
-            put_damaged(faults, "Damaged: ", damage, path, SALVAGE)
+            put_damaged(faults, "Damaged: ", damage, path, next_of(damage))
         }
         KeepCommandFault::OtherRules(numbers) => put_mismatch(faults, numbers, path),
         KeepCommandFault::Full => put_named(faults, "Full: ", path, FULL),

@@ -1,12 +1,14 @@
 //! What there is to say of a file that is refused.
 ghost use Rattle.std.specs.Prelude.{◌≡◌, ℕ, List};
-ghost use Rattle.tb_keep_commands.specs.Naming.{IsOfKind, IsMadeWith, Names, NamesAsked};
+ghost use Rattle.tb_journal.specs.Opening.{HasOpenCause};
+ghost use Rattle.tb_keep.specs.Creating.{IsUntouched};
+ghost use Rattle.tb_keep_commands.specs.Naming.{IsEntryAt, IsOfKind, IsMadeWith, IsReadable, Names, NamesAsked};
 ghost use Rattle.tb_keep_commands.specs.ExitStatuses.{started_fault};
 
-use crate::faults::{KeepCommandFault, Mismatch, numbers_of, started_fault};
+use crate::faults::{Damage, KeepCommandFault, Mismatch, numbers_of, started_fault};
 use crate::kinds::{FIRST_BYTES, Kind, kind_of};
 use std::alloc::Global;
-use tb_journal::Device;
+use tb_journal::{Device, Extent, OpenFault, Scan};
 use tb_keep::{Rules, StartFault, read_rules};
 
 /// What a file is that holds no ledger. Its first bytes are read.
@@ -21,12 +23,55 @@ fn kind_in<D: Device>(device: &mut D) -> Kind
     }
 }
 
+/// How far a file is readable: to the end of its records, or to the first block that is not what was written.
+fn readable<D: Device>(alloc: Global, device: &mut D) -> Result<Extent, OpenFault>
+    ensures found { (file : List ℕ) → D.holds device.old file → IsReadable result file }
+    ensures same { (file : List ℕ) → D.holds device.old file → D.holds device.new file }
+    ensures untouched { D.tells → IsUntouched (D.disk device.old) (D.disk device.new) }
+    ensures cause { D.tells → HasOpenCause result (D.disk device.old) (D.disk device.new) }
+{
+    let mut scan = match Scan::start(alloc, device) {
+        Ok(scan) => scan,
+        Err(fault) => return Err(fault),
+    };
+    loop {
+        let extent = scan.extent();
+        match scan.next(device) {
+            Ok(true) => {}
+            Ok(false) => return Ok(extent),
+            Err(OpenFault::Refused(_)) => return Ok(extent),
+            Err(OpenFault::Device(fault)) => return Err(OpenFault::Device(fault)),
+        }
+    }
+}
+
+/// The number of the record at this offset, which is that of its entry: so many records are before it. The file is read up to there;
+/// None where that fails, or the file is no longer damaged there.
+fn entry_at<D: Device>(alloc: Global, device: &mut D, at: usize) -> Option<u64>
+    ensures { IsEntryAt D.Device at result device.old device.new }
+{
+    match readable(alloc, device) {
+        Ok(extent) => {
+            if extent.end == at {
+                Some(extent.count as u64)
+            } else {
+                None
+            }
+        }
+        Err(_) => None,
+    }
+}
+
 /// The fault of a file that is refused, with what there is to say of it.
-pub(crate) fn named<D: Device>(device: &mut D, fault: StartFault) -> KeepCommandFault
+pub(crate) fn named<D: Device>(alloc: Global, device: &mut D, fault: StartFault) -> KeepCommandFault
     ensures { Names D.Device (started_fault fault) result device.old device.new }
 {
     match started_fault(fault) {
         KeepCommandFault::NotAJournal(_) => KeepCommandFault::NotAJournal(kind_in(device)),
+        KeepCommandFault::Damaged(Damage::Block { at, .. }) => {
+            let entry = entry_at(alloc, device, at);
+            KeepCommandFault::Damaged(Damage::Block { at, entry })
+        }
         fault => fault,
     }
 }
@@ -55,6 +100,6 @@ pub(crate) fn named_asked<D: Device>(
 {
     match fault {
         StartFault::OtherRules => KeepCommandFault::OtherRules(made_with(alloc, device, asked)),
-        fault => named(device, fault),
+        fault => named(alloc, device, fault),
     }
 }
