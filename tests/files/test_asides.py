@@ -46,8 +46,8 @@ class Kept:
     def copies(self):
         return sorted(self.path.parent.glob(f"{self.path.name}.cut-*"))
 
-    def news(self, torn=TORN):
-        copied = f"tbd: copied {len(torn)} bytes, from byte {len(self.data)} on, to "
+    def news(self, torn=TORN, wholes="0 whole entries"):
+        copied = f"tbd: copied {len(torn)} bytes, from byte {len(self.data)} on, {wholes}, to "
         where = len(self.data) - 4
         return (
             f"{copied}{self.copy(torn).name}\n"
@@ -76,6 +76,51 @@ def test_torn_bytes_are_copied(kept):
     assert kept.is_whole()
     assert kept.copy().stat().st_mode & 0o777 == 0o600
     assert kept.starts() == (0, "") and kept.copies() == [kept.copy()]
+
+
+def block(record):
+    """A block behind its latch."""
+    length = len(record).to_bytes(3, "little")
+    return length + struct.pack("<I", crc32c(length + record)) + record
+
+
+def entry(commit):
+    frame = request_frame(7 + commit, 0, 0, Operation.register, b"")
+    return struct.pack("<QQ", commit, 9 + commit) + frame
+
+
+OPEN, CLOSED = bytes([255] * 4), bytes([90, 195, 150, 105])
+SECOND, THIRD, FOURTH = (block(entry(commit)) for commit in (2, 3, 4))
+WHOLES = {
+    "a batch": (OPEN.join((SECOND, THIRD, FOURTH)) + CLOSED, "3 whole entries (2 to 4)"),
+    "the first of two": (SECOND + OPEN + THIRD[:-1], "1 whole entry (2)"),
+    "no latch behind it": (SECOND, "1 whole entry (2)"),
+    "another latch": (SECOND + b"\1\2\3\4" + THIRD, "2 whole entries (2 to 3)"),
+    "behind the end": (SECOND + CLOSED + THIRD + CLOSED, "1 whole entry (2)"),
+    "one left out": (SECOND + OPEN + FOURTH + CLOSED, "1 whole entry (2)"),
+    "a rotten one": (SECOND[:-1] + b"\1" + OPEN + THIRD + CLOSED, "0 whole entries"),
+    "a short record": (block(b"TBK1\1\2") + CLOSED, "0 whole entries"),
+    "part of a length": (SECOND[:2], "0 whole entries"),
+}
+
+
+@pytest.mark.parametrize("name", WHOLES)
+def test_whole_entries_are_counted(kept, name):
+    torn, wholes = WHOLES[name]
+    kept.is_torn(torn)
+    assert kept.starts() == (0, kept.news(torn, wholes))
+    assert kept.is_whole(torn)
+
+
+def test_whole_entries_of_a_log_are_counted(program, tmp_path):
+    words = [program("tbd").resolve(), "follow", "log", "8"]
+    how = {"cwd": tmp_path, "capture_output": True, "check": True}
+    subprocess.run(words, input=b"", **how)
+    data = (tmp_path / "log").read_bytes()
+    records = (struct.pack("<4s3BQ", b"TBF1", 1, 8, 2, position) + bytes(64) for position in (1, 2))
+    (tmp_path / "log").write_bytes(data + OPEN.join(map(block, records)) + CLOSED)
+    said = subprocess.run(words, input=b"", **how).stderr.decode()
+    assert f"from byte {len(data)} on, 2 whole entries (1 to 2), to log.cut-" in said
 
 
 def test_the_same_bytes_have_one_copy(kept):

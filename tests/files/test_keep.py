@@ -744,7 +744,8 @@ def test_told_of_ends(tbd, folder):
         == (
             0,
             b"",
-            f"tbd: copied 3 bytes, from byte {len(data)} on, to torn.tbk.cut-{len(data)}-{COPIED}\n"
+            f"tbd: copied 3 bytes, from byte {len(data)} on, 0 whole entries,"
+            f" to torn.tbk.cut-{len(data)}-{COPIED}\n"
             f"tbd: cut 3 bytes of a batch that was not committed, behind byte {len(data) - 4}\n",
         ),
         told,

@@ -6,6 +6,7 @@
 //!
 //! - `descriptors`: `HighFiles`, files that take none of the descriptors of the standard streams.
 //! - `copies`: copies of what a start cuts off.
+//! - `wholes`: the whole entries among them.
 //! - `names`: `Name`, what the name of an open file leads to.
 //! - `files`: the files of the system, by their paths.
 #![tactic(auto)]
@@ -14,6 +15,7 @@ mod copies;
 mod descriptors;
 mod files;
 mod names;
+mod wholes;
 
 use files::{SystemFiles, lines};
 use std::cell::Cell;

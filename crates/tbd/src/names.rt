@@ -2,6 +2,8 @@
 
 use crate::copies::copy;
 use crate::files::lines;
+use crate::wholes::Wholes;
+use std::alloc::AllocError;
 use std::cell::Cell;
 use std::fs::{File, Metadata};
 use std::os::unix::fs::MetadataExt;
@@ -52,10 +54,17 @@ impl<'a> Name<'a> {
         same && found.nlink() > 0 && found.len() == len as u64
     }
 
-    /// Reports that so many bytes from an offset on have a copy of this name. Where there is no memory for that nothing is reported.
-    fn report(&self, at: usize, count: usize, name: &str) {
+    /// The line of a copy of bytes that are in the file from an offset on, up to its name.
+    fn copied(&self, at: usize, bytes: &[u8]) -> Result<String, AllocError> {
         let alloc = self.rt.alloc();
-        if let Ok(first) = format!(in alloc; "tbd: copied {count} bytes, from byte {at} on, to ") {
+        let (count, wholes) = (bytes.len(), Wholes::of(bytes).text(alloc)?);
+        format!(in alloc; "tbd: copied {count} bytes, from byte {at} on, {wholes}, to ")
+    }
+
+    /// Reports that bytes that are in the file from an offset on have a copy of this name. Where there is no memory for that nothing is
+    /// reported.
+    fn report(&self, at: usize, bytes: &[u8], name: &str) {
+        if let Ok(first) = self.copied(at, bytes) {
             let mut faults = Counting::new(lines(self.rt));
             tell_named(first.as_str(), name, "", &mut faults);
         }
@@ -80,7 +89,7 @@ impl<'a> Place for Name<'a> {
         }
         match copy(self.rt, self.path.as_str(), at, bytes) {
             Ok(name) => {
-                self.report(at, bytes.len(), name.as_str());
+                self.report(at, bytes, name.as_str());
                 Ok(())
             }
             Err(why) => {

@@ -1,0 +1,94 @@
+//! The whole entries among bytes that a start cuts off.
+
+use std::alloc::{AllocError, Global};
+use std::format;
+use tb_journal::checksum_of;
+
+/// The latch at the end of a journal's records.
+const CLOSED: &[u8] = &[90, 195, 150, 105];
+
+/// So many whole entries, of which the first has this number.
+#[derive(Clone, Copy)]
+pub struct Wholes {
+    first: u64,
+    count: u64,
+}
+
+/// The record of the block that the bytes begin with, behind its latch, and the bytes behind it; None where it is not whole.
+fn block(bytes: &[u8]) -> Option<(&[u8], &[u8])> {
+    match bytes {
+        [a, b, c, s, t, u, v, rest @ ..] => {
+            let len = u32::from_le_bytes([*a, *b, *c, 0]) as usize;
+            let sum = u32::from_le_bytes([*s, *t, *u, *v]);
+            let (record, behind) = rest.split_at_checked(len)?;
+            if checksum_of(&[*a, *b, *c], record) == sum {
+                Some((record, behind))
+            } else {
+                None
+            }
+        }
+        _ => None,
+    }
+}
+
+/// The number of the entry of a record: in a log its position, behind the mark, and in a ledger its commit number.
+fn number(record: &[u8]) -> Option<u64> {
+    match record {
+        [b'T', b'B', b'F', b'1', _, _, 2, a, b, c, d, e, f, g, h, ..] => Some(u64::from_le_bytes([
+            *a, *b, *c, *d, *e, *f, *g, *h,
+        ])),
+        [a, b, c, d, e, f, g, h, ..] => {
+            Some(u64::from_le_bytes([*a, *b, *c, *d, *e, *f, *g, *h]))
+        }
+        _ => None,
+    }
+}
+
+impl Wholes {
+    /// The entries that bytes begin with behind a latch, each of which has the next number.
+    pub fn of(bytes: &[u8]) -> Wholes {
+        let mut wholes = Wholes { first: 0, count: 0 };
+        let mut rest = bytes;
+        for _ in 0..bytes.len() {
+            let Some((record, behind)) = block(rest) else {
+                break;
+            };
+            if !wholes.takes(number(record)) {
+                break;
+            }
+            match behind.split_at_checked(CLOSED.len()) {
+                Some((latch, next)) if latch != CLOSED => rest = next,
+                _ => break,
+            }
+        }
+        wholes
+    }
+
+    /// Counts the entry of this number, if that is the next one.
+    fn takes(&mut self, number: Option<u64>) -> bool {
+        let Some(number) = number else {
+            return false;
+        };
+        if self.count == 0 {
+            self.first = number;
+        }
+        let next = self.first.saturating_add(self.count);
+        if number == next {
+            self.count = self.count.saturating_add(1);
+        }
+        number == next
+    }
+
+    /// How many they are, and their numbers.
+    pub fn text(self, alloc: Global) -> Result<String, AllocError> {
+        let first = self.first;
+        match self.count {
+            0 => format!(in alloc; "0 whole entries"),
+            1 => format!(in alloc; "1 whole entry ({first})"),
+            count => {
+                let last = first.saturating_add(count).saturating_sub(1);
+                format!(in alloc; "{count} whole entries ({first} to {last})")
+            }
+        }
+    }
+}
