@@ -145,11 +145,13 @@ TORN_LONG = (
     f"tbd: Damaged: ledger: {kinds.TOO_LONG} bytes are behind byte 191, more than one batch can"
     f" have{SALVAGE}\n"
 )
-CHANGED = f"tbd: Damaged: ledger: the block at byte 100 is not what was written{SALVAGE}\n"
+CHANGED = (
+    f"tbd: Damaged: ledger: the block at byte 100 (entry 2) is not what was written{SALVAGE}\n"
+)
 MADE = "tbd: made ledger\n"
 READY = "tbd: ready: commit 2, time 11\n"
 CUT = (
-    "tbd: copied 5 bytes, from byte 195 on, to ledger.cut-195-{}\n"
+    "tbd: copied 5 bytes, from byte 195 on, 0 whole entries, to ledger.cut-195-{}\n"
     "tbd: cut 5 bytes of a batch that was not committed, behind byte 191\n"
 ).format(f"{kinds.crc32c(bytes(range(1, 6))):08x}")
 DROPPED = "tbd: cut 5 bytes of a batch that was not committed, behind byte 191\n"
@@ -474,10 +476,11 @@ UNCOPIED = [
         "salvage",
         "head changed",
         6,
-        f"tbd: Damaged: ledger: the block at byte 8 is not what was written{SALVAGE}\n",
+        "tbd: Damaged: ledger: the block at byte 8 (the head) is not what was written; restore a"
+        " backup: tbd salvage needs the head\n",
         None,
     ),
-    ("backup", "second entry changed", 6, CHANGED, kinds.FIRST_END),
+    ("backup", "second entry changed", 6, CHANGED.replace(" (entry 2)", ""), kinds.FIRST_END),
     ("backup", "torn long", 6, TORN_LONG, kinds.END),
     (
         "backup",

@@ -25,8 +25,14 @@ def damaged(why):
     return f"Damaged: ledger: {why}{SALVAGE}"
 
 
-def none_at(at):
-    return damaged(f"the block at byte {at} is not what was written")
+def none_at(at, entry):
+    return damaged(f"the block at byte {at} (entry {entry}) is not what was written")
+
+
+NO_BLOCK_OF_HEAD = (
+    "Damaged: ledger: the block at byte 8 (the head) is not what was written; restore a backup: tbd"
+    " salvage needs the head"
+)
 
 
 # The records of a file, the byte that is changed in it or none, the status, and what is said. If an
@@ -34,15 +40,15 @@ def none_at(at):
 ROWS = [
     ([FIRST], None, 5, NO_HEAD),
     ([b"TBK2\1\2"], None, 5, NO_HEAD),
-    ([HEAD], 20, 6, none_at(8)),
+    ([HEAD], 20, 6, NO_BLOCK_OF_HEAD),
     ([HEAD, SHORT], None, 6, damaged("entry 1 is none: Short")),
     ([HEAD, FIRST, SHORT], None, 6, damaged("entry 2 is none: Short")),
     ([HEAD, EARLY], None, 6, damaged("entry 1 may not come next: Commit")),
     ([HEAD, FIRST, EARLY], None, 6, damaged("entry 2 may not come next: Time")),
     ([HEAD, FIRST, AGAIN], None, 6, damaged("entry 2 may not come next: NotNew")),
     ([HEAD, EARLY, FIRST], 111, 6, damaged("entry 1 may not come next: Commit")),
-    ([HEAD, FIRST, EARLY], 36, 6, none_at(HEAD_END)),
-    ([HEAD, FIRST, FIRST], 111, 6, none_at(100)),
+    ([HEAD, FIRST, EARLY], 36, 6, none_at(HEAD_END, 1)),
+    ([HEAD, FIRST, FIRST], 111, 6, none_at(100, 2)),
 ]
 
 
@@ -83,7 +89,7 @@ def test_nothing_is_made_without_rules(tbd, tmp_path, at):
     (tmp_path / "ledger").write_bytes(changed(LEDGER, at))
     for form in ("salvage", "backup"):
         status, printed, said = ran(tbd, tmp_path, [form, "ledger", "new"])
-        assert (status, printed, said) == (6, b"", f"tbd: {none_at(8)}\n")
+        assert (status, printed, said) == (6, b"", f"tbd: {NO_BLOCK_OF_HEAD}\n")
         assert not (tmp_path / "new").exists()
 
 
@@ -140,4 +146,4 @@ def test_a_file_of_several_pieces(tbd, tmp_path):
     assert data == journal(records)
     path.write_bytes(changed(data, len(data) - 5))
     last = len(data) - len(CLOSED) - len(block(records[-1]))
-    assert ran(tbd, tmp_path, ["check", "ledger"])[2] == f"tbd: {none_at(last)}\n"
+    assert ran(tbd, tmp_path, ["check", "ledger"])[2] == f"tbd: {none_at(last, 6)}\n"
