@@ -421,8 +421,8 @@ def test_row(name):
 class Catchers:
     """The built tests and programs, and what they say of a bug."""
 
-    def __init__(self, room, tests, programs, scripts):
-        self.room, self.scripts = room, scripts
+    def __init__(self, room, below, tests, programs, scripts):
+        self.room, self.below, self.scripts = room, below, scripts
         self.tests = build(room, ALL_TESTS, False) if tests else None
         self.names = self.listed() if tests else []
         self.seconds = {}
@@ -555,7 +555,7 @@ def prepared(room, mutants, tests_only):
     join_tests(room, tests)
     scripts = [] if tests_only else [it for it in SCRIPTS if SCRIPTS[it][1] & set(reached)]
     programs = sorted({program for it in scripts for program in SCRIPTS[it][1]})
-    return Catchers(room, tests, programs, scripts)
+    return Catchers(room, below, tests, programs, scripts)
 
 
 def try_mutants(mutants, words, room):
