@@ -1,5 +1,4 @@
 -- What a closure leaves that was called at values of a map.
--- Cited by public contracts of: map.
 use Rattle.std.specs.Prelude.{◌≡◌, Bool, List, Option, None, Some}
 use Rattle.std.specs.Fn.{Mut, CalledAtMut, CalledAtPairMut}
 use Rattle.std.specs.Map.{lookup, set_value}

@@ -1,5 +1,4 @@
 -- What others see of a map.
--- Cited by public contracts of: map.
 use Rattle.std.specs.Prelude.{ℕ, ◌≤◌, List, length, Option, refl}
 use Rattle.std.specs.Coded.{Coded, code_by, coded×, coded_ℕ}
 use Rattle.std.specs.Map.{lookup}

@@ -1,5 +1,4 @@
 -- What the boxed nodes hold, and when they are balanced.
--- Cited by public contracts of: map.
 use Rattle.std.specs.Prelude.{◌≡◌, ◌≢◌, ℕ, ◌+◌, ◌≤◌, ◌<◌, max, List, [], ◌∷◌, ◌++◌, ◌^◌, length, Option, None, Some, Bool, true, false}
 use Rattle.std.specs.Map.{keys_of, lookup, set_value}
 use Rattle.std.specs.BTreeMap.{is_at}

@@ -1,5 +1,4 @@
 -- A binary search tree as its shape alone, and how far a search in it goes.
--- Cited by public contracts of: map, worked_rows.
 use base.Stored.{Gv, gnil, gnum, gcons, Coded}
 use Rattle.std.proofs.Common.{subst, sym, ap}
 use Rattle.std.specs.Prelude.{◌≡◌, refl, ℕ, zero, suc, ◌+◌, List, [], ◌∷◌, ◌++◌}

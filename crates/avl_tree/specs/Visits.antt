@@ -1,5 +1,4 @@
 -- What a walk over a range of keys calls.
--- Cited by public contracts of: map.
 use Rattle.std.specs.Prelude.{◌≡◌, ◌&&◌, List}
 use Rattle.std.specs.List.{filter, FoldsTo}
 use Rattle.std.specs.Fn.{Mut, Called}

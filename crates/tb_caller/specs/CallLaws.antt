@@ -1,5 +1,4 @@
 -- The laws of a client without a server, and of a history without a schedule.
--- Cited by public contracts of: laws.
 use Rattle.std.specs.Prelude.{ℕ, true, ◌≡◌, ◌≢◌, ◌≤◌, List, [], ◌∷◌, ◌++◌, Option, None}
 use mathlib.Core.List.{IsPrefix}
 use Rattle.tb_records.specs.declared.limits.Profile.{Profile}

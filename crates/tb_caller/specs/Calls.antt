@@ -1,5 +1,4 @@
 -- What the requests of one client keep among themselves, and what a history then says of them.
--- Cited by public contracts of: laws.
 use Rattle.std.specs.Prelude.{ℕ, ◌≡◌, ◌≢◌, ◌+◌, ◌<◌, false, true, IsTrue, List, ◌∷◌, ◌++◌, length, Option}
 use mathlib.Core.List.{IsPrefix}
 use Rattle.tb_records.specs.declared.limits.Profile.{Profile}

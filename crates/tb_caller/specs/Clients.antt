@@ -1,5 +1,4 @@
 -- A client's session as data, and what each call and each reply makes of it.
--- Cited by public contracts of: callers, laws.
 use Rattle.std.specs.Prelude.{ℕ, Bool, true, false, not, ◌&&◌, ◌||◌, ◌==◌, ◌≡◌, ◌⊎◌, ◌+◌, ◌-◌, ◌^◌, List, ◌++◌, Option, Some, None, if◌then◌else◌, Result, Ok, Err}
 use Rattle.std.specs.Option.{option_map}
 use Rattle.tb_records.specs.declared.bodies.Body.{Body}

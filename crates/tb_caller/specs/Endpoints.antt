@@ -1,5 +1,4 @@
 -- One client over time: its state, what it keeps outside its process, all that it sent, and what its calls returned.
--- Cited by public contracts of: laws.
 use Rattle.std.specs.Prelude.{ℕ, ◌≡◌, ◌⊎◌, List, [], ◌∷◌, Option, Some, None, IfSome}
 use Rattle.tb_records.specs.declared.bodies.Body.{Body}
 use Rattle.tb_records.specs.Frames.{IsRequest}

@@ -1,5 +1,4 @@
 -- The names of the faults of calls and of fields.
--- Cited by public contracts of: faults.
 use Rattle.std.specs.Prelude.{ℕ, List, codes}
 use Rattle.tb_records.specs.Faults.{fault_name}
 use Rattle.tb_caller.specs.declared.faults.CallFault.{CallFault}

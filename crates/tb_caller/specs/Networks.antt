@@ -1,5 +1,4 @@
 -- Clients, a network that carries frames, and a server.
--- Cited by public contracts of: laws.
 use Rattle.std.specs.Prelude.{ℕ, Bool, true, false, ◌≡◌, ◌⊎◌, ◌==◌, List, [], ◌∷◌, ◌++◌, map, Option, Some, if◌then◌else◌}
 use mathlib.Core.List.{IsPrefix}
 use Rattle.tb_records.specs.declared.limits.Profile.{Profile}

@@ -1,5 +1,4 @@
 -- Replies that are read one after another from bytes.
--- Cited by public contracts of: laws.
 use Rattle.std.specs.Prelude.{ℕ, ◌≡◌, List, ◌++◌}
 use Rattle.std.specs.List.{flat_map}
 use Rattle.tb_records.specs.Messages.{Answer}

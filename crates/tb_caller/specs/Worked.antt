@@ -1,5 +1,4 @@
 -- A schedule in which a register and a lookup return: the premises of the laws can be met.
--- Cited by public contracts of: laws.
 use Rattle.std.specs.Prelude.{ℕ, true, ◌≡◌, List, [], ◌∷◌, length, None}
 use Rattle.tb_records.specs.declared.bodies.Body.TheVariants.{Register, LookupAccounts}
 use Rattle.tb_records.specs.declared.limits.Profile.TheVariants.{One}

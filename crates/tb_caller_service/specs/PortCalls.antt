@@ -1,5 +1,4 @@
 -- A client of a server that takes requests from ports, and is asked by seats.
--- Cited by public contracts of: laws.
 use Rattle.std.specs.Prelude.{ℕ, ◌≡◌, ◌<◌, List, None}
 use Rattle.std.specs.List.{All}
 use Rattle.tb_records.specs.Messages.{Message, Answer}

@@ -1,5 +1,4 @@
 -- A client of seats.
--- Cited by public contracts of: laws.
 use Rattle.std.specs.Prelude.{ℕ, List, None}
 use mathlib.Core.List.{IsPrefix}
 use Rattle.tb_records.specs.Messages.{Message, Answer}

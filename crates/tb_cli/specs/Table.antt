@@ -1,5 +1,4 @@
 -- The table of forms: the word of each form, its operands in their order, and its options.
--- Cited by public contracts of: table.
 use Rattle.std.specs.Prelude.{ℕ, Bool, true, false, List, [], ◌∷◌, codes}
 use Rattle.tb_cli.specs.declared.table.FormName.{FormName}
 use Rattle.tb_cli.specs.declared.table.FormName.TheVariants as form

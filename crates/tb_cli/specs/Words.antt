@@ -1,5 +1,4 @@
 -- Which words a form takes, what they give, and what is wrong with words that no form takes.
--- Cited by public contracts of: faults, reading.
 use Rattle.std.specs.Prelude.{ℕ, Bool, true, false, ◌≡◌, ◌&&◌, ◌==◌, ◌+◌, nat_lt, nat_eq, List, [], ◌∷◌, length, drop, Option, Some, None, Result, Ok, Err, if◌then◌else◌, codes, find, is_some, slice_get, get_or, refl}
 use Rattle.std.specs.Char.{is_ascii_digit}
 use Rattle.std.specs.List.{list_all, list_any}

@@ -1,5 +1,4 @@
 -- What calls make of a server, one after another: a legal history of the requests that were answered.
--- Cited by public contracts of: laws.
 use Rattle.std.specs.Prelude.{ℕ, Bool, true, false, ◌≡◌, List, [], ◌∷◌, length, take, filter, Some}
 use Rattle.tb_records.specs.declared.limits.Profile.{Profile}
 use Rattle.tb_records.specs.Messages.{Answer}

@@ -1,5 +1,4 @@
 -- A client's session as numbers and a frame that a caller in C keeps, and what each call makes of it.
--- Cited by public contracts of: calls.
 use Rattle.std.specs.Prelude.{ℕ, ◌≡◌, ◌⊎◌, ◌<◌, ◌≤◌, List, length, take, Some, None, Result, Ok, Err}
 use Rattle.tb_records.specs.declared.bodies.Body.{Body}
 use Rattle.tb_records.specs.declared.faults.FrameFault.{FrameFault}

@@ -1,5 +1,4 @@
 -- What each call makes of a server, and what it answers.
--- Cited by public contracts of: laws.
 use Rattle.std.specs.Prelude.{ℕ, Bool, true, false, not, ◌≡◌, ◌==◌, ◌&&◌, ◌||◌, ◌⊎◌, ◌+◌, ◌*◌, ◌^◌, ◌<◌, ◌≤◌, nat_le, List, length, take, Option, Some, None, if◌then◌else◌}
 use Rattle.std.specs.Option.{option_map, is_none}
 use Rattle.tb_records.specs.declared.faults.FrameFault.{FrameFault}

@@ -1,5 +1,4 @@
 -- What a handle owns: the box of its server, or nothing.
--- Cited by public contracts of: held.
 use base.Fml.{Fml, ftrue}
 use denote.RawPtr.{Ptr}
 use Rattle.std.specs.Prelude.{Option, None, Some}

@@ -1,5 +1,4 @@
 -- The status of each outcome, and the length that is reported with it.
--- Cited by public contracts of: outcomes.
 use Rattle.std.specs.Prelude.{ℕ, ◌≡◌}
 use Rattle.tb_embed.specs.declared.outcomes.Outcome.{Outcome}
 use Rattle.tb_embed.specs.declared.outcomes.Outcome.TheVariants.{Done, Closed, Usage, NoMemory, Unread, Malformed, TimeExhausted, Absent, TooSmall}

@@ -1,5 +1,4 @@
 -- CRC-32C, bit by bit.
--- Public contracts reach it through: Contents.
 use Rattle.std.specs.Prelude.{◌≡◌, ℕ, zero, suc, ◌/◌, ◌%◌, List, [], ◌∷◌, bit_xor, if◌then◌else◌, ◌==◌, codes, replicate, refl}
 
 -- one bit on, by the polynomial of Castagnoli with its bits turned round

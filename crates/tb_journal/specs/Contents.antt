@@ -1,5 +1,4 @@
 -- What the bytes of a journal's file represent.
--- Cited by public contracts of: journals, opening.
 use Rattle.std.specs.Prelude.{◌≡◌, ℕ, ◌+◌, ◌<◌, ◌^◌, ◌==◌, ◌&&◌, nat_le, nat_eq, zero, suc, List, [], ◌∷◌, ◌++◌, length, take, drop, flat_map, codes, replicate, Bool, if◌then◌else◌, refl}
 use Rattle.std.specs.Int.{w32, to_le_bytes, from_le_bytes}
 use Rattle.std.specs.List.{AllByRecursion, starts_with}

@@ -1,5 +1,4 @@
 -- How a journal is created, and what a crash may leave of it.
--- Cited by public contracts of: opening.
 use Rattle.std.specs.Prelude.{◌≡◌, ◌⊎◌, ◌==◌, ◌&&◌, ◌||◌, ℕ, ◌≤◌, Bool, true, false, List, [], ◌∷◌, ◌++◌, length, codes, refl, Result, Ok, Err, IfOk, OnOk, IfErr}
 use Rattle.tb_journal.specs.declared.faults.JournalFault.{JournalFault}
 use Rattle.tb_journal.specs.declared.faults.JournalFault.TheVariants.{Memory, NotEmpty}

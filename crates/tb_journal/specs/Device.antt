@@ -1,5 +1,4 @@
 -- What the calls of a device do to its file, and what a crash may leave between two syncs.
--- Cited by public contracts of: devices, growing, journals, memory, opening, posix, scans, snapshots, systems.
 use Rattle.std.specs.Prelude.{◌<◌, ◌≡◌, ◌⊎◌, ℕ, ◌+◌, ◌-◌, ◌^◌, ◌≤◌, min, max, Bool, true, false, List, ◌++◌, length, take, drop, Result, IfOk, IfErr, OnOk, OnErr}
 use Rattle.std.proofs.Common.{arith, ⊎_elim}
 use Rattle.tb_journal.specs.declared.faults.JournalFault.{JournalFault}

@@ -1,5 +1,4 @@
 -- The failures of a file in memory, by the fault.
--- Public contracts reach it through: Memory.
 use Rattle.std.specs.Prelude.{ℕ}
 use Rattle.tb_journal.specs.declared.faults.JournalFault.{JournalFault}
 use Rattle.tb_journal.specs.declared.faults.JournalFault.TheVariants as faults

@@ -1,5 +1,4 @@
 -- The numbers and the names of faults.
--- Cited by public contracts of: faults.
 use Rattle.std.specs.Prelude.{ℕ, List, codes}
 use Rattle.tb_journal.specs.declared.faults.JournalFault.{JournalFault}
 use Rattle.tb_journal.specs.declared.faults.JournalFault.TheVariants.{Memory, Failed, Full, TooLong, NotEmpty, SyncFailed}

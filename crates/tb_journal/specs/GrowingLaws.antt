@@ -1,5 +1,4 @@
 -- Laws of files that grow while they are read.
--- Cited by public contracts of: laws.
 use Rattle.std.specs.Prelude.{◌≡◌, ℕ, Bool, List}
 use Rattle.tb_journal.specs.Contents.{Records, contents}
 use Rattle.tb_journal.specs.Growing.{Extends, Later}

@@ -1,5 +1,4 @@
 -- What a crash may leave of a file in memory, by the calls that were made.
--- Cited by public contracts of: memory.
 use Rattle.std.specs.Prelude.{◌≡◌, ℕ, ◌-◌, ◌≤◌, Bool, List, [], ◌∷◌, length, take, reverse, refl}
 use Rattle.std.proofs.Common.{arith, subst, sym}
 use Rattle.std.proofs.lemmas.List.{take_all}

@@ -1,5 +1,4 @@
 -- A file of which nothing is known.
--- Cited by public contracts of: real, snapshots.
 use Rattle.std.specs.Prelude.{[], true}
 use Rattle.tb_journal.specs.Device.{Disk}
 

@@ -1,5 +1,4 @@
 -- A record that is sought at any offset of a file, as behind damage.
--- Cited by public contracts of: seeking.
 use Rattle.std.specs.Prelude.{◌≡◌, ℕ, ◌+◌, ◌≤◌, Bool, true, false, List, [], ◌∷◌, ◌++◌, length, take, drop, codes, refl, Result, Ok, Err}
 use Rattle.std.specs.Int.{w32, from_le_bytes}
 use Rattle.tb_journal.specs.declared.faults.JournalFault.{JournalFault}

@@ -1,6 +1,5 @@
 -- What a read returns after a call on a file in memory is one of the files that a crash during the call may leave: for a law of
 -- Memory alone.
--- Public contracts reach it through: Memory.
 use Rattle.std.specs.Prelude.{◌≡◌, ℕ, zero, suc, ◌+◌, ◌-◌, ◌≤◌, ◌&&◌, nat_le, Bool, true, false, List, [], ◌∷◌, ◌++◌, length, take, drop, refl, if◌then◌else◌}
 use Rattle.std.proofs.Common.{arith, sym, ◌∙◌, ap, length-append, length-drop, length-take}
 use Rattle.std.proofs.lemmas.List.{take_at, drop_at, take_all, take_min, length-take-le}

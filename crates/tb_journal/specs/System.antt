@@ -1,5 +1,4 @@
 -- What the system's calls on an open file do, as POSIX has them.
--- Cited by public contracts of: systems.
 use Rattle.std.specs.Prelude.{◌≡◌, ◌≢◌, ◌⊎◌, ℕ, ◌<◌, ◌≤◌, true, false, List, [], ◌∷◌, length, take, drop, Result, Ok, IfOk, IfErr, OnOk, IsErrOf, refl}
 use Rattle.std.proofs.Common.{arith, inl}
 use Rattle.std.specs.declared.io.ErrorKind.{ErrorKind}

@@ -1,5 +1,4 @@
 -- What one call on a file in memory adds to what a crash may leave, and what a read returns after it.
--- Cited by public contracts of: memory.
 use Rattle.std.specs.Prelude.{◌≡◌, ℕ, ◌+◌, ◌&&◌, nat_le, List, [], ◌∷◌, length, take, if◌then◌else◌}
 use Rattle.tb_journal.specs.Device.{Torn, Cut, overwritten}
 use Rattle.tb_journal.specs.declared.memory.Call.{Call}

@@ -1,5 +1,4 @@
 -- How a kept file is created and opened, and what a crash may leave of it meanwhile.
--- Cited by public contracts of: creating, dumps, recovering, salvaging, worked_rows.
 use Rattle.std.specs.Prelude.{ℕ, true, false, ◌≡◌, ◌⊎◌, ◌≤◌, ◌^◌, List, [], ◌∷◌, Result, Ok, Err, OnOk, IfOk, IfErr}
 use Rattle.tb_records.specs.declared.limits.Profile.{Profile}
 use Rattle.tb_journal.specs.declared.faults.JournalFault.TheVariants.{NotEmpty}

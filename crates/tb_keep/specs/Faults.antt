@@ -1,5 +1,4 @@
 -- The numbers and the names of faults.
--- Cited by public contracts of: faults.
 use Rattle.std.specs.Prelude.{ℕ, ◌+◌, List, codes}
 use Rattle.tb_records.specs.Faults as frame_faults
 use Rattle.tb_journal.specs.Faults.{fault_number, fault_name}

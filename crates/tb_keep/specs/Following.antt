@@ -1,5 +1,4 @@
 -- The entries of a file above a commit number, as the file grows.
--- Cited by public contracts of: dumps, laws.
 use Rattle.std.specs.Prelude.{ℕ, ◌≡◌, ◌+◌, ◌-◌, nat_lt, List, [], ◌∷◌, ◌++◌, length, drop, flat_map, refl, Result, Ok, Err}
 use Rattle.std.specs.List.{filter}
 use Rattle.tb_records.specs.declared.faults.FrameFault.TheVariants.{Device}

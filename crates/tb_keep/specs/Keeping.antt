@@ -1,5 +1,4 @@
 -- What a kept file represents, and what a keeper is that keeps it.
--- Cited by public contracts of: creating, keepers, recovering, rounds, worked_rows.
 use Rattle.std.specs.Prelude.{ℕ, ◌≡◌, Bool, true, List, [], ◌∷◌, ◌++◌, map, codes, refl}
 use Rattle.tb_records.specs.declared.limits.Profile.{Profile}
 use Rattle.tb_records.specs.declared.limits.Profile.TheVariants.{Two}

@@ -1,5 +1,4 @@
 -- At each moment, whatever was acknowledged is in the file.
--- Cited by public contracts of: laws.
 use Rattle.std.specs.Prelude.{ℕ, ◌≡◌, ◌++◌, List}
 use Rattle.tb_records.specs.Transport.{Sent}
 use Rattle.tb_journal.specs.Device.{Disk, LeavesOnly}

@@ -1,5 +1,4 @@
 -- What a quick check reads of a kept file: the numbers and times of its entries, without the ledger that they make.
--- Cited by public contracts of: laws, quick.
 use Rattle.std.specs.Prelude.{ℕ, ◌≡◌, ◌+◌, ◌≤◌, ◌^◌, ◌==◌, ◌&&◌, not, max, nat_le, if◌then◌else◌, List, [], ◌∷◌, ◌++◌, map, length, Option, None, Some, Result, Ok, Err}
 use Rattle.tb_records.specs.Messages.{count}
 use Rattle.tb_records.specs.DumpBytes.{IsClients}

@@ -1,5 +1,4 @@
 -- What is taken over of a file behind its damage.
--- Cited by public contracts of: reading_on.
 use Rattle.std.specs.Prelude.{ℕ, ◌+◌, ◌≤◌, List, [], ◌∷◌, length}
 use Rattle.tb_journal.specs.Device.{Disk, LeavesOnly}
 use Rattle.tb_journal.specs.Seeking.{StandsAt}

@@ -1,5 +1,4 @@
 -- What is reported where bytes that a start cuts off were not copied.
--- Cited by private contracts alone, of: asides. Public contracts reach it through: ExitStatuses.
 use Rattle.std.specs.Prelude.{ℕ, List, codes}
 use Rattle.tb_keep_commands.specs.declared.asides.Uncopied.{Uncopied}
 use Rattle.tb_keep_commands.specs.declared.asides.Uncopied.TheVariants.{Full, Forbidden, TooMany, Taken, Failed}

@@ -1,5 +1,4 @@
 -- What is copied of a file into a new one, up to its first damage, and what is reported of it.
--- Cited by public contracts of: copies, rescues.
 use Rattle.std.specs.Prelude.{ℕ, Bool, true, false, zero, suc, ◌≡◌, ◌-◌, List, [], ◌∷◌, ◌++◌, length, codes, Option, None, Some, Result, Ok, Err, OnOk, IfErr, MatchResult, refl}
 use Rattle.std.specs.Fmt.{decimal, digits}
 use Rattle.tb_records.specs.Transport.{Output}

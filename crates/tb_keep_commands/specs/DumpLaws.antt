@@ -1,5 +1,4 @@
 -- Laws of what is written of a file that grows.
--- Cited by public contracts of: laws.
 use Rattle.std.specs.Prelude.{ℕ, ◌≡◌, List, ◌++◌, Option, None}
 use Rattle.tb_journal.specs.Contents.{Records, contents}
 use Rattle.tb_journal.specs.Growing.{Later}

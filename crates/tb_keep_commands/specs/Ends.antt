@@ -1,5 +1,4 @@
 -- What contracts know of what a command works with: its files, its reader, and its writers.
--- Cited by public contracts of: ends.
 use Rattle.std.specs.Prelude.{ℕ, List}
 use Rattle.tb_records.specs.Transport.{Input, Output}
 use Rattle.tb_records.specs.declared.devices.Sink as sinks

@@ -1,5 +1,4 @@
 -- The exit status of each fault, and the line that names it.
--- Cited by public contracts of: copies, faults, host, keeping, lines, openers, reports.
 use Rattle.std.specs.Prelude.{ℕ, zero, suc, Bool, true, false, ◌≡◌, ◌⊎◌, ◌==◌, ◌+◌, ◌-◌, ◌/◌, ◌^◌, ◌&&◌, min, nat_le, nat_eq, ◌++◌, List, [], ◌∷◌, Option, Some, None, Result, Ok, Err, IfOk, if◌then◌else◌, flat_map, codes, string_bytes, refl}
 use Rattle.std.specs.Fmt.{decimal, digits}
 use Rattle.std.specs.IoError.{error_kind}

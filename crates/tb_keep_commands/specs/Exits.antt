@@ -1,5 +1,4 @@
 -- How a command ends: its outcome, exit status and line.
--- Cited by public contracts of: commands.
 use Rattle.std.specs.Prelude.{ℕ, Bool, true, false, ◌||◌, ◌≡◌, List, [], Option, Some, None, Result, Ok, Err, map, string_bytes}
 use Rattle.std.specs.declared.alloc.Global.{Global}
 use Rattle.std.specs.declared.string.String.{String}

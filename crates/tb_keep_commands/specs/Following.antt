@@ -1,5 +1,4 @@
 -- What is written of the entries of a file above a commit number, as the file grows.
--- Public contracts reach it through: DumpLaws, Outcomes.
 use Rattle.std.specs.Prelude.{ℕ, ◌≡◌, ◌⊎◌, Bool, true, false, List, [], ◌++◌, Option, Some, None, Result, Ok, Err}
 use Rattle.tb_records.specs.Transport.{Output, Sent, CutOff}
 use Rattle.tb_records.specs.DumpBytes.{head_bytes}

@@ -1,5 +1,4 @@
 -- What the words of the command line ask for, and what is wrong with words that ask for nothing.
--- Cited by public contracts of: arguments, commands.
 use Rattle.std.specs.Prelude.{ℕ, true, false, ◌≡◌, List, [], ◌∷◌, take, Option, Some, None, Result, Ok, Err, codes, refl}
 use Rattle.tb_cli.specs.Words.{asked_of, fault_text, given_word}
 use Rattle.tb_cli.specs.declared.faults.Fault.TheVariants.{NoForm}

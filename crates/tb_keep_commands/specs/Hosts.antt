@@ -1,5 +1,4 @@
 -- What a command does between a std reader and a std writer, each behind a buffer.
--- Cited by public contracts of: host.
 use Rattle.std.specs.Prelude.{ℕ, ◌≡◌, ◌⊎◌, ◌^◌, List, [], Option, Some, None, map, string_bytes}
 use Rattle.std.specs.Io.Buffered.{reader_buffer, reader_capacity, reader_inner, reader_remaining, writer_buffer, writer_capacity, writer_contents, writer_inner}
 use Rattle.std.specs.declared.io.buffered.BufReader.{BufReader}

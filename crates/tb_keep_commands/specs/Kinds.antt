@@ -1,5 +1,4 @@
 -- What a file is that holds no ledger, by its first bytes.
--- Public contracts reach it through: Naming.
 use Rattle.std.specs.Prelude.{ℕ, Bool, false, ◌≡◌, not, nat_le, nat_lt, nat_eq, ◌&&◌, ◌||◌, List, [], ◌∷◌, ◌++◌, length, take, drop, Result, Ok, Err, if◌then◌else◌, codes, refl}
 use Rattle.std.specs.List.{list_all}
 use Rattle.std.specs.Cmp.Lexicographic.{pointwise}

@@ -1,5 +1,4 @@
 -- What is said of a file that is refused: what it is, by its first bytes, which entry is damaged, and the rules that it was made with.
--- Public contracts reach it through: Copies, Outcomes.
 use Rattle.std.specs.Prelude.{ℕ, ◌≡◌, ◌⊎◌, ◌==◌, if◌then◌else◌, List, length, Option, Some, None, Result, Ok, Err}
 use Rattle.tb_journal.specs.declared.devices.Device as devices
 use Rattle.tb_journal.specs.declared.faults.JournalFault.{JournalFault}

@@ -1,5 +1,4 @@
 -- What each form does, and its outcome.
--- Public contracts reach it through: Copies, Exits.
 use Rattle.std.specs.Prelude.{ℕ, Bool, true, false, Option, Some, None, ◌≡◌, ◌-◌, List, length, Result, Ok, Err, IfOk, OnOk, MatchResult}
 use Rattle.tb_records.specs.Transport.{Input, Output, Sent, CutOff}
 use Rattle.tb_journal.specs.declared.devices.Device as devices

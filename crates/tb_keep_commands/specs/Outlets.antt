@@ -1,5 +1,4 @@
 -- What is counted of a std writer behind a buffer, and what its end answers.
--- Cited by public contracts of: outlets.
 use Rattle.std.specs.Prelude.{ℕ, true, ◌||◌, ◌&&◌, ◌==◌, not, [], Result, if◌then◌else◌}
 use Rattle.tb_records.specs.declared.faults.FrameFault.{FrameFault}
 use Rattle.tb_records.specs.Transport.{Counted, Output, IsSent, uncounted, risen}

@@ -1,5 +1,4 @@
 -- The pages of usage.
--- Cited by public contracts of: commands.
 use Rattle.std.specs.Prelude.{ℕ, List}
 use Rattle.tb_cli.specs.declared.table.FormName.{FormName}
 use Rattle.tb_cli.specs.declared.table.FormName.TheVariants as name

@@ -1,6 +1,5 @@
 -- A path or a word as a line of standard error shows it: no control character is left in it, so that no escape code reaches a
 -- terminal, and one line stays one line.
--- Public contracts reach it through: ExitStatuses.
 use Rattle.std.specs.Prelude.{ℕ, ◌≡◌, List, [], ◌∷◌, map, if◌then◌else◌, refl}
 use Rattle.std.specs.Char.{is_control}
 use Rattle.std.specs.Str.{chars, encode_utf8_all}

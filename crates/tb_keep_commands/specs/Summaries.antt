@@ -1,5 +1,4 @@
 -- What is read of a whole file, and what `check` reports of it.
--- Cited by public contracts of: summaries.
 use Rattle.std.specs.Prelude.{ℕ, Bool, true, false, not, ◌≡◌, ◌-◌, nat_eq, if◌then◌else◌, List, [], ◌∷◌, ◌++◌, length, codes, Result, Ok, Err, refl}
 use Rattle.std.specs.Fmt.{decimal, digits}
 use Rattle.tb_records.specs.declared.limits.Profile.TheVariants.{One}

@@ -1,5 +1,4 @@
 -- What `check` reports of a log's file.
--- Cited by public contracts of: checking. Public contracts reach it through: Exits.
 use Rattle.std.specs.Prelude.{ℕ, true, ◌≡◌, ◌-◌, List, ◌++◌, [], ◌∷◌, codes, Option, Some, None, Result, Ok, Err, MatchResult, refl}
 use Rattle.std.specs.Fmt.{decimal, digits}
 use Rattle.tb_records.specs.declared.limits.Profile.TheVariants.{One}

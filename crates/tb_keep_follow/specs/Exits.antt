@@ -1,5 +1,4 @@
 -- How a form over a log ends: its outcome, exit status and line.
--- Cited by public contracts of: commands.
 use Rattle.std.specs.Prelude.{ℕ, ◌≡◌, List, [], Ok, Err}
 use Rattle.tb_records.specs.Transport.{Input, Output, Sent, CutOff}
 use Rattle.tb_keep.specs.Reading.{rules_of}

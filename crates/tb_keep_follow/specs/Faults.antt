@@ -1,5 +1,4 @@
 -- Why a form over a log ends, the exit status of each fault, and its line.
--- Cited by public contracts of: faults.
 use Rattle.std.specs.Prelude.{ℕ, ◌≡◌, ◌++◌, List, [], Option, Some, None, codes, refl}
 use Rattle.std.specs.Fmt.{decimal, digits}
 use Rattle.std.specs.Str.{chars}

@@ -1,5 +1,4 @@
 -- Which words ask for a form over a log.
--- Cited by public contracts of: arguments.
 use Rattle.std.specs.Prelude.{ℕ, true, false, ◌≡◌, List, [], ◌∷◌, Option, Some, None, Result, Ok, Err, codes, refl}
 use Rattle.tb_cli.specs.declared.faults.Wrong.{Wrong}
 use Rattle.tb_cli.specs.declared.given.Given.{Given}

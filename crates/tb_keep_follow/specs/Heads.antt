@@ -1,5 +1,4 @@
 -- Which log a file is of, by its first bytes.
--- Cited by public contracts of: heads. Public contracts reach it through: Outcomes, Hosts.
 use Rattle.std.specs.Prelude.{ℕ, Bool, false, ◌≡◌, nat_lt, nat_le, nat_eq, ◌&&◌, List, [], ◌∷◌, ◌++◌, length, take, drop, Option, Some, None, is_some, Result, Ok, Err, if◌then◌else◌, codes, refl}
 use Rattle.std.specs.List.{starts_with}
 use Rattle.tb_records.specs.declared.limits.Profile.{Profile}

@@ -1,5 +1,4 @@
 -- What a form over a log does between a std reader and a std writer, each behind a buffer.
--- Cited by public contracts of: host.
 use Rattle.std.specs.Prelude.{ℕ, Bool, true, false, ◌≡◌, ◌⊎◌, ◌^◌, List, [], Option, Some, None, Result, map, string_bytes}
 use Rattle.std.specs.Io.Buffered.{reader_buffer, reader_capacity, reader_inner, writer_buffer, writer_capacity, writer_inner}
 use Rattle.std.specs.declared.io.buffered.BufReader.{BufReader}

@@ -1,5 +1,4 @@
 -- What each form over a log does, and its outcome.
--- Public contracts reach it through: Exits.
 use Rattle.std.specs.Prelude.{ℕ, Bool, true, false, ◌≡◌, ◌-◌, List, Option, Some, None, Result, Ok, Err, OnOk, IfOk, MatchResult}
 use Rattle.tb_records.specs.Transport.{Input, Output}
 use Rattle.tb_journal.specs.declared.devices.Device as devices

@@ -1,5 +1,4 @@
 -- What is written of the entries of a log above a commit number, or of all, as the file grows.
--- Public contracts reach it through: Outcomes.
 use Rattle.std.specs.Prelude.{ℕ, ◌≡◌, ◌⊎◌, Bool, true, List, [], Option, Result, Ok, Err}
 use Rattle.tb_records.specs.Transport.{Output, Sent, CutOff}
 use Rattle.tb_journal.specs.Growing.{Later}

@@ -1,5 +1,4 @@
 -- What is read of a whole log's file, and why a start refuses it.
--- Cited by public contracts of: checking.
 use Rattle.std.specs.Prelude.{ℕ, ◌≡◌, ◌+◌, ◌≤◌, ◌^◌, List, Result, Ok, Err, Option, None, Some}
 use Rattle.tb_records.specs.declared.limits.Profile.{Profile}
 use Rattle.tb_journal.specs.declared.reading.Extent.{Extent}

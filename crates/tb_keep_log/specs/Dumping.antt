@@ -1,5 +1,4 @@
 -- The dump of a kept log: the entries that the pairs of its records make, without positions.
--- Cited by public contracts of: dumps, laws.
 use Rattle.std.specs.Prelude.{ℕ, ◌≡◌, ◌⊎◌, List, [], ◌∷◌, ◌++◌, length, drop, flat_map, Result, Ok, Err, OnOk, IfErr}
 use Rattle.tb_records.specs.declared.faults.FrameFault.{FrameFault}
 use Rattle.tb_records.specs.declared.faults.FrameFault.TheVariants as frame

@@ -1,5 +1,4 @@
 -- The names of faults.
--- Cited by public contracts of: faults.
 use Rattle.std.specs.Prelude.{ℕ, List, codes}
 use Rattle.tb_journal.specs.Faults as journal_faults
 use Rattle.tb_log.specs.Faults as log_faults

@@ -1,5 +1,4 @@
 -- How the items of a log are served over a file: an item is read, its record is committed, and then it is answered.
--- Cited by public contracts of: items.
 use Rattle.std.specs.Prelude.{ℕ, false, ◌≡◌, ◌⊎◌, ◌+◌, ◌-◌, ◌^◌, ◌≤◌, List, [], ◌∷◌, length, Result, Ok, Err}
 use Rattle.std.specs.Io.KnownBytes.{IsAtEnd}
 use Rattle.tb_records.specs.declared.limits.Profile.{Profile}

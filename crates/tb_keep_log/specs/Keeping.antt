@@ -1,5 +1,4 @@
 -- What the file of a kept log represents, and what a keeper is that keeps it.
--- Cited by public contracts of: beginning, dumps, items, keepers, rereading.
 use Rattle.std.specs.Prelude.{ℕ, ◌≡◌, Bool, true, List, [], ◌∷◌, ◌++◌, codes, refl}
 use Rattle.tb_records.specs.declared.limits.Profile.{Profile}
 use Rattle.tb_records.specs.declared.limits.Profile.TheVariants.{Two}

@@ -1,6 +1,5 @@
 -- What is written of the entries of a log: of the records behind those that were read, and of the entries that they make, those above a commit
 -- number, or all.
--- Cited by public contracts of: dumps.
 use Rattle.std.specs.Prelude.{ℕ, Bool, true, ◌≡◌, nat_lt, List, [], ◌∷◌, ◌++◌, drop, flat_map, Option, Some, None, Result, Ok, Err, if◌then◌else◌, refl}
 use Rattle.tb_records.specs.declared.limits.Profile.{Profile}
 use Rattle.tb_records.specs.Inputs.{IsTimed}

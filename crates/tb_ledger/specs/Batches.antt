@@ -1,5 +1,4 @@
 -- Chains and batches: a chain happens whole or not at all.
--- Cited by public contracts of: laws, ledgers.
 use Rattle.std.specs.Prelude.{ℕ, suc, Bool, not, ◌==◌, ◌≡◌, ◌+◌, ◌-◌, refl, List, [], ◌∷◌, ◌++◌, map, filter, length, replicate, Option, Some, None, if◌then◌else◌}
 use Rattle.std.specs.List.{list_any, enumerate_from}
 use Rattle.std.specs.Option.{option_map}

@@ -1,5 +1,4 @@
 -- The books of a ledger, and what is read from them. Records never change, and no number here is kept: each is added up afresh.
--- Cited by public contracts of: ledgers.
 use Rattle.std.specs.Prelude.{ℕ, Bool, true, false, not, ◌&&◌, ◌||◌, ◌==◌, ◌+◌, ◌*◌, nat_le, List, [], Option, Some, None, if◌then◌else◌, find, sum_by, bit_and, bit_or}
 use Rattle.std.specs.List.{list_any, filter_map}
 use Rattle.std.specs.Option.{option_map}

@@ -1,5 +1,4 @@
 -- What it is to cut a batch into its chains.
--- Cited by public contracts of: laws.
 use Rattle.std.specs.Prelude.{◌≡◌, ◌↔◌, Bool, true, false, List, [], ◌∷◌, ◌++◌}
 use Rattle.tb_records.specs.Ordered.{Each}
 use Rattle.tb_ledger.specs.Batches.{Kind, Timed, chains}

@@ -1,5 +1,4 @@
 -- What the ledger keeps of the books, and that it is what the books say.
--- Cited by public contracts of: ledgers.
 use Rattle.std.specs.Prelude.{ℕ, Bool, true, false, not, ◌≡◌, ◌<◌, ◌≤◌, ◌+◌, ◌-◌, ◌&&◌, ◌||◌, ◌==◌, List, [], map, sum_by, if◌then◌else◌, find, IsSome, bit_or, Some, None}
 use Rattle.tb_records.specs.declared.limits.TheConstants.{NANOSECONDS_PER_SECOND}
 use Rattle.tb_records.specs.declared.records.Account.{Account}

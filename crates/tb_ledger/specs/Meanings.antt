@@ -1,5 +1,4 @@
 -- What the sums of an account mean: what counts in them, and for how long.
--- Cited by public contracts of: laws.
 use Rattle.std.specs.Prelude.{◌≡◌, ◌≢◌, ◌↔◌, ℕ, ◌+◌, ◌<◌, true, ◌&&◌, ◌==◌, if◌then◌else◌, Some}
 use Rattle.tb_records.specs.declared.records.Transfer.{Transfer}
 use Rattle.tb_records.specs.Ordered.{put, Each}

@@ -1,5 +1,4 @@
 -- What all books of a ledger keep: each transfer's two accounts are there, each account's sums fit and keep to its limits.
--- Cited by public contracts of: ledgers.
 use Rattle.std.specs.Prelude.{◌≡◌, ◌≢◌, ℕ, Bool, true, ◌==◌, ◌+◌, ◌≤◌, List, Option, Some, find}
 use Rattle.std.specs.Option.{option_map}
 use Rattle.tb_records.specs.declared.records.Account.{Account}

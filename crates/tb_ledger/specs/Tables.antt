@@ -1,5 +1,4 @@
 -- What a table keeps in a tree.
--- Cited by public contracts of: ledgers.
 use Rattle.std.specs.Prelude.{ℕ, ◌≡◌, ◌≢◌, ◌<◌, ◌≤◌, ◌==◌, find, map, true, List, [], ◌∷◌, Option, Some, if◌then◌else◌, ◌⊎◌, None}
 use Rattle.std.specs.Fn.{Mut, CalledAtMut, CalledAtPairMut}
 use denote.Ref.{MutBor}

@@ -1,6 +1,5 @@
 -- The verdict on an account and on a transfer: the code of the first test of a table that holds, and 0 where none does.
 -- The groups of tests are in the order in which an event meets them.
--- Cited by public contracts of: ledgers.
 use Rattle.std.specs.Prelude.{ℕ, Bool, true, false, not, ◌&&◌, ◌==◌, ◌+◌, ◌-◌, ◌*◌, min, nat_lt, List, [], ◌∷◌, Option, Some, None, if◌then◌else◌}
 use Rattle.std.specs.List.{list_any}
 use Rattle.std.specs.Option.{option_map_or}

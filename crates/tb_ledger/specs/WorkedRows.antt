@@ -1,5 +1,4 @@
 -- Worked examples: what the definitions answer to requests of which the answers are known.
--- Cited by public contracts of: worked_rows.
 use Rattle.std.specs.Prelude.{◌≡◌, ℕ, ◌+◌, max, List, [], ◌∷◌, map, ◌++◌, length, Option, Some, None}
 use Rattle.std.specs.Option.{option_map}
 use Rattle.tb_records.specs.declared.records.Account.{Account}

@@ -1,5 +1,4 @@
 -- What is read of an entry behind its kind, and why it is refused.
--- Cited by public contracts of: entries.
 use Rattle.std.specs.Prelude.{ℕ, ◌≡◌, ◌≢◌, ◌⊎◌, ◌+◌, ◌≤◌, ◌<◌, nat_le, nat_lt, List, [], ◌++◌, length, Option, Some, None, if◌then◌else◌, Err, Vec}
 use Rattle.std.specs.Io.KnownBytes.{Consumes, IsAtEnd}
 use Rattle.std.specs.declared.alloc.Global.{Global}

@@ -1,5 +1,4 @@
 -- The names of a follower's faults, and their lines.
--- Cited by public contracts of: faults.
 use Rattle.std.specs.Prelude.{◌≡◌, ℕ, List, ◌++◌, codes, refl}
 use Rattle.std.specs.Fmt.{decimal, digits}
 use Rattle.tb_records.specs.declared.faults.FrameFault.TheVariants as frame

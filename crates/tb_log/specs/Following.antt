@@ -1,5 +1,4 @@
 -- What a follower makes of a log, item by item.
--- Cited by public contracts of: followers.
 use Rattle.std.specs.Prelude.{ℕ, ◌+◌, List, [], ◌∷◌, ◌++◌, fold}
 use Rattle.tb_records.specs.declared.limits.Profile.{Profile}
 use Rattle.tb_records.specs.Messages.{Answer}

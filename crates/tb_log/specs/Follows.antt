@@ -1,5 +1,4 @@
 -- What a follower answers from a reader to a writer: items were taken one after another, and then the input ended or a fault came.
--- Cited by public contracts of: following.
 use Rattle.std.specs.Prelude.{ℕ, true, false, ◌≡◌, ◌≢◌, ◌⊎◌, ◌+◌, ◌-◌, ◌^◌, ◌≤◌, List, [], ◌∷◌, ◌++◌, length, fold, Result, Ok, Err}
 use Rattle.std.specs.Io.KnownBytes.{Consumes, IsAtEnd}
 use Rattle.tb_records.specs.declared.limits.Profile.{Profile}

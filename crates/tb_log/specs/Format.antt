@@ -1,5 +1,4 @@
 -- The bytes of a log's items, and of a follower's answers.
--- Cited by public contracts of: chains, entries, following.
 use Rattle.std.specs.Prelude.{ℕ, List, [], ◌∷◌, ◌++◌, length, flat_map, replicate}
 use Rattle.tb_records.specs.Messages.{Answer}
 use Rattle.byteorder.specs.Endian.{little_bytes}

@@ -1,5 +1,4 @@
 -- What a follower answers is what a server answers to the script that the entries spell.
--- Cited by public contracts of: laws.
 use Rattle.std.specs.Prelude.{ℕ, ◌≡◌, List, [], map, fold}
 use Rattle.tb_records.specs.declared.limits.Profile.{Profile}
 use Rattle.tb_records.specs.ReplyFrames.{reply_bytes}

@@ -1,5 +1,4 @@
 -- What a dump makes of a script: the pairs that it read, the entries that it wrote, and what ended it.
--- Cited by public contracts of: dumping.
 use Rattle.std.specs.Prelude.{ℕ, Bool, true, false, ◌==◌, ◌≡◌, ◌⊎◌, ◌-◌, ◌^◌, List, [], ◌++◌, length, Option, Some, None, Result, Ok, Err, if◌then◌else◌}
 use Rattle.tb_records.specs.declared.faults.FrameFault.TheVariants.{Device}
 use Rattle.tb_records.specs.declared.limits.Profile.TheVariants.{One}

@@ -1,5 +1,4 @@
 -- A history as bytes that another run can check, and the mark from which on its entries go by profile 2.
--- Cited by public contracts of: laws, restoring.
 use Rattle.std.specs.Prelude.{ℕ, ◌≡◌, ◌≤◌, nat_lt, List, [], ◌∷◌, ◌++◌, length, take, drop, fold, Option, Some, None, if◌then◌else◌}
 use Rattle.std.specs.List.{flat_map}
 use Rattle.tb_records.specs.declared.limits.Profile.{Profile}

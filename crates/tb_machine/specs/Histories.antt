@@ -1,5 +1,4 @@
 -- Entries, the state that they lead to, and the answers that it gives: a request is executed once, in its turn, and its reply is kept in its client's row.
--- Cited by public contracts of: answering, executing, machines, serving.
 use Rattle.std.specs.Prelude.{ℕ, Bool, true, false, ◌&&◌, ◌==◌, ◌+◌, max, nat_le, IsTrue, List, [], ◌∷◌, Option, Some, if◌then◌else◌, fold}
 use Rattle.std.specs.Option.{is_none, option_map}
 use Rattle.tb_records.specs.declared.bodies.Body.{Body}

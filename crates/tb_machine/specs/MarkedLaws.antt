@@ -1,5 +1,4 @@
 -- The laws of legal histories with a mark among them, or with none.
--- Cited by public contracts of: laws.
 use Rattle.std.specs.Prelude.{ℕ, true, false, ◌≡◌, ◌⊎◌, nat_le, IsTrue, List, [], ◌∷◌, ◌++◌, length, Option, Some, None, if◌then◌else◌}
 use Rattle.tb_records.specs.declared.records.Account.{Account}
 use Rattle.tb_records.specs.declared.limits.Profile.{Profile}

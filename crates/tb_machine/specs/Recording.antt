@@ -1,5 +1,4 @@
 -- The record of an entry in a journal: the bytes that it has in a dump, alone.
--- Cited by public contracts of: laws, restoring.
 use Rattle.std.specs.Prelude.{ℕ, ◌≡◌, ◌⊎◌, ◌^◌, ◌<◌, ◌≤◌, List, length, take, drop, Some, None, Result, Ok, Err}
 use Rattle.tb_records.specs.declared.faults.FrameFault.{FrameFault}
 use Rattle.tb_records.specs.declared.faults.FrameFault.TheVariants.{Short, BadLength, NoMemory}

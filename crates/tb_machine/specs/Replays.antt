@@ -1,5 +1,4 @@
 -- What a replay makes of a dump: the entries that it read, the replies that it wrote, and what ended it.
--- Cited by public contracts of: replaying.
 use Rattle.std.specs.Prelude.{ℕ, false, ◌≡◌, ◌⊎◌, IsTrue, List, [], ◌++◌, length, Option, None, Result, Ok, Err}
 use Rattle.std.specs.List.{flat_map}
 use Rattle.tb_records.specs.declared.dumps.DumpFault.{DumpFault}

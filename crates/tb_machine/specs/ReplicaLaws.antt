@@ -1,5 +1,4 @@
 -- What holds of a script that several machines read, each from its own place on.
--- Cited by public contracts of: laws.
 use Rattle.std.specs.Prelude.{ℕ, false, ◌≡◌, ◌+◌, ◌≤◌, ◌⊎◌, max, List, [], ◌∷◌, ◌++◌, Some}
 use Rattle.tb_records.specs.declared.limits.Profile.{Profile}
 use Rattle.tb_records.specs.Messages.{Message, count, is_register}

@@ -1,5 +1,4 @@
 -- The replies of the definitions have frames: their numbers fit and go together, so that their bytes are those of no other replies.
--- Cited by public contracts of: laws.
 use Rattle.std.specs.Prelude.{ℕ, ◌≡◌, List, [], Option}
 use Rattle.std.specs.List.{flat_map}
 use Rattle.tb_records.specs.declared.limits.Profile.{Profile}

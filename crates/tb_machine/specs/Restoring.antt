@@ -1,5 +1,4 @@
 -- What the restoring of a machine makes of the entries of a journal.
--- Cited by public contracts of: laws, restoring.
 use Rattle.std.specs.Prelude.{ℕ, Bool, not, ◌&&◌, ◌==◌, ◌≡◌, ◌+◌, nat_le, IsTrue, List, [], ◌∷◌, ◌++◌, length, codes, Option, Some, None, Result, Ok, Err, if◌then◌else◌}
 use Rattle.tb_records.specs.declared.limits.Profile.{Profile}
 use Rattle.tb_ledger.specs.Verdicts.{max_time}

@@ -1,5 +1,4 @@
 -- The numbers and the names of the faults of a run.
--- Cited by public contracts of: serving.
 use Rattle.std.specs.Prelude.{ℕ, List, codes}
 use Rattle.tb_records.specs.Faults.{fault_name}
 use Rattle.tb_machine.specs.declared.serving.RunFault.{RunFault}

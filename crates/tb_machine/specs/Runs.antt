@@ -1,5 +1,4 @@
 -- What a server makes of a script: the pairs that it read, the replies that it wrote, and what ended it.
--- Cited by public contracts of: serving.
 use Rattle.std.specs.Prelude.{ℕ, Bool, true, false, ◌≡◌, ◌-◌, ◌^◌, List, [], ◌∷◌, ◌++◌, length, Option, IfSome, Result, Ok, Err}
 use Rattle.std.specs.List.{flat_map}
 use Rattle.tb_records.specs.declared.faults.FrameFault.TheVariants.{Device}

@@ -1,5 +1,4 @@
 -- Scripts: what a server makes of moments and requests, one after another.
--- Cited by public contracts of: executing.
 use Rattle.std.specs.Prelude.{ℕ, Bool, ◌&&◌, ◌+◌, nat_le, List, [], ◌∷◌, ◌++◌, if◌then◌else◌, fold, ◌≡◌, true, false, IsTrue, Option, Some, None}
 use Rattle.tb_records.specs.declared.limits.Profile.{Profile}
 use Rattle.tb_records.specs.Messages.{Message, Answer}

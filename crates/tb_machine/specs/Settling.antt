@@ -1,5 +1,4 @@
 -- The posts and voids of a history: in which books each is judged, and that those which are accepted settle.
--- Cited by public contracts of: laws.
 use Rattle.std.specs.Prelude.{ℕ, true, ◌≡◌, ◌⊎◌, List, [], ◌∷◌, Option}
 use Rattle.tb_records.specs.declared.records.Transfer.{Transfer}
 use Rattle.tb_records.specs.declared.bodies.Body.TheVariants.{CreateTransfers}

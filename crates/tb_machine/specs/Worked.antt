@@ -1,5 +1,4 @@
 -- What a run, a dump and a replay share: items are read and taken one after another, each by a step, until the input ends or a fault comes.
--- Public contracts reach it through: DumpRuns, Replays, Runs.
 use Rattle.std.specs.Prelude.{ℕ, Bool, true, false, ◌≡◌, ◌⊎◌, List, Option, Some, None, Result, Ok, Err}
 use Rattle.tb_records.specs.Transport.{Input, Output, Sent}
 use Rattle.tb_machine.specs.Histories.{State}

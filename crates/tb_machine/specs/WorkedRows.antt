@@ -1,5 +1,4 @@
 -- Worked examples over the definitions: scripts, and the replies to them. All amounts are in ledger 700, all codes 10.
--- Cited by public contracts of: worked_rows.
 use Rattle.std.specs.Prelude.{ℕ, false, ◌≡◌, List, [], ◌∷◌, ◌++◌, map, length, Some, None}
 use Rattle.std.specs.List.{range_with_len}
 use Rattle.tb_records.specs.declared.records.Account.{Account}

@@ -1,5 +1,4 @@
 -- The name and the exit status of each fault.
--- Cited by private contracts of: faults.
 use Rattle.std.specs.Prelude.{ℕ, List, codes}
 use Rattle.tb_records.specs.declared.faults.FrameFault.TheVariants as frame
 use Rattle.tb_records.specs.Faults.{fault_name as frame_fault_name}

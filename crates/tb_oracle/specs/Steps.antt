@@ -1,5 +1,4 @@
 -- A step of a client's session as bytes, what the session makes of it, and the bytes of its answer.
--- Cited by private contracts of: steps, answering.
 use Rattle.std.specs.Prelude.{ℕ, ◌≡◌, ◌⊎◌, ◌<◌, ◌≤◌, List, [], ◌∷◌, ◌++◌, length, take, drop, slice_index, Some, None, Result, Ok, Err}
 use Rattle.byteorder.specs.Endian.{little_bytes, little_number}
 use Rattle.tb_records.specs.declared.faults.FrameFault.{FrameFault}

@@ -1,5 +1,4 @@
 -- The steps of a reader, and their answers.
--- Cited by private contracts of: answering.
 use Rattle.std.specs.Prelude.{ℕ, Bool, true, false, ◌≡◌, ◌⊎◌, List, [], ◌++◌, length, Option, Result, Ok, Err}
 use Rattle.std.specs.List.{All, flat_map}
 use Rattle.std.specs.Io.KnownBytes.{Consumes, Appends, IsAtEnd}

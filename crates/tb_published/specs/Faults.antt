@@ -1,5 +1,4 @@
 -- The numbers and the names of faults.
--- Cited by public contracts of: faults.
 use Rattle.std.specs.Prelude.{ℕ, List, codes}
 use Rattle.tb_published.specs.declared.faults.TakeFault.{TakeFault}
 use Rattle.tb_published.specs.declared.faults.TakeFault.TheVariants as take_fault

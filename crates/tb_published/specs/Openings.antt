@@ -1,5 +1,4 @@
 -- An opening, and what is said of its history.
--- Cited by public contracts of: naming, publisher, publishing, seat.
 use Rattle.std.specs.Prelude.{ℕ, ◌≡◌, ◌⊎◌, List, length, nat_lt, if◌then◌else◌}
 use mathlib.Core.List.{IsPrefix}
 use Rattle.logbook.specs.Pages.{Book}

@@ -1,5 +1,4 @@
 -- What seats have seen, and what a seat that has learnt of a request answers for it.
--- Cited by public contracts of: laws.
 use Rattle.std.specs.Prelude.{true, ◌≡◌, List, ◌∷◌, ◌++◌, None}
 use mathlib.Core.List.{IsPrefix}
 use Rattle.tb_records.specs.declared.replies.Status.TheVariants as status

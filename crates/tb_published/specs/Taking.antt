@@ -1,5 +1,4 @@
 -- What becomes of a request that is taken.
--- Cited by public contracts of: publisher.
 use Rattle.std.specs.Prelude.{ℕ, true, false, ◌≡◌, ◌≢◌, ◌⊎◌, ◌+◌, ◌<◌, List, [], ◌∷◌, ◌++◌, length, Result, Ok, Err}
 use Rattle.tb_records.specs.Messages.{Message}
 use Rattle.tb_sessions.specs.declared.classes.Class.{Class}

@@ -1,5 +1,4 @@
 -- The flags of accounts, by TigerBeetle's names.
--- Cited by public contracts of: account_flags, records.
 use Rattle.std.specs.Prelude.{ℕ, Bool, ◌+◌, ◌-◌, ◌^◌, List, [], ◌∷◌, ◌≡◌, refl, codes}
 use Rattle.tb_records.specs.declared.account_flags.AccountFlag.{AccountFlag}
 use Rattle.tb_records.specs.declared.account_flags.AccountFlag.TheVariants.{Linked, DebitsMustNotExceedCredits, CreditsMustNotExceedDebits, History, Imported, Closed}

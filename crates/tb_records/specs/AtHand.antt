@@ -1,5 +1,4 @@
 -- What is whole at the beginning of bytes that are buffered.
--- Cited by public contracts of: dumps, streams.
 use Rattle.std.specs.Prelude.{ℕ, Bool, ◌+◌, ◌&&◌, ◌||◌, ◌==◌, nat_le, List, length, drop}
 use Rattle.tb_records.specs.Frames.{length_at}
 use Rattle.tb_records.specs.Numbers.{le_at}

@@ -1,5 +1,4 @@
 -- The bytes of a dump: a head of 16 bytes, and behind it entries and at most one mark, one after another.
--- Cited by public contracts of: dumps.
 use Rattle.std.specs.Prelude.{ℕ, ◌≡◌, ◌≢◌, ◌⊎◌, ◌+◌, ◌^◌, ◌<◌, ◌≤◌, List, [], ◌∷◌, ◌++◌, length, drop, Option, Some, None, Result, Ok, Err}
 use Rattle.tb_records.specs.declared.dumps.DumpFault.{DumpFault}
 use Rattle.tb_records.specs.declared.dumps.DumpFault.TheVariants.{Head, Mark, Frame}

@@ -1,5 +1,4 @@
 -- The numbers and the names of the faults of a dump.
--- Cited by public contracts of: dumps.
 use Rattle.std.specs.Prelude.{ℕ, List, codes}
 use Rattle.tb_records.specs.declared.dumps.DumpFault.{DumpFault}
 use Rattle.tb_records.specs.declared.dumps.DumpFault.TheVariants.{Head, Mark, Frame, NotLegal, NoMemory}

@@ -1,5 +1,4 @@
 -- The numbers and the names of faults.
--- Cited by public contracts of: faults.
 use Rattle.std.specs.Prelude.{ℕ, List, codes}
 use Rattle.tb_records.specs.declared.faults.FrameFault.{FrameFault}
 use Rattle.tb_records.specs.declared.faults.FrameFault.TheVariants.{Short, ClientZero, UnknownOperation, Reserved, BadLength, TooMany, RegisterNumbers, RequestZero, Device, NoMemory, ReplyNumbers}

@@ -1,5 +1,4 @@
 -- Flags in a number of 16 bits.
--- Cited by public contracts of: account_flags, transfer_flags.
 use Rattle.std.specs.Prelude.{ℕ, Bool, not, ◌==◌, bit_and}
 
 -- one of the mask's bits is set

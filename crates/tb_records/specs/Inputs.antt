@@ -1,5 +1,4 @@
 -- What is read from bytes: a frame of a slice, and the frames of a stream one by one.
--- Cited by public contracts of: reading, streams.
 use Rattle.std.specs.Prelude.{ℕ, ◌≡◌, ◌+◌, ◌<◌, ◌≤◌, ◌^◌, List, [], ◌++◌, length, take, drop, Option, Some, None, Result, Ok, Err}
 use Rattle.tb_records.specs.declared.faults.FrameFault.{FrameFault}
 use Rattle.tb_records.specs.declared.faults.FrameFault.TheVariants.{Short, Device, NoMemory}

@@ -1,5 +1,4 @@
 -- The limits of a ledger.
--- Cited by public contracts of: limits.
 use Rattle.std.specs.Prelude.{ℕ, ◌<◌, ◌≤◌}
 use Rattle.tb_records.specs.declared.limits.TheConstants.{CLIENTS_MAX}
 

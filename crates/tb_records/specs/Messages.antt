@@ -1,5 +1,4 @@
 -- Requests and replies as contracts see them, and the rules that their numbers keep.
--- Cited by public contracts of: bodies, laws, operations, reading, replies, reply_laws, reply_reading, requests.
 use Rattle.std.specs.Prelude.{ℕ, Bool, not, ◌&&◌, ◌||◌, ◌==◌, ◌≡◌, nat_lt, List, [], ◌∷◌, length, Option, Some, None, if◌then◌else◌}
 use Rattle.tb_records.specs.declared.bodies.Body.{Body}
 use Rattle.tb_records.specs.declared.bodies.Body.TheVariants.{Register, CreateAccounts, CreateTransfers, LookupAccounts, LookupTransfers}

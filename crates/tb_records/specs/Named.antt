@@ -1,5 +1,4 @@
 -- What is found by its number.
--- Cited by public contracts of: account_results, operations, transfer_results.
 use Rattle.std.specs.Prelude.{◌≡◌, ◌↔◌, Option, Some}
 
 -- the answer is the one thing of which this holds; None where there is none

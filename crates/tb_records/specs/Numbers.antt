@@ -1,5 +1,4 @@
 -- Numbers as bytes, the lowest byte first.
--- Public contracts reach it through: AtHand, DumpBytes, Frames, Inputs, RecordBytes, ReplyFrames, Sizes.
 use Rattle.std.specs.Prelude.{ℕ, List, drop}
 use Rattle.byteorder.specs.Endian.{little_bytes, little_number}
 

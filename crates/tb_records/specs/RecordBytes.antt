@@ -1,5 +1,4 @@
 -- Records in TigerBeetle's layout: field after field, each number with its lowest byte first.
--- Cited by public contracts of: layout, records.
 use Rattle.std.specs.Prelude.{ℕ, ◌^◌, ◌<◌, ◌++◌, List}
 use Rattle.tb_records.specs.declared.records.Account.{Account}
 use Rattle.tb_records.specs.declared.records.Transfer.{Transfer}

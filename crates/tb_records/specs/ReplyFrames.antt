@@ -1,5 +1,4 @@
 -- The frames of replies: a header of 48 bytes, and behind it the results or records.
--- Cited by public contracts of: reply_laws, reply_reading, writing.
 use Rattle.std.specs.Prelude.{ℕ, Bool, not, ◌≡◌, ◌==◌, ◌+◌, ◌/◌, ◌%◌, ◌^◌, ◌<◌, ◌≤◌, ◌&&◌, ◌||◌, nat_lt, List, [], ◌∷◌, ◌++◌, length, take, replicate, Option, Some, None, Result, Ok, Err, if◌then◌else◌}
 use Rattle.std.specs.List.{All, flat_map}
 use Rattle.tb_records.specs.declared.bodies.ReplyBody.{ReplyBody}

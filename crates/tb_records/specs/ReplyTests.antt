@@ -1,5 +1,4 @@
 -- The tests of a reply's header in their parts: the fields by themselves, the numbers together, the length of the body.
--- Cited by public contracts of: replies.
 use Rattle.std.specs.Prelude.{ℕ, Bool, not, ◌&&◌, ◌==◌, ◌/◌, nat_lt, List, [], ◌∷◌}
 use Rattle.tb_records.specs.declared.bodies.ReplyBody.{ReplyBody}
 use Rattle.tb_records.specs.declared.replies.Numbers.{Numbers}

@@ -1,5 +1,4 @@
 -- The same operation and the same body.
--- Cited by public contracts of: bodies.
 use Rattle.std.specs.Prelude.{Bool, true, false, ◌&&◌, nat_eq}
 use Rattle.std.specs.Cmp.Lexicographic.{pointwise}
 use Rattle.tb_records.specs.declared.records.Account.{Account}

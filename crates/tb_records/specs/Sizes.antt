@@ -1,5 +1,4 @@
 -- How many bytes numbers and records have.
--- Cited by public contracts of: layout.
 use Rattle.std.specs.Prelude.{◌≡◌, ℕ, length}
 use Rattle.std.proofs.Common.{length-append}
 use Rattle.byteorder.specs.Numbers.{length-bytes_low_first}

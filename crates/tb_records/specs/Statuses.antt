@@ -1,5 +1,4 @@
 -- The names of statuses.
--- Cited by public contracts of: replies.
 use Rattle.std.specs.Prelude.{ℕ, List, [], ◌∷◌, codes}
 use Rattle.tb_records.specs.declared.replies.Status.{Status}
 use Rattle.tb_records.specs.declared.replies.Status.TheVariants.{Reply, NoSession, SessionTooLow, NewerSession, Older, Collision, NewerRequest, NotYet}

@@ -1,5 +1,4 @@
 -- The flags of transfers, by TigerBeetle's names.
--- Cited by public contracts of: records, transfer_flags.
 use Rattle.std.specs.Prelude.{ℕ, Bool, ◌+◌, ◌-◌, ◌^◌, List, [], ◌∷◌, ◌≡◌, refl, codes}
 use Rattle.tb_records.specs.declared.transfer_flags.TransferFlag.{TransferFlag}
 use Rattle.tb_records.specs.declared.transfer_flags.TransferFlag.TheVariants.{Linked, Pending, PostPendingTransfer, VoidPendingTransfer, BalancingDebit, BalancingCredit, ClosingDebit, ClosingCredit, Imported}

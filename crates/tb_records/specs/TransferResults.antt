@@ -1,5 +1,4 @@
 -- The result codes of transfers, by TigerBeetle's names.
--- Cited by public contracts of: transfer_results.
 use Rattle.std.specs.Prelude.{ℕ, List, [], ◌∷◌, codes}
 use Rattle.tb_records.specs.declared.transfer_results.CreateTransferResult.{CreateTransferResult}
 use Rattle.tb_records.specs.declared.transfer_results.CreateTransferResult.TheVariants.{Ok, LinkedEventFailed, LinkedEventChainOpen, TimestampMustBeZero, ReservedFlag, IdMustNotBeZero, IdMustNotBeIntMax, FlagsAreMutuallyExclusive, DebitAccountIdMustNotBeZero, DebitAccountIdMustNotBeIntMax, CreditAccountIdMustNotBeZero, CreditAccountIdMustNotBeIntMax, AccountsMustBeDifferent, PendingIdMustBeZero, PendingIdMustNotBeZero, PendingIdMustNotBeIntMax, PendingIdMustBeDifferent, TimeoutReservedForPendingTransfer, LedgerMustNotBeZero, CodeMustNotBeZero, DebitAccountNotFound, CreditAccountNotFound, AccountsMustHaveTheSameLedger, TransferMustHaveTheSameLedgerAsAccounts, PendingTransferNotFound, PendingTransferNotPending, PendingTransferHasDifferentDebitAccountId, PendingTransferHasDifferentCreditAccountId, PendingTransferHasDifferentLedger, PendingTransferHasDifferentCode, ExceedsPendingTransferAmount, PendingTransferHasDifferentAmount, PendingTransferAlreadyPosted, PendingTransferAlreadyVoided, PendingTransferExpired, ExistsWithDifferentFlags, ExistsWithDifferentDebitAccountId, ExistsWithDifferentCreditAccountId, ExistsWithDifferentAmount, ExistsWithDifferentPendingId, ExistsWithDifferentUserData128, ExistsWithDifferentUserData64, ExistsWithDifferentUserData32, ExistsWithDifferentTimeout, ExistsWithDifferentCode, Exists, OverflowsDebitsPending, OverflowsCreditsPending, OverflowsDebitsPosted, OverflowsCreditsPosted, OverflowsDebits, OverflowsCredits, OverflowsTimeout, ExceedsCredits, ExceedsDebits, ClosingTransferMustBePending, DebitAccountAlreadyClosed, CreditAccountAlreadyClosed, ExistsWithDifferentLedger, IdAlreadyFailed}

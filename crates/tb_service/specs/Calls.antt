@@ -1,5 +1,4 @@
 -- What a call offers.
--- Cited by public contracts of: ports.
 use Rattle.std.specs.Prelude.{◌≡◌, ◌⊎◌, List, [], ◌∷◌, ◌++◌}
 use mathlib.Core.List.{IsPrefix}
 use Rattle.tb_records.specs.declared.replies.Status.TheVariants as status

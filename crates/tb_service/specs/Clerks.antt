@@ -1,5 +1,4 @@
 -- What a clerk has.
--- Cited by public contracts of: server.
 use Rattle.std.specs.Prelude.{ℕ, ◌≡◌, ◌+◌, ◌≤◌, List, length, vec_len, vec_capacity}
 use Rattle.tb_records.specs.Messages.{Message}
 use Rattle.tb_published.specs.Openings.{Opening}

@@ -1,5 +1,4 @@
 -- What clauses see of a run that has ended.
--- Cited by public contracts of: finished.
 use Rattle.std.specs.Prelude.{ℕ, ◌≡◌, ◌-◌, ◌<◌, true, List, [], ◌++◌, map, slice_get, Some}
 use Rattle.crossbeam_channel.specs.Claims.{Pass, view}
 use Rattle.tb_records.specs.Messages.{Message}

@@ -1,5 +1,4 @@
 -- What a server makes of requests, one after another.
--- Cited by public contracts of: starting.
 use Rattle.std.specs.Prelude.{ℕ, Bool, true, false, ◌≡◌, ◌+◌, List, [], ◌∷◌, ◌++◌, Option, Some, None}
 use Rattle.tb_records.specs.Messages.{Message}
 use Rattle.tb_sessions.specs.declared.classes.Class.{Class}

@@ -1,5 +1,4 @@
 -- Which service a pass belongs to.
--- Cited by public contracts of: server.
 use Rattle.atomic_table.specs.Seated.{TableId}
 use Rattle.atomic_table.specs.declared.badge.Badge.{Badge}
 use Rattle.crossbeam_channel.specs.declared.flavors.array.Key.{Key}

@@ -1,5 +1,4 @@
 -- Places: the requests taken are numbered from 1.
--- Cited by public contracts of: finished, server.
 use Rattle.std.specs.Prelude.{ℕ, ◌≡◌, ◌==◌, ◌+◌, ◌<◌, List, [], ◌∷◌, ◌++◌, length, replicate, if◌then◌else◌}
 use Rattle.std.specs.List.{All}
 use Rattle.tb_records.specs.Messages.{Message}

@@ -1,5 +1,4 @@
 -- What clauses see of ports.
--- Cited by public contracts of: ports, starting.
 use Rattle.std.specs.Prelude.{ℕ, ◌≡◌, ◌+◌, true, List, [], ◌∷◌, ◌++◌, length, Result, MatchResult}
 use Rattle.crossbeam_channel.specs.Claims.{Pass, view}
 use Rattle.tb_records.specs.Messages.{Message}

@@ -1,5 +1,4 @@
 -- What clauses see of a server.
--- Cited by public contracts of: server.
 use Rattle.std.specs.Prelude.{ℕ, List}
 use Rattle.tb_records.specs.Messages.{Message}
 use Rattle.tb_machine.specs.declared.entries.Entry.{Entry}

@@ -1,5 +1,4 @@
 -- Where each state has one next moment, a run's moments are pinned, and so is the history that comes of it.
--- Cited by public contracts of: laws.
 use Rattle.std.specs.Prelude.{ℕ, ◌≡◌, List, length}
 use Rattle.tb_records.specs.Messages.{Message}
 use Rattle.tb_machine.specs.declared.entries.Entry.{Entry}

@@ -1,5 +1,4 @@
 -- How the table takes a row in: in place of its client's row, or next to the others, where the row of least commit may have to go.
--- Cited by public contracts of: table.
 use Rattle.std.specs.Prelude.{ℕ, nat_le, nat_lt, List, length, Option, Some, None, if◌then◌else◌, find}
 use Rattle.std.specs.List.{list_all}
 use Rattle.std.specs.Option.{is_some}

@@ -1,5 +1,4 @@
 -- How a request relates to the sessions: its class.
--- Cited by public contracts of: table.
 use Rattle.std.specs.Prelude.{ℕ, Bool, ◌&&◌, ◌==◌, ◌+◌, ◌≡◌, nat_lt, List, [], ◌∷◌, Option, Some, None, if◌then◌else◌, find}
 use Rattle.tb_records.specs.Messages.{Message, is_register}
 use Rattle.tb_records.specs.Same.{same_body}

@@ -1,5 +1,4 @@
 -- How the table serves a request that is New compared with its client's row: by a call at the request and the row, which may put a later row there.
--- Cited by public contracts of: table.
 use Rattle.std.specs.Prelude.{◌≡◌, ◌<◌, ◌⊎◌, List, Some}
 use Rattle.std.specs.Fn.{Mut, Called}
 use Rattle.tb_records.specs.Messages.{Message}

@@ -1,6 +1,5 @@
 -- The exit status of each fault of a storm: 1 a device, memory or a copy failed, 3 a client gave up; the line that a fault is reported by;
 -- and the lines of a storm that ended well.
--- Cited by public contracts of: faults, storms.
 use Rattle.std.specs.Prelude.{ℕ, ◌≡◌, ◌⊎◌, List, ◌++◌, Result, Ok, Err, IfOk, codes}
 use Rattle.std.specs.Fmt.{decimal}
 use Rattle.tb_records.specs.Transport.{Output, Sent, CutOff}

@@ -1,5 +1,4 @@
 -- The ids of a storm's transfers, and what its totals are.
--- Public contracts reach it through: Storms.
 use Rattle.std.specs.Prelude.{ℕ, zero, suc, ◌≡◌, ◌+◌, ◌*◌, ◌≤◌, List, [], ◌∷◌, ◌++◌, length}
 use Rattle.tb_records.specs.declared.records.Account.{Account}
 use Rattle.tb_records.specs.declared.limits.Profile.TheVariants as profile

@@ -1,5 +1,4 @@
 -- What letting trees go counts.
--- Cited by private contracts alone, of: freeing.
 use Rattle.std.specs.Prelude.{ℕ, ◌+◌}
 use Rattle.avl_tree.specs.declared.tree.Tree.{Tree}
 use Rattle.avl_tree.specs.declared.tree.Tree.TheVariants.{Empty, Fork'}

@@ -1,5 +1,4 @@
 -- What a closure leaves that was called at two values of a tree, while the search for them goes on.
--- Cited by private contracts alone, of: pairs.
 use Rattle.std.specs.Prelude.{◌≡◌, Bool, true, false, List, Option, None, Some, ◌⊎◌}
 use Rattle.std.specs.BTreeMap.{is_at}
 use Rattle.std.specs.declared.cmp.Ordering.{Ordering}

@@ -1,5 +1,4 @@
 -- The side of a node that a search goes on in, and what the node ends as, once a `&mut` to that side has ended.
--- Cited by private contracts alone, of: tree.
 use Rattle.std.specs.Borrow.{Fml, RattleType, MutBor, Lends}
 use Rattle.std.specs.declared.alloc.Allocator.{Ghosts}
 use Rattle.std.specs.declared.cmp.Ordering.{Ordering}

@@ -1,5 +1,4 @@
 -- The parts of a call over a client's session.
--- Cited by private contracts alone, of: calling.
 use Rattle.std.specs.Prelude.{ℕ, ◌≡◌, ◌⊎◌, ◌<◌, List, Result, Ok, Err, None}
 use Rattle.tb_records.specs.Messages.{Message}
 use Rattle.tb_records.specs.Frames.{Spells}

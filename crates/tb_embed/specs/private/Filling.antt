@@ -1,5 +1,4 @@
 -- A room for the bytes of a reply: how far it is filled, and how long the reply is.
--- Cited by private contracts alone, of: asking, replies, rooms.
 use Rattle.std.specs.Prelude.{ℕ, true, false, ◌≡◌, ◌≤◌, Bool, List, ◌∷◌, length, take, Option, Some, Result, Ok, Err}
 use Rattle.tb_records.specs.Transport.{Output}
 use Rattle.tb_records.specs.ReplyFrames.{reply_bytes, IsReply, SpellsReply}

@@ -1,5 +1,4 @@
 -- The exit status of a fault: 1 where a device or memory failed, 2 where the input is wrong.
--- Cited by private contracts alone, of: tb_follow.
 use Rattle.std.specs.Prelude.{ℕ}
 use Rattle.tb_log.specs.declared.faults.LogFault.{LogFault}
 use Rattle.tb_log.specs.declared.faults.LogFault.TheVariants.{Device, NoMemory}

@@ -1,5 +1,4 @@
 -- What the adapter holds, and what private functions of it leave.
--- Cited by private contracts alone, of: posix.
 use Rattle.std.specs.Prelude.{◌≡◌, ◌⊎◌, ℕ, ◌≤◌, List, length, take, drop, Result, Ok, IfOk}
 use Rattle.tb_journal.specs.declared.faults.JournalFault.{JournalFault}
 use Rattle.tb_journal.specs.Device.{Disk, Torn, HasCause, Looks, overwritten}

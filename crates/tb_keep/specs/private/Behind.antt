@@ -1,5 +1,4 @@
 -- The steps by which records behind damage are taken over: for private functions alone.
--- Cited by private contracts alone, of: reading_on.
 use Rattle.std.specs.Prelude.{ℕ, Bool, true, false, ◌≡◌, List, length, Result, Ok, Err}
 use Rattle.tb_journal.specs.Device.{Disk}
 use Rattle.tb_journal.specs.Seeking.{SeekState, IsSeeking, StandsAt}

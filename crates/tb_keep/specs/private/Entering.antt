@@ -1,5 +1,4 @@
 -- The records of a file as they are read and entered: for private functions alone.
--- Cited by private contracts alone, of: creating, dumps, recovering, salvaging.
 use Rattle.std.specs.Prelude.{ℕ, Bool, true, false, ◌≡◌, List, [], ◌∷◌, ◌++◌, Result, Ok, Err}
 use Rattle.tb_journal.specs.declared.reading.Extent.{Extent}
 use Rattle.tb_journal.specs.Device.{Disk, IsOnDisk}

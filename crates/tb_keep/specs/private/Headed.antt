@@ -1,5 +1,4 @@
 -- Journals that have a head: for private functions alone.
--- Cited by private contracts alone, of: creating.
 use Rattle.std.specs.Prelude.{ℕ, ◌≡◌, ◌⊎◌, List, [], ◌∷◌, Result, Ok, Err, OnOk, IfOk, IfErr, true}
 use Rattle.tb_records.specs.declared.limits.Profile.{Profile}
 use Rattle.tb_journal.specs.declared.faults.JournalFault.TheVariants.{NotEmpty}

@@ -1,5 +1,4 @@
 -- The records of a file as their numbers and times are read: for private functions alone.
--- Cited by private contracts alone, of: quick.
 use Rattle.std.specs.Prelude.{ℕ, ◌≡◌, List, [], ◌∷◌, ◌++◌, length, Option, None, Some, Result, Ok, Err}
 use Rattle.tb_journal.specs.Contents.{Records, contents}
 use Rattle.tb_journal.specs.Opening.{RefusesFile}

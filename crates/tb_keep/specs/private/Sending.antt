@@ -1,5 +1,4 @@
 -- The records of a file as they are read and sent: for private functions alone.
--- Cited by private contracts alone, of: dumps.
 use Rattle.std.specs.Prelude.{ℕ, Bool, true, false, ◌≡◌, ◌+◌, ◌-◌, List, [], ◌∷◌, ◌++◌, drop, Result, Ok, Err}
 use Rattle.tb_records.specs.declared.faults.FrameFault.TheVariants.{Device}
 use Rattle.tb_records.specs.Transport.{Output, Sent, CutOff}

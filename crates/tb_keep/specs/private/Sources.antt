@@ -1,5 +1,4 @@
 -- The next step of a scan: for private functions alone.
--- Cited by private contracts alone, of: recovering.
 use Rattle.std.specs.Prelude.{ℕ, Bool, List, Result}
 use Rattle.tb_journal.specs.declared.opening.OpenFault.{OpenFault}
 use Rattle.tb_journal.specs.Scans.{BeginsWith, ScanState, ReadsNext}

@@ -1,5 +1,4 @@
 -- The steps by which records are taken over: for private functions alone.
--- Cited by private contracts alone, of: dumps, salvaging.
 use Rattle.std.specs.Prelude.{ℕ, Bool, true, false, ◌≡◌, ◌≤◌, ◌^◌, List, [], ◌∷◌, ◌++◌, Option, None, Some, Result, Ok, Err, IfErr}
 use Rattle.tb_journal.specs.declared.faults.JournalFault.{JournalFault}
 use Rattle.tb_journal.specs.declared.opening.OpenFault.TheVariants as open_faults

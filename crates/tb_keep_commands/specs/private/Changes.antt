@@ -1,5 +1,4 @@
 -- What a call does to what a reference points at, as private contracts say it.
--- Cited by private contracts alone, of: copying, files, lines, printable.
 use Rattle.std.specs.Prelude.{ℕ, List, Result}
 use Rattle.tb_records.specs.Transport.{Output, IsSent}
 use Rattle.tb_records.specs.declared.devices.Sink as sinks

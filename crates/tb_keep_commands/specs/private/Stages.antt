@@ -1,5 +1,4 @@
 -- What the private functions behind a command do, as they have its parts.
--- Cited by private contracts alone, of: commands, copying, following, keeping.
 use Rattle.std.specs.Prelude.{ℕ, Bool, true, List, [], OnOk}
 use Rattle.tb_records.specs.Transport.{Input, Output}
 use Rattle.tb_records.specs.declared.devices.Sink as sinks

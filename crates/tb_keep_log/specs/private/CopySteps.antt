@@ -1,5 +1,4 @@
 -- The steps by which a log's file is read to its end, and taken over: for private functions alone.
--- Cited by private contracts alone, of: checking.
 use Rattle.std.specs.Prelude.{ℕ, ◌≡◌, List, Option, None, Some, Result, Ok, Err}
 use Rattle.tb_keep_log.specs.declared.checking.Reached.{Reached}
 use Rattle.tb_keep_log.specs.declared.faults.LogStartFault.{LogStartFault}

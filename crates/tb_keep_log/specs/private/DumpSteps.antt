@@ -1,5 +1,4 @@
 -- The steps of a dump: for private functions alone.
--- Cited by private contracts alone, of: dumps.
 use Rattle.std.specs.Prelude.{ℕ, Bool, true, false, ◌≡◌, ◌⊎◌, List, [], ◌∷◌, ◌++◌, drop, flat_map, Option, Result, Ok, Err}
 use Rattle.tb_records.specs.declared.limits.Profile.{Profile}
 use Rattle.tb_records.specs.Inputs.{IsTimed}

@@ -1,5 +1,4 @@
 -- The steps of reading and of serving: for private functions alone.
--- Cited by private contracts alone, of: beginning, entries, items, rereading.
 use Rattle.std.specs.Prelude.{ℕ, Bool, true, false, ◌≡◌, ◌⊎◌, List, [], ◌∷◌, ◌++◌, Result, Ok, Err, OnOk, IfErr, Vec}
 use Rattle.std.specs.declared.alloc.Global.{Global}
 use Rattle.tb_records.specs.declared.limits.Profile.{Profile}

@@ -1,5 +1,4 @@
 -- What the tables can still take without asking for memory.
--- Cited by private contracts alone, of: batches, kinds::account, kinds::resolving, kinds::transfer, kinds::two_party, ledgers.
 use Rattle.std.specs.Prelude.{ℕ, ◌≡◌, ◌+◌, ◌≤◌, Bool, true}
 use Rattle.tb_ledger.specs.declared.tables.rows.Rows.{Rows}
 

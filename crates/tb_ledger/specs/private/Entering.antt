@@ -1,5 +1,4 @@
 -- When a batch may be entered.
--- Cited by private contracts alone, of: ledgers.
 use Rattle.std.specs.Prelude.{ℕ, ◌+◌, ◌≤◌, max}
 use Rattle.tb_records.specs.declared.limits.TheConstants.{ITEMS_MAX}
 use Rattle.tb_ledger.specs.Verdicts.{max_time}

@@ -1,5 +1,4 @@
 -- A transfer between two accounts, by their rows.
--- Cited by private contracts alone, of: kinds::resolving, kinds::two_party.
 use Rattle.std.specs.Prelude.{ℕ, ◌≡◌, ◌==◌, List, find, Option, Some, Result, MatchResult, if◌then◌else◌}
 use Rattle.std.specs.Option.{option_map, is_some}
 use Rattle.tb_records.specs.declared.records.Transfer.{Transfer}

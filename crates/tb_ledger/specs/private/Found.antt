@@ -1,5 +1,4 @@
 -- How a function answers a verdict, and what an accepted post or void found in the books.
--- Cited by private contracts alone, of: kinds::account, kinds::resolving, kinds::transfer, kinds::two_party.
 use Rattle.std.specs.Prelude.{◌≡◌, ◌≢◌, ℕ, true, false, ◌&&◌, ◌≤◌, Some, Result, Ok, Err}
 use Rattle.tb_records.specs.declared.records.Transfer.{Transfer}
 use Rattle.tb_ledger.specs.Books.{Books, pending, posts, voids, holds, transfer_at}

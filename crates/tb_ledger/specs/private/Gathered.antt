@@ -1,5 +1,4 @@
 -- The results of a batch so far.
--- Cited by private contracts alone, of: batches, batches::results, tables::work.
 use Rattle.std.specs.Prelude.{ℕ, List, ◌≡◌, ◌++◌}
 use Rattle.tb_records.specs.declared.records.EventResult.{EventResult}
 use Rattle.tb_ledger.specs.Batches.{results_from}

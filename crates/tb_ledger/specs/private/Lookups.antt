@@ -1,5 +1,4 @@
 -- What a lookup of an id finds among rows.
--- Cited by private contracts alone, of: lookups.
 use Rattle.std.specs.Prelude.{ℕ, ◌==◌, List, find, Option}
 use Rattle.std.specs.Option.{option_map}
 

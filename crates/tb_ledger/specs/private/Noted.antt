@@ -1,5 +1,4 @@
 -- The changes of a chain that a undo log has noted.
--- Cited by private contracts alone, of: tables::work.
 use Rattle.std.specs.Prelude.{ℕ, ◌≡◌, ◌+◌, ◌≤◌, Bool, List, [], ◌∷◌, ◌++◌, length, if◌then◌else◌}
 use Rattle.tb_ledger.specs.declared.tables.accounts.AccountRow.{AccountRow}
 use Rattle.tb_ledger.specs.declared.tables.work.Undo.{Undo}

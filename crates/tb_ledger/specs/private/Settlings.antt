@@ -1,5 +1,4 @@
 -- A post or void, by the rows of the accounts of its pending transfer.
--- Cited by private contracts alone, of: kinds::resolving.
 use Rattle.std.specs.Prelude.{ℕ, ◌≡◌, ◌+◌, ◌≤◌, List, Some, Result, MatchResult}
 use Rattle.tb_records.specs.declared.records.Transfer.{Transfer}
 use Rattle.tb_records.specs.declared.transfer_results.CreateTransferResult.{CreateTransferResult}

@@ -1,5 +1,4 @@
 -- What events ask of a batch in progress, and what they leave.
--- Cited by private contracts alone, of: batches, batches::results, expiry, kinds::resolving, kinds::transfer, kinds::two_party.
 use Rattle.std.specs.Prelude.{ℕ, ◌≡◌, ◌+◌, ◌*◌, ◌^◌, ◌<◌, ◌≤◌, ◌==◌, true, map, length, find, Some, None, Result, OnOk, OnErr, Bool, ◌&&◌, if◌then◌else◌, List, ◌∷◌, ◌++◌, drop, replicate}
 use Rattle.tb_records.specs.declared.records.Transfer.{Transfer}
 use Rattle.tb_ledger.specs.declared.tables.rows.Rows.{Rows}

@@ -1,5 +1,4 @@
 -- The timeouts of pending transfers, in the order in which they expire.
--- Cited by private contracts alone, of: tables::index, tables::timeouts.
 use Rattle.std.specs.Prelude.{ℕ, ◌≡◌, ◌+◌, ◌-◌, ◌*◌, ◌≤◌, ◌<◌, ◌==◌, List, map, find, Option, Some, None}
 use Rattle.std.specs.List.{slice_get}
 use Rattle.tb_records.specs.Ordered.{put, taken_out, Each, Rising}

@@ -1,5 +1,4 @@
 -- A log of changes, the oldest first, and what undoing them gives.
--- Cited by private contracts alone, of: kinds::account, kinds::resolving, tables::index, tables::work.
 use Rattle.std.specs.Prelude.{ℕ, true, ◌≡◌, ◌+◌, ◌≤◌, List, [], ◌∷◌, length}
 use Rattle.tb_ledger.specs.declared.tables.accounts.AccountRow.{AccountRow}
 use Rattle.tb_ledger.specs.declared.tables.transfers.TransferRow.{TransferRow}

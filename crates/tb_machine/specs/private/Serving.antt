@@ -1,5 +1,4 @@
 -- What the steps of the server do with one pair: for private functions alone.
--- Cited by private contracts alone, of: dumping, executing, replaying, serving.
 use Rattle.std.specs.Prelude.{true, false, ◌≡◌, ◌+◌, ◌≤◌, max, ℕ, List, Result, Ok, Err, IfOk, MatchResult}
 use Rattle.std.specs.declared.alloc.AllocError.{AllocError}
 use Rattle.tb_records.specs.declared.faults.FrameFault.TheVariants.{Device}

@@ -1,5 +1,4 @@
 -- What a machine keeps of its numbers: each entry took time, and each row's session began before its last reply.
--- Cited by private contracts alone, of: machines.
 use Rattle.std.specs.Prelude.{ℕ, ◌<◌, ◌≤◌}
 use Rattle.tb_records.specs.Ordered.{Each}
 use Rattle.tb_ledger.specs.Verdicts.{max_time}

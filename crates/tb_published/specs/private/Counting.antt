@@ -1,5 +1,4 @@
 -- The book of an opening: a word that counts the entries of a history which only grows.
--- Cited by private contracts alone, of: front.
 use Rattle.std.specs.Prelude.{ℕ, ◌≡◌, ◌==◌, true, List, [], ◌∷◌, ◌++◌, length, MatchBool}
 use Rattle.logbook.specs.Pages.{Cell, Step, View, Book, Named}
 use Rattle.tb_machine.specs.declared.entries.Entry.{Entry}

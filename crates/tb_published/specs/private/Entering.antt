@@ -1,5 +1,4 @@
 -- What becomes of a request that is entered by the state S of a history h, which are T and m then.
--- Cited by private contracts alone, of: entering.
 use Rattle.std.specs.Prelude.{ℕ, true, false, ◌≡◌, ◌≢◌, List, [], ◌∷◌, ◌++◌, Result, Ok, Err, MatchResult}
 use Rattle.std.specs.declared.alloc.AllocError.{AllocError}
 use Rattle.tb_records.specs.Messages.{Message, IsLawful}

@@ -1,5 +1,4 @@
 -- Posted entries: each brings the copies an entry, and the front that a copy has with it.
--- Cited by private contracts alone, of: copies, offering, publisher, replica.
 use Rattle.std.specs.Prelude.{◌≡◌, ◌+◌, ◌==◌, List, [], ◌∷◌, ◌++◌, length, if◌then◌else◌, fold, Option, Some, MatchOption}
 use Rattle.std.specs.Option.{option_to_list}
 use mathlib.Core.List.{IsPrefix}

@@ -1,5 +1,4 @@
 -- Prefixes of the history of an opening.
--- Cited by private contracts alone, of: front, publishing, replica, seat.
 use Rattle.std.specs.Prelude.{◌≡◌, ◌⊎◌, List, [], ◌∷◌, ◌++◌, length, nat_lt, if◌then◌else◌}
 use mathlib.Core.List.{IsPrefix}
 use Rattle.tb_machine.specs.declared.entries.Entry.{Entry}

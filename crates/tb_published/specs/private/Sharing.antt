@@ -1,5 +1,4 @@
 -- The rule that the copies and their readers keep.
--- Cited by private contracts alone, of: copies, rule, seat.
 use Rattle.std.specs.Prelude.{ℕ, ◌≡◌, List, Option, Some, IfSome, Result, MatchResult}
 use mathlib.Core.Option.{some}
 use lib.ListN.{get_elem?}

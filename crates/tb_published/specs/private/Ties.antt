@@ -1,5 +1,4 @@
 -- What a publisher keeps: its history, and how far the copies are behind it.
--- Cited by private contracts alone, of: publisher.
 use Rattle.std.specs.Prelude.{◌≡◌, List, Some}
 use mathlib.Core.List.{IsPrefix}
 use Rattle.tb_machine.specs.declared.entries.Entry.{Entry}

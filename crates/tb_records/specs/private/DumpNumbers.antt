@@ -1,5 +1,4 @@
 -- A head, and what is read of a dump as far as two numbers: for private functions alone.
--- Cited by private contracts alone, of: dumps.
 use Rattle.std.specs.Prelude.{ℕ, ◌≡◌, ◌^◌, ◌<◌, List, Option, Some, None, Result, Ok, Err}
 use Rattle.std.specs.Io.KnownBytes.{Consumes}
 use Rattle.tb_records.specs.declared.dumps.DumpFault.TheVariants.{Frame}

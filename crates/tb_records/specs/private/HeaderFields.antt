@@ -1,5 +1,4 @@
 -- What a header without a fault says.
--- Cited by private contracts alone, of: headers, reading, replies, reply_reading, requests, streams.
 use Rattle.std.specs.Prelude.{ℕ, length, Result, Ok, Err, MatchResult, Bool, ◌&&◌, ◌==◌, ◌*◌, not, nat_lt, [], ◌∷◌, take, ◌≡◌, ◌/◌, ◌^◌, ◌<◌, List, Option, Some, None}
 use Rattle.tb_records.specs.declared.headers.Header.{Header}
 use Rattle.std.specs.Io.KnownBytes.{Consumes}

@@ -1,5 +1,4 @@
 -- What is found among the buffered bytes, before they are consumed: for private functions alone.
--- Cited by private contracts alone, of: streams.
 use Rattle.std.specs.Prelude.{ℕ, ◌≤◌, ◌≡◌, List, length, take, drop, Option, None, Result, MatchResult, IfSome}
 use Rattle.tb_records.specs.Frames.{header_fault}
 use Rattle.tb_records.specs.Inputs.{timed_bytes, IsTimed}

@@ -1,5 +1,4 @@
 -- What is read on the way to the end of a frame: for private functions alone.
--- Cited by private contracts alone, of: devices, streams.
 use Rattle.std.specs.Prelude.{ℕ, ◌<◌, ◌≤◌, ◌^◌, List, length, take, flat_map, All, Option, Some, None, Result, Ok, Err, MatchResult, ◌≡◌}
 use Rattle.std.specs.Io.KnownBytes.{Consumes, Keeps, IsAtEnd}
 use Rattle.tb_records.specs.declared.faults.FrameFault.{FrameFault}

@@ -1,5 +1,4 @@
 -- What the header and the body of a reply say when they were read.
--- Cited by private contracts alone, of: reply_reading.
 use Rattle.std.specs.Prelude.{ℕ, ◌≡◌, ◌==◌, List, flat_map, All, None, if◌then◌else◌}
 use Rattle.tb_records.specs.declared.bodies.ReplyBody.{ReplyBody}
 use Rattle.tb_records.specs.declared.reply_reading.ReplyHeader.{ReplyHeader}

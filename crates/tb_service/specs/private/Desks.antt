@@ -1,5 +1,4 @@
 -- What a desk does with orders.
--- Cited by private contracts alone, of: server.
 use Rattle.std.specs.Prelude.{ℕ, ◌≡◌, ◌<◌, List, ◌++◌}
 use Rattle.std.specs.List.{All}
 use Rattle.crossbeam_channel.specs.Claims.{Pass, view}

@@ -1,5 +1,4 @@
 -- What the server's end of the queue does: it makes ports, and takes orders.
--- Cited by private contracts alone, of: inbox, starting.
 use Rattle.std.specs.Prelude.{ℕ, ◌≡◌, [], ◌∷◌, ◌++◌, Option, MatchOption}
 use Rattle.crossbeam_channel.specs.Claims.{Pass, view}
 use Rattle.tb_service.specs.declared.orders.Order.{Order}

@@ -1,5 +1,4 @@
 -- The rule of the queue: the orders taken and then those queued are all that were sent, and each pass knows its part of them.
--- Cited by private contracts alone, of: ports, rule.
 use Rattle.std.specs.Prelude.{ℕ, Bool, true, false, ◌≡◌, ◌<◌, ◌≤◌, List, [], ◌++◌, Result, MatchResult}
 use mathlib.Core.Option.{some}
 use lib.ListN.{get_elem?}

@@ -1,5 +1,4 @@
 -- The rows of the sessions by client, and next to them each client by a commit of its own: its row's, or an earlier one.
--- Cited by private contracts alone, of: eviction, table.
 use Rattle.std.specs.Prelude.{ℕ, ◌≡◌, ◌≢◌, ◌+◌, ◌<◌, ◌≤◌, length, Option, Some}
 use Rattle.std.specs.Ordering.{nat_cmp}
 use Rattle.std.specs.List.{slice_get}

@@ -1,5 +1,4 @@
 -- A client and its port while it calls.
--- Cited by private contracts alone, of: clients, network, playing, storms.
 use Rattle.std.specs.Prelude.{ℕ, ◌≡◌, ◌-◌, ◌%◌, ◌==◌, List, [], ◌∷◌, ◌++◌, length, map, IsTrue, Option, Some, None, if◌then◌else◌}
 use mathlib.Core.List.{IsPrefix}
 use Rattle.tb_records.specs.declared.bodies.Body.{Body}

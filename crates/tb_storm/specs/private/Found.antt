@@ -1,5 +1,4 @@
 -- What is found after a history.
--- Cited by private contracts alone, of: scale, storms.
 use Rattle.std.specs.Prelude.{ℕ, ◌≡◌, ◌+◌, ◌*◌, ◌≤◌, List, [], ◌∷◌, length}
 use Rattle.tb_ledger.specs.Books.{found_accounts, found_transfers}
 use Rattle.tb_machine.specs.declared.entries.Entry.{Entry}

@@ -1,5 +1,4 @@
 -- Which fault of a storm is reported.
--- Cited by private contracts alone, of: outcomes, storms.
 use Rattle.std.specs.Prelude.{ℕ, ◌≡◌, List, map, fold, Option, Some, None, Result, Ok, Err, nat_lt, if◌then◌else◌}
 use Rattle.tb_service.specs.declared.ends.Ended.{Ended}
 use Rattle.tb_service.specs.declared.ends.Ended.TheVariants as way

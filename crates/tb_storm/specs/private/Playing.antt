@@ -1,5 +1,4 @@
 -- All clients of a storm, and what a server that has finished took of them.
--- Cited by private contracts alone, of: playing, storms.
 use Rattle.std.specs.Prelude.{ℕ, ◌≡◌, ◌+◌, ◌-◌, ◌<◌, ◌≤◌, List, [], ◌∷◌, ◌++◌, length, map, slice_index_or, IsTrue, IfSome, Some, None, ◌==◌, if◌then◌else◌}
 use mathlib.Core.List.{IsPrefix}
 use Rattle.tb_records.specs.declared.bodies.Body.{Body}

@@ -1,5 +1,4 @@
 -- What words ask for a storm.
--- Cited by private contracts alone, of: arguments.
 use Rattle.std.specs.Prelude.{ℕ, Bool, nat_eq, List, [], ◌∷◌, Option, Some, None, if◌then◌else◌, codes}
 use Rattle.std.specs.Cmp.Lexicographic.{pointwise}
 use Rattle.tb_commands.specs.Forms.{number_of, within}
