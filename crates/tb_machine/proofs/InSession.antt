@@ -11,13 +11,13 @@ use Rattle.tb_sessions.specs.Judged.{client_of, row_of, class_by, class_of}
 use Rattle.tb_sessions.specs.Renewal.{IsNewBeside, IsRenewal}
 use Rattle.std.specs.declared.alloc.AllocError.{AllocError}
 use Rattle.tb_records.specs.Transport.{Output}
-use Rattle.tb_machine.specs.declared.executing.Told.{Told}
-use Rattle.tb_machine.specs.declared.executing.Told.TheVariants as told
+use Rattle.tb_machine.specs.declared.executing.Delivery.{Delivery}
+use Rattle.tb_machine.specs.declared.executing.Delivery.TheVariants as delivery
 use Rattle.tb_machine.specs.declared.serving.RunFault.TheVariants as fault
 use Rattle.tb_machine.proofs.PairAnswers.{entered_answer}
 use Rattle.tb_machine.specs.Histories.{State, time_of, fits, executed, reply_at, step}
 use Rattle.tb_machine.specs.Scripts.{Pair, entry_of, has_time}
-use Rattle.tb_machine.specs.private.Serving.{made, row_in, MayBeExecuted, Tells, served_as, ServesPair}
+use Rattle.tb_machine.specs.private.Serving.{made, row_in, MayBeExecuted, DeliversReply, served_as, ServesPair}
 use Rattle.tb_machine.specs.private.Sound.{IsSound}
 use Rattle.tb_machine.proofs.Judging.{comes}
 use Rattle.tb_machine.proofs.SoundSteps.{may_be_executed, commits_before, sound_step}
@@ -37,19 +37,19 @@ same_state S clients_max B rows size books same = rw (size, books, same) refl
 
 module _ {A E P : Type 0} where
   pub of_ok : (o : Result A E) (refused : Bool) → refused ≡ is_err o → refused ≡ false → OnOk o P → P
-  of_ok (Ok a) refused told is p = p
-  of_ok (Err e) refused told is p = absurd (let both : false ≡ true = sym is ∙ told in cc)
+  of_ok (Ok a) refused delivery is p = p
+  of_ok (Err e) refused delivery is p = absurd (let both : false ≡ true = sym is ∙ delivery in cc)
 
   pub of_err : (o : Result A E) (refused : Bool) → refused ≡ is_err o → refused ≡ true → OnErr o P → P
-  of_err (Ok a) refused told is p = absurd (let both : true ≡ false = sym is ∙ told in cc)
-  of_err (Err e) refused told is p = p
+  of_err (Ok a) refused delivery is p = absurd (let both : true ≡ false = sym is ∙ delivery in cc)
+  of_err (Err e) refused delivery is p = p
 
 -- what the server answers where the step was made
-serves_told : (answer : Result Told AllocError) (S T : State) (p : Pair) (before after : Output) → IsLawful p.1 → class_of S.rows p.1 ≡ New → has_time S p ≡ true → T ≡ step S (entry_of S p)
-    → (refused : Bool) → refused ≡ is_err answer → refused ≡ false → Tells answer (reply_at S (entry_of S p)) before after → ServesPair (served_as answer) S T p before after
-serves_told (Ok told.Whole) S T p before after lawful class time stepped refused is none tells = entered_answer (Ok tt) S T p before after lawful class time stepped tells.told.0 tells.told.1
-serves_told (Ok (told.Cut f)) S T p before after lawful class time stepped refused is none tells = entered_answer (Err (fault.Frame f)) S T p before after lawful class time stepped (ap fault.Frame tells.told.0.0, tells.told.0.1) tt
-serves_told (Err f) S T p before after lawful class time stepped refused is none tells = absurd (let both : false ≡ true = sym none ∙ is in cc)
+serves_delivered : (answer : Result Delivery AllocError) (S T : State) (p : Pair) (before after : Output) → IsLawful p.1 → class_of S.rows p.1 ≡ New → has_time S p ≡ true → T ≡ step S (entry_of S p)
+    → (refused : Bool) → refused ≡ is_err answer → refused ≡ false → DeliversReply answer (reply_at S (entry_of S p)) before after → ServesPair (served_as answer) S T p before after
+serves_delivered (Ok delivery.Whole) S T p before after lawful class time stepped refused is none delivers = entered_answer (Ok tt) S T p before after lawful class time stepped delivers.delivery.0 delivers.delivery.1
+serves_delivered (Ok (delivery.Cut f)) S T p before after lawful class time stepped refused is none delivers = entered_answer (Err (fault.Frame f)) S T p before after lawful class time stepped (ap fault.Frame delivers.delivery.0.0, delivers.delivery.0.1) tt
+serves_delivered (Err f) S T p before after lawful class time stepped refused is none delivers = absurd (let both : false ≡ true = sym none ∙ is in cc)
 
 module _ (S : State) (sound : IsSound S) (moment time : ℕ) (r : Message) (lawful : IsLawful r) (time_is : time ≡ time_of S moment r) (in_range : time ≤ max_time) (row : Row) (new : IsNewBeside S.rows r row) where
   pub class_new : class_of S.rows r ≡ New
@@ -110,9 +110,9 @@ module _ (S : State) (sound : IsSound S) (moment time : ℕ) (r : Message) (lawf
       sound_after = sound_step S (made (S.commit + 1) time r) sound entry_comes (row_in S.books (made (S.commit + 1) time r)) refl refl (record { clients_max = clients_max; commit = S.commit + 1; books = B; rows = rows }) refl books rows_are
 
       -- what the server answers
-      pub serves : (answer : Result Told AllocError) (before after : Output) (refused : Bool) → refused ≡ is_err answer → refused ≡ false
-          → Tells answer (row_in S.books (made (S.commit + 1) time r)).reply before after
+      pub serves : (answer : Result Delivery AllocError) (before after : Output) (refused : Bool) → refused ≡ is_err answer → refused ≡ false
+          → DeliversReply answer (row_in S.books (made (S.commit + 1) time r)).reply before after
           → ServesPair (served_as answer) S (record { clients_max = clients_max; commit = S.commit + 1; books = B; rows = rows }) (moment, r) before after
-      serves answer before after refused is none tells =
-          serves_told answer S (record { clients_max = clients_max; commit = S.commit + 1; books = B; rows = rows }) (moment, r) before after lawful class_new timely stepped refused is none
-          (subst (λ (a : Answer). Tells answer a before after) reply_is tells)
+      serves answer before after refused is none delivers =
+          serves_delivered answer S (record { clients_max = clients_max; commit = S.commit + 1; books = B; rows = rows }) (moment, r) before after lawful class_new timely stepped refused is none
+          (subst (λ (a : Answer). DeliversReply answer a before after) reply_is delivers)

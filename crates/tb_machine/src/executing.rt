@@ -4,7 +4,7 @@ ghost use Rattle.tb_records.specs.Messages.{count, item_count, items_max, operat
 ghost use Rattle.tb_records.specs.ReplyFrames.{reply_bytes, IsReply};
 ghost use Rattle.tb_ledger.specs.Verdicts.{max_time};
 ghost use Rattle.tb_machine.specs.Histories.{executed, reply_with, session_of, step, fits};
-ghost use Rattle.tb_machine.specs.private.Serving.{made, row_in, IsTold, IfWhole, MayBeExecuted, Tells, ExecutesBody, MakesRow, served_as, ServesPair, IfUnserved, EntersAndTells};
+ghost use Rattle.tb_machine.specs.private.Serving.{made, row_in, IsDelivered, IfWhole, MayBeExecuted, DeliversReply, ExecutesBody, MakesRow, served_as, ServesPair, IfUnserved, EntersAndReplies};
 ghost use Rattle.tb_machine.specs.Scripts.{MakesEntry};
 
 use crate::entries::Entry;
@@ -17,7 +17,7 @@ use tb_sessions::{Class, Row};
 
 /// What became of the reply of a request that was executed.
 #[derive(Clone, Copy)]
-pub(crate) enum Told {
+pub(crate) enum Delivery {
     /// It was written.
     Whole,
     /// The writer's fault left a prefix of it.
@@ -28,7 +28,7 @@ pub(crate) enum Told {
 #[derive(Clone, Copy)]
 pub(crate) enum Served {
     /// It was executed, and its reply was written or cut off.
-    Executed(Told),
+    Executed(Delivery),
     /// There is no memory for it: nothing was changed.
     NoMemory,
     /// It is of this class and not New there, or there is no time for it: nothing was called or changed.
@@ -37,11 +37,11 @@ pub(crate) enum Served {
 
 impl Served {
     /// What became of a request that was called for, by what became of its reply.
-    fn of(told: Result<Told, AllocError>) -> Served
-        ensures { result ≡ served_as told }
+    fn of(delivery: Result<Delivery, AllocError>) -> Served
+        ensures { result ≡ served_as delivery }
     {
-        match told {
-            Ok(told) => Served::Executed(told),
+        match delivery {
+            Ok(delivery) => Served::Executed(delivery),
             Err(AllocError) => Served::NoMemory,
         }
     }
@@ -117,13 +117,13 @@ impl<A: Allocator + Clone> Machine<A> {
             },
         );
         match served {
-            Ok(told) => {
-                let refused = told.is_err();
+            Ok(delivery) => {
+                let refused = delivery.is_err();
                 if refused {
                     return Served::NoMemory;
                 }
                 self.commit = commit;
-                Served::of(told)
+                Served::of(delivery)
             }
             Err(class) => Served::Unserved(class),
         }
@@ -131,23 +131,23 @@ impl<A: Allocator + Clone> Machine<A> {
 
     /// As `enter`, and writes the reply before the row that keeps it goes to the others. Where the writer failed, the
     /// entry has been entered all the same.
-    pub(crate) fn enter_and_tell<W: Sink>(
+    pub(crate) fn enter_and_reply<W: Sink>(
         &mut self,
         writer: &mut W,
         entry: Entry,
-    ) -> Result<Told, Entry>
+    ) -> Result<Delivery, Entry>
         requires { IsTrue (fits self.old entry) }
-        ensures { EntersAndTells W.output result self.old self.new entry writer.old writer.new }
+        ensures { EntersAndReplies W.output result self.old self.new entry writer.old writer.new }
     {
         let commit = entry.commit;
         let row = match row_for(self.global, &mut self.ledger, entry) {
             Ok(row) => row,
             Err(entry) => return Err(entry),
         };
-        let told = tell(writer, &row.reply);
+        let delivery = write_reply(writer, &row.reply);
         let _left = self.sessions.record(row);
         self.commit = commit;
-        Ok(told)
+        Ok(delivery)
     }
 }
 
@@ -253,13 +253,13 @@ pub(crate) fn row_for<A: Allocator + Clone>(
 }
 
 /// Writes a reply.
-fn tell<W: Sink>(writer: &mut W, reply: &Reply) -> Told
-    ensures sent { IsTold result (reply_bytes reply.now) (W.output writer.old) (W.output writer.new) }
+fn write_reply<W: Sink>(writer: &mut W, reply: &Reply) -> Delivery
+    ensures sent { IsDelivered result (reply_bytes reply.now) (W.output writer.old) (W.output writer.new) }
     ensures fits { IfWhole result (IsReply reply.now) }
 {
     match send_reply(writer, reply) {
-        Ok(()) => Told::Whole,
-        Err(fault) => Told::Cut(fault),
+        Ok(()) => Delivery::Whole,
+        Err(fault) => Delivery::Cut(fault),
     }
 }
 
@@ -275,11 +275,11 @@ pub(crate) fn serve_row<A: Allocator + Clone, W: Sink>(
     time: u64,
     request: &mut Request,
     row: &mut Row,
-) -> Result<Told, AllocError>
+) -> Result<Delivery, AllocError>
     requires { MayBeExecuted ledger.old (made commit time request.old) }
     ensures books { OnOk result (ledger.new ≡ executed ledger.old request.old.body time) }
     ensures row { OnOk result (row.new ≡ row_in ledger.old (made commit time request.old)) }
-    ensures told { Tells result (row_in ledger.old (made commit time request.old)).reply (W.output writer.old)
+    ensures delivery { DeliversReply result (row_in ledger.old (made commit time request.old)).reply (W.output writer.old)
         (W.output writer.new) }
     ensures same_row { OnErr result (row.new ≡ row.old) }
     ensures same_ledger { OnErr result (ledger.new ≡ ledger.old) }
@@ -288,11 +288,11 @@ pub(crate) fn serve_row<A: Allocator + Clone, W: Sink>(
 {
     let body = execute(global, ledger, time, request.body())?;
     let reply = reply_with(request, commit, body);
-    let told = tell(writer, &reply);
+    let delivery = write_reply(writer, &reply);
     row.client = request.client();
     row.session = reply.session();
     row.commit = commit;
     row.reply = reply;
     mem::swap(&mut row.request, request);
-    Ok(told)
+    Ok(delivery)
 }

@@ -18,7 +18,7 @@
 //! specs/private/Serving what the steps of `run` do with one pair; specs/ScriptLaws what joins `run` to the laws. `run`
 //! serves a request of a session by `Machine::serve_in_session`, at its client's row. Whoever else enters a request has its
 //! entry by `Machine::next_entry`; `replay` tests one by `Machine::fits`, `restore` by its causes; `dump`, `replay` and
-//! `restore` enter it by `Machine::enter`, `run` a register by `enter_and_tell`, which writes the reply before the row that
+//! `restore` enter it by `Machine::enter`, `run` a register by `enter_and_reply`, which writes the reply before the row that
 //! keeps it goes to the others.
 #![tactic(auto)]
 

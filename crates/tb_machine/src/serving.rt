@@ -12,7 +12,7 @@ ghost use Rattle.tb_machine.specs.private.Serving.{EntersPair, Delivers, IsPromp
 ghost use Rattle.tb_machine.specs.Worked.{GoesOn};
 
 use crate::entries::Entry;
-use crate::executing::{Served, Told};
+use crate::executing::{Delivery, Served};
 use crate::machines::Machine;
 use bumpalo::Bump;
 use std::alloc::{AllocError, Allocator, Global};
@@ -160,9 +160,9 @@ fn answer_new<A: Allocator + Clone, W: Sink>(
     let Some(entry) = machine.next_entry(request, moment) else {
         return Err(RunFault::TimeExhausted);
     };
-    match machine.enter_and_tell(writer, entry) {
-        Ok(Told::Whole) => Ok(()),
-        Ok(Told::Cut(fault)) => Err(RunFault::Frame(fault)),
+    match machine.enter_and_reply(writer, entry) {
+        Ok(Delivery::Whole) => Ok(()),
+        Ok(Delivery::Cut(fault)) => Err(RunFault::Frame(fault)),
         Err(_) => Err(RunFault::NoMemory),
     }
 }
@@ -219,11 +219,11 @@ pub fn serve_pair<A: Allocator + Clone, W: Sink>(
 {
     let mut request = request;
     match machine.serve_in_session(writer, moment, &mut request) {
-        Served::Executed(Told::Whole) => {
+        Served::Executed(Delivery::Whole) => {
             drop(request);
             Ok(())
         }
-        Served::Executed(Told::Cut(fault)) => {
+        Served::Executed(Delivery::Cut(fault)) => {
             drop(request);
             Err(RunFault::Frame(fault))
         }

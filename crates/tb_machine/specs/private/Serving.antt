@@ -12,8 +12,8 @@ use Rattle.tb_ledger.specs.Books.{Books}
 use Rattle.tb_ledger.specs.Verdicts.{max_time}
 use Rattle.tb_sessions.specs.declared.rows.Row.{Row}
 use Rattle.tb_sessions.specs.Judged.{class_of}
-use Rattle.tb_machine.specs.declared.executing.Told.{Told}
-use Rattle.tb_machine.specs.declared.executing.Told.TheVariants as told
+use Rattle.tb_machine.specs.declared.executing.Delivery.{Delivery}
+use Rattle.tb_machine.specs.declared.executing.Delivery.TheVariants as delivery
 use Rattle.tb_machine.specs.declared.executing.Served.{Served}
 use Rattle.tb_machine.specs.declared.executing.Served.TheVariants as served
 use Rattle.tb_machine.specs.Runs.{AnswersPair}
@@ -59,34 +59,34 @@ abbrev pub MakesRow : Result Row Entry → Books → Entry → Books → Type 0
 MakesRow result B e later = MatchResult result (λ row. (later ≡ executed B e.request.body e.time) × (row ≡ row_in B e)) (λ back. (back ≡ e) × (later ≡ B))
 
 -- a reply was written, or the device failed and left a prefix of it
-abbrev pub IsTold : Told → List ℕ → Output → Output → Type 0
-IsTold told.Whole bytes before after = Sent bytes before after
-IsTold (told.Cut f) bytes before after = (f ≡ Device) × CutOff bytes before after
+abbrev pub IsDelivered : Delivery → List ℕ → Output → Output → Type 0
+IsDelivered delivery.Whole bytes before after = Sent bytes before after
+IsDelivered (delivery.Cut f) bytes before after = (f ≡ Device) × CutOff bytes before after
 
-abbrev pub IfWhole : Told → Type 0 → Type 0
-IfWhole told.Whole P = P
-IfWhole (told.Cut f) P = Unit {0}
+abbrev pub IfWhole : Delivery → Type 0 → Type 0
+IfWhole delivery.Whole P = P
+IfWhole (delivery.Cut f) P = Unit {0}
 
 -- an entry was entered, and its reply written, or a prefix of it; where there was no memory the entry came back, and nothing changed
-abbrev pub EntersAndTells : {W : Type 0} → (W → Output) → Result Told Entry → State → State → Entry → W → W → Type 0
-EntersAndTells output result S T e writer later =
+abbrev pub EntersAndReplies : {W : Type 0} → (W → Output) → Result Delivery Entry → State → State → Entry → W → W → Type 0
+EntersAndReplies output result S T e writer later =
     MatchResult result
-    (λ told. (T ≡ step S e) × IsTold told (reply_bytes (reply_at S e)) (output writer) (output later) × IfWhole told (IsReply (reply_at S e)))
+    (λ delivery. (T ≡ step S e) × IsDelivered delivery (reply_bytes (reply_at S e)) (output writer) (output later) × IfWhole delivery (IsReply (reply_at S e)))
     (λ back. (back ≡ e) × (T ≡ S) × (later ≡ writer))
 
 -- where an entry was executed, its reply was written, or a prefix of it
-pub record Tells (served : Result Told AllocError) (reply : Answer) (before after : Output) : Type 0 where
-  pub told : IfOk served (λ told. IsTold told (reply_bytes reply) before after × IfWhole told (IsReply reply))
+pub record DeliversReply (served : Result Delivery AllocError) (reply : Answer) (before after : Output) : Type 0 where
+  pub delivery : IfOk served (λ delivery. IsDelivered delivery (reply_bytes reply) before after × IfWhole delivery (IsReply reply))
 
 -- what became of a request, by what the call at its client's row answers
-abbrev pub served_as : Result Told AllocError → Served
-served_as (Ok told) = served.Executed told
+abbrev pub served_as : Result Delivery AllocError → Served
+served_as (Ok delivery) = served.Executed delivery
 served_as (Err refused) = served.NoMemory
 
 -- the server's answer to a pair that was served by its client's row; of any other its class is reported, and nothing changed
 abbrev pub ServesPair : Served → State → State → Pair → Output → Output → Type 0
-ServesPair (served.Executed told.Whole) S T p before after = AnswersPair (Ok tt) S T p before after
-ServesPair (served.Executed (told.Cut f)) S T p before after = AnswersPair (Err (fault.Frame f)) S T p before after
+ServesPair (served.Executed delivery.Whole) S T p before after = AnswersPair (Ok tt) S T p before after
+ServesPair (served.Executed (delivery.Cut f)) S T p before after = AnswersPair (Err (fault.Frame f)) S T p before after
 ServesPair served.NoMemory S T p before after = AnswersPair (Err fault.NoMemory) S T p before after
 ServesPair (served.Unserved class) S T p before after = (class ≡ class_of S.rows p.1) × (T ≡ S) × (after ≡ before)
 

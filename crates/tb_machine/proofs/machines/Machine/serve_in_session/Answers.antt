@@ -1,7 +1,7 @@
 use Rattle.std.proofs.Common.{rules, ◌≡◌, ◌+◌, OnOk, OnErr, sym, ap, subst, arith}
 use Rattle.tb_records.specs.Messages.{Message, count}
 use Rattle.tb_machine.specs.Histories.{State, is_new, executed, time_of}
-use Rattle.tb_machine.specs.private.Serving.{made, row_in, MayBeExecuted, Tells}
+use Rattle.tb_machine.specs.private.Serving.{made, row_in, MayBeExecuted, DeliversReply}
 use Rattle.tb_machine.specs.private.Sound.{IsSound}
 use Rattle.tb_machine.proofs.InSession.{of_ok, of_err, class_new, may_be, timely, same_state, renewed, rows_same, sound_after, serves}
 use Rattle.tb_machine.proofs.machines.Machine.serve_in_session.Goals as goal
@@ -35,11 +35,11 @@ invariant_of-self g c =
     let time_is : time ≡ time_of S c.args.moment r = omega (arith, c.in-Some.ensures.0, c.event_count-events.ensures, ap count c.body.ensures.value, ap (λ (T : State). T.books.time) c.self.view_is) in
     let sv = c.in-Ok.ensures.served in
     let called = sv.served.called in
-    let books : OnErr c.in-Ok.told (c.renew_with-served.new.serve.1.now ≡ c.self.inside.ledger) = search rules in
-    let kept : OnErr c.in-Ok.told (sv.left ≡ sv.row) = search rules in
+    let books : OnErr c.in-Ok.delivery (c.renew_with-served.new.serve.1.now ≡ c.self.inside.ledger) = search rules in
+    let kept : OnErr c.in-Ok.delivery (sv.left ≡ sv.row) = search rules in
     let same = same_state S c.renew_with-served.new.self.clients_max c.renew_with-served.new.serve.1.now c.renew_with-served.new.self.rows c.renew_with-served.ensures.same_size
-    (of_err c.in-Ok.told c.is_err-refused.result c.is_err-refused.ensures.value c.if-refused.true books)
-    (rows_same S c.self.invariant c.args.moment time r c.body.ensures.lawful time_is c.in-Some.ensures.1 sv.row sv.new sv.left c.renew_with-served.new.self.rows sv.put (of_err c.in-Ok.told c.is_err-refused.result c.is_err-refused.ensures.value c.if-refused.true kept)) in
+    (of_err c.in-Ok.delivery c.is_err-refused.result c.is_err-refused.ensures.value c.if-refused.true books)
+    (rows_same S c.self.invariant c.args.moment time r c.body.ensures.lawful time_is c.in-Some.ensures.1 sv.row sv.new sv.left c.renew_with-served.new.self.rows sv.put (of_err c.in-Ok.delivery c.is_err-refused.result c.is_err-refused.ensures.value c.if-refused.true kept)) in
     subst IsSound (sym same) c.self.invariant
 
 pub invariant_of-self-in-Ok : goal.invariant_of-self-in-Ok
@@ -50,10 +50,10 @@ invariant_of-self-in-Ok g c =
     let time_is : time ≡ time_of S c.args.moment r = omega (arith, c.in-Some.ensures.0, c.event_count-events.ensures, ap count c.body.ensures.value, ap (λ (T : State). T.books.time) c.self.view_is) in
     let sv = c.in-Ok.ensures.served in
     let called = sv.served.called in
-    let books : OnOk c.in-Ok.told (c.renew_with-served.new.serve.1.now ≡ executed c.self.inside.ledger r.body time) = search rules in
-    let is : OnOk c.in-Ok.told (sv.left ≡ row_in c.self.inside.ledger (made (c.self.inside.commit + 1) time r)) = search rules in
+    let books : OnOk c.in-Ok.delivery (c.renew_with-served.new.serve.1.now ≡ executed c.self.inside.ledger r.body time) = search rules in
+    let is : OnOk c.in-Ok.delivery (sv.left ≡ row_in c.self.inside.ledger (made (c.self.inside.commit + 1) time r)) = search rules in
     sound_after S c.self.invariant c.args.moment time r c.body.ensures.lawful time_is c.in-Some.ensures.1 sv.row sv.new sv.left c.renew_with-served.new.self.clients_max c.renew_with-served.new.serve.1.now c.renew_with-served.new.self.rows c.renew_with-served.ensures.same_size
-    (of_ok c.in-Ok.told c.is_err-refused.result c.is_err-refused.ensures.value c.if-refused.false books) (of_ok c.in-Ok.told c.is_err-refused.result c.is_err-refused.ensures.value c.if-refused.false is) sv.put
+    (of_ok c.in-Ok.delivery c.is_err-refused.result c.is_err-refused.ensures.value c.if-refused.false books) (of_ok c.in-Ok.delivery c.is_err-refused.result c.is_err-refused.ensures.value c.if-refused.false is) sv.put
 
 pub returns-then-refused-clause-served : goal.returns-then-refused-clause-served
 returns-then-refused-clause-served g c =
@@ -63,13 +63,13 @@ returns-then-refused-clause-served g c =
     let time_is : time ≡ time_of S c.args.moment r = omega (arith, c.in-Some.ensures.0, c.event_count-events.ensures, ap count c.body.ensures.value, ap (λ (T : State). T.books.time) c.self.view_is) in
     let sv = c.in-Ok.ensures.served in
     let called = sv.served.called in
-    let books : OnErr c.in-Ok.told (c.renew_with-served.new.serve.1.now ≡ c.self.inside.ledger) = search rules in
-    let kept : OnErr c.in-Ok.told (sv.left ≡ sv.row) = search rules in
+    let books : OnErr c.in-Ok.delivery (c.renew_with-served.new.serve.1.now ≡ c.self.inside.ledger) = search rules in
+    let kept : OnErr c.in-Ok.delivery (sv.left ≡ sv.row) = search rules in
     let same = same_state S c.renew_with-served.new.self.clients_max c.renew_with-served.new.serve.1.now c.renew_with-served.new.self.rows c.renew_with-served.ensures.same_size
-    (of_err c.in-Ok.told c.is_err-refused.result c.is_err-refused.ensures.value c.if-refused.true books)
-    (rows_same S c.self.invariant c.args.moment time r c.body.ensures.lawful time_is c.in-Some.ensures.1 sv.row sv.new sv.left c.renew_with-served.new.self.rows sv.put (of_err c.in-Ok.told c.is_err-refused.result c.is_err-refused.ensures.value c.if-refused.true kept)) in
-    let unsent : OnErr c.in-Ok.told (c.writer-1.given.0 ≡ c.args.writer.now) = search rules in
-    rw (← c.self.view_is) (ap is_new (class_new S c.self.invariant c.args.moment time r c.body.ensures.lawful time_is c.in-Some.ensures.1 sv.row sv.new), timely S c.self.invariant c.args.moment time r c.body.ensures.lawful time_is c.in-Some.ensures.1 sv.row sv.new, same, ap g.W.Sink.output (of_err c.in-Ok.told c.is_err-refused.result c.is_err-refused.ensures.value c.if-refused.true unsent))
+    (of_err c.in-Ok.delivery c.is_err-refused.result c.is_err-refused.ensures.value c.if-refused.true books)
+    (rows_same S c.self.invariant c.args.moment time r c.body.ensures.lawful time_is c.in-Some.ensures.1 sv.row sv.new sv.left c.renew_with-served.new.self.rows sv.put (of_err c.in-Ok.delivery c.is_err-refused.result c.is_err-refused.ensures.value c.if-refused.true kept)) in
+    let unsent : OnErr c.in-Ok.delivery (c.writer-1.given.0 ≡ c.args.writer.now) = search rules in
+    rw (← c.self.view_is) (ap is_new (class_new S c.self.invariant c.args.moment time r c.body.ensures.lawful time_is c.in-Some.ensures.1 sv.row sv.new), timely S c.self.invariant c.args.moment time r c.body.ensures.lawful time_is c.in-Some.ensures.1 sv.row sv.new, same, ap g.W.Sink.output (of_err c.in-Ok.delivery c.is_err-refused.result c.is_err-refused.ensures.value c.if-refused.true unsent))
 
 pub returns-else-refused-clause-served : goal.returns-else-refused-clause-served
 returns-else-refused-clause-served g c =
@@ -79,8 +79,8 @@ returns-else-refused-clause-served g c =
     let time_is : time ≡ time_of S c.args.moment r = omega (arith, c.in-Some.ensures.0, c.event_count-events.ensures, ap count c.body.ensures.value, ap (λ (T : State). T.books.time) c.self.view_is) in
     let sv = c.in-Ok.ensures.served in
     let called = sv.served.called in
-    let books : OnOk c.in-Ok.told (c.renew_with-served.new.serve.1.now ≡ executed c.self.inside.ledger r.body time) = search rules in
-    let is : OnOk c.in-Ok.told (sv.left ≡ row_in c.self.inside.ledger (made (c.self.inside.commit + 1) time r)) = search rules in
-    let tells : Tells c.in-Ok.told (row_in c.self.inside.ledger (made (c.self.inside.commit + 1) time r)).reply (g.W.Sink.output c.args.writer.now) (g.W.Sink.output c.writer-1.given.0) = search rules in
+    let books : OnOk c.in-Ok.delivery (c.renew_with-served.new.serve.1.now ≡ executed c.self.inside.ledger r.body time) = search rules in
+    let is : OnOk c.in-Ok.delivery (sv.left ≡ row_in c.self.inside.ledger (made (c.self.inside.commit + 1) time r)) = search rules in
+    let delivers : DeliversReply c.in-Ok.delivery (row_in c.self.inside.ledger (made (c.self.inside.commit + 1) time r)).reply (g.W.Sink.output c.args.writer.now) (g.W.Sink.output c.writer-1.given.0) = search rules in
     rw (c.of.ensures, ← c.self.view_is) (serves S c.self.invariant c.args.moment time r c.body.ensures.lawful time_is c.in-Some.ensures.1 sv.row sv.new sv.left c.renew_with-served.new.self.clients_max c.renew_with-served.new.serve.1.now c.renew_with-served.new.self.rows c.renew_with-served.ensures.same_size
-    (of_ok c.in-Ok.told c.is_err-refused.result c.is_err-refused.ensures.value c.if-refused.false books) (of_ok c.in-Ok.told c.is_err-refused.result c.is_err-refused.ensures.value c.if-refused.false is) sv.put c.in-Ok.told _ _ c.is_err-refused.result c.is_err-refused.ensures.value c.if-refused.false tells)
+    (of_ok c.in-Ok.delivery c.is_err-refused.result c.is_err-refused.ensures.value c.if-refused.false books) (of_ok c.in-Ok.delivery c.is_err-refused.result c.is_err-refused.ensures.value c.if-refused.false is) sv.put c.in-Ok.delivery _ _ c.is_err-refused.result c.is_err-refused.ensures.value c.if-refused.false delivers)

@@ -4,7 +4,7 @@ use Rattle.tb_sessions.specs.Admission.{Table}
 use Rattle.tb_machine.specs.Histories.{State, fits}
 use Rattle.tb_machine.proofs.Judging.{may_come}
 use Rattle.tb_machine.proofs.SoundSteps.{may_be_executed, commits_before, sound_step}
-use Rattle.tb_machine.proofs.machines.Machine.enter_and_tell.Goals as goal
+use Rattle.tb_machine.proofs.machines.Machine.enter_and_reply.Goals as goal
 
 pub row_for-requires : goal.row_for-requires
 row_for-requires g c =
