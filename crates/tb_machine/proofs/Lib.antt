@@ -9,6 +9,7 @@ pub mod Lawful
 pub mod SoundSteps
 pub mod PairAnswers
 pub mod Running
+pub mod PlainRuns
 pub mod Accepted
 pub mod Marked
 pub mod DumpReading

@@ -4,6 +4,7 @@ pub mod Answering
 pub mod RunFaults
 pub mod Worked
 pub mod Runs
+pub mod PlainRuns
 pub mod Dumps
 pub mod DumpRuns
 pub mod Replays

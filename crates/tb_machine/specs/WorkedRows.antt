@@ -1,5 +1,6 @@
 -- Worked examples over the definitions: scripts, and the replies to them. All amounts are in ledger 700, all codes 10.
-use Rattle.std.specs.Prelude.{ℕ, false, ◌≡◌, List, [], ◌∷◌, ◌++◌, map, length, Some, None}
+use Rattle.std.specs.Prelude.{ℕ, false, ◌≡◌, List, [], ◌∷◌, ◌++◌, map, length, replicate, Some, None, Result, Ok}
+use Rattle.std.specs.Io.KnownBytes.{Appends}
 use Rattle.std.specs.List.{range_with_len}
 use Rattle.tb_records.specs.declared.records.Account.{Account}
 use Rattle.tb_records.specs.declared.records.Transfer.{Transfer}
@@ -8,13 +9,16 @@ use Rattle.tb_records.specs.declared.bodies.ReplyBody.TheVariants.{Empty, Result
 use Rattle.tb_records.specs.declared.replies.Status.TheVariants as status
 use Rattle.tb_records.specs.declared.limits.Profile.TheVariants.{One, Two}
 use Rattle.tb_records.specs.Messages.{Message, Answer, asked, answered, status_code}
+use Rattle.tb_records.specs.Transport.{Input, Output}
 use Rattle.tb_ledger.specs.Verdicts.{int_max, max_time}
 use Rattle.tb_ledger.specs.Books.{profile_of}
 use Rattle.tb_machine.specs.declared.entries.Entry.{Entry}
 use Rattle.tb_machine.specs.declared.restoring.Unfit.TheVariants.{Commit, Time, NotNew}
+use Rattle.tb_machine.specs.declared.serving.RunFault.{RunFault}
 use Rattle.tb_machine.specs.Histories.{start, after, answer_to}
 use Rattle.tb_machine.specs.Dumps.{after_with}
 use Rattle.tb_machine.specs.MarkedLaws.{next_in}
+use Rattle.tb_machine.specs.PlainRuns.{NothingFails, RanPlain}
 use Rattle.tb_machine.specs.Restoring.{cause_of}
 use Rattle.tb_machine.specs.Scripts.{Pair, has_time, accepted, replies_from, replies_to}
 use Rattle.tb_machine.specs.ReplicaLaws.{all_ticks}
@@ -198,3 +202,15 @@ BoundedMoments =
     (all_ticks (at_moment 9223372036854775804) ≡ 3)
     × (map summary (replies_to One 2 (at_moment 9223372036854775804)) ≡ (0, 1, 1) ∷ (0, 1, 2) ∷ [])
     × (has_time (after One 2 (accepted One 2 [] ((9223372036854775806, register 7) ∷ []))) (9223372036854775806, accounts) ≡ false)
+
+-- a run of bytes: moment 10 and the frame of client 7's register; and of the frame of its reply
+abbrev register_bytes : List ℕ
+register_bytes = 10 ∷ replicate 7 0 ++ 7 ∷ replicate 27 0 ++ 2 ∷ replicate 19 0
+
+abbrev registered_bytes : List ℕ
+registered_bytes = 7 ∷ replicate 15 0 ++ 1 ∷ replicate 11 0 ++ 2 ∷ replicate 7 0 ++ 1 ∷ replicate 11 0
+
+abbrev pub RegisterRun : Type 0
+RegisterRun = (result : Result ℕ RunFault) (first last : Input) (start written : Output) → RanPlain One 1 result first last start written
+    → first.left ≡ Some register_bytes → NothingFails result last written
+    → (result ≡ Ok 1) × (last.left ≡ Some []) × Appends start.written written.written registered_bytes

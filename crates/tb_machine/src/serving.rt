@@ -8,6 +8,7 @@ ghost use Rattle.tb_sessions.specs.Judged.{class_of, row_of};
 ghost use Rattle.tb_machine.specs.Histories.{status_of, answer_to, fits, stored_reply};
 ghost use Rattle.tb_machine.specs.RunFaults.{run_fault_number, run_fault_name};
 ghost use Rattle.tb_machine.specs.Runs.{is_new_in, AnswersPair, PairAnswered, Ran};
+ghost use Rattle.tb_machine.specs.PlainRuns.{RanPlain};
 ghost use Rattle.tb_machine.specs.private.Serving.{EntersPair, Delivers, IsPromptForPair};
 ghost use Rattle.tb_machine.specs.Worked.{GoesOn};
 
@@ -299,7 +300,8 @@ fn run_in<A: Allocator + Clone, R: Source, W: Sink>(
 }
 
 /// Serves a script of pairs, a moment and the frame of a request each, until it ends, and answers the number of replies
-/// written, of which none is held back any more. On a fault the replies to all earlier pairs are written, and the rest of
+/// written, of which none is held back any more. If the whole input is such pairs, each new one has a time and nothing fails,
+/// all is read, and exactly the replies are written. On a fault the replies to all earlier pairs are written, and the rest of
 /// the script is unread; where the writer failed, a prefix of the next reply was written too.
 pub fn run<R: Source, W: Sink>(
     alloc: Global,
@@ -309,6 +311,8 @@ pub fn run<R: Source, W: Sink>(
     writer: &mut W,
 ) -> Result<u64, RunFault>
     ensures ran { Ran profile clients_max result (R.input reader.old) (R.input reader.new)
+        (W.output writer.old) (W.output writer.new) }
+    ensures plain { RanPlain profile clients_max result (R.input reader.old) (R.input reader.new)
         (W.output writer.old) (W.output writer.new) }
     ensures passed { IfOk result (λ _. (W.output writer.new).held ≡ false) }
 {

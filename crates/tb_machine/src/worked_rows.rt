@@ -1,5 +1,5 @@
 //! Worked examples: scripts, and what the definitions answer to them, computed. A call does nothing; its promise is the row.
-ghost use Rattle.tb_machine.specs.WorkedRows.{FirstRequests, Refusals, GreatestSum, Eviction, EndOfTime, EvictionStorm, UnfitEntries, MarkedHistory, ScriptInParts, CopiesInAScript, BoundedMoments};
+ghost use Rattle.tb_machine.specs.WorkedRows.{FirstRequests, Refusals, GreatestSum, Eviction, EndOfTime, EvictionStorm, UnfitEntries, MarkedHistory, ScriptInParts, CopiesInAScript, BoundedMoments, RegisterRun};
 
 /// A register, the same again, two accounts, their lookup, a transfer.
 pub fn first_requests()
@@ -54,4 +54,9 @@ pub fn copies_in_a_script()
 /// Moments that leave time for all events of a script, and one that does not.
 pub fn bounded_moments()
     ensures { BoundedMoments }
+{}
+
+/// A run over the bytes of a register, when nothing fails.
+pub fn register_run()
+    ensures { RegisterRun }
 {}
