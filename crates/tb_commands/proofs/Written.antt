@@ -3,10 +3,10 @@ use Rattle.std.proofs.Common.{List, Result, Ok, Err, MatchResult, ℕ, ◌≡◌
 use Rattle.tb_records.specs.declared.faults.FrameFault.{FrameFault}
 use Rattle.tb_records.specs.declared.faults.FrameFault.TheVariants as frame
 use Rattle.tb_records.specs.Transport.{Output, Sent, CutOff}
-use Rattle.tb_commands.specs.ExitStatuses.{TellsLine}
+use Rattle.tb_commands.specs.ExitStatuses.{PrintsLine}
 
 -- what a writer answers, a line's own answer leaves out
-pub told_by : (result : Result (Unit {0}) FrameFault) (line : List ℕ) (before after : Output)
-    → MatchResult result (λ _. Sent line before after) (λ f. (f ≡ frame.Device) × CutOff line before after) → TellsLine line before after
-told_by (Ok done) line before after sent = inl sent
-told_by (Err fault) line before after cut = inr cut.1
+pub printed_by : (result : Result (Unit {0}) FrameFault) (line : List ℕ) (before after : Output)
+    → MatchResult result (λ _. Sent line before after) (λ f. (f ≡ frame.Device) × CutOff line before after) → PrintsLine line before after
+printed_by (Ok done) line before after sent = inl sent
+printed_by (Err fault) line before after cut = inr cut.1

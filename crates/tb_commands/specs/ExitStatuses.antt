@@ -63,13 +63,13 @@ abbrev pub fault_line : CommandFault → List ℕ
 fault_line fault = line_named (fault_name fault)
 
 -- a line was written, or a prefix of it, where the writer failed or took nothing
-abbrev pub TellsLine : List ℕ → Output → Output → Type 0
-TellsLine line before after = Sent line before after ⊎ CutOff line before after
+abbrev pub PrintsLine : List ℕ → Output → Output → Type 0
+PrintsLine line before after = Sent line before after ⊎ CutOff line before after
 
 -- nothing is reported of a form that was done, and of a fault its line
-abbrev pub Tells : Result ℕ CommandFault → Output → Output → Type 0
-Tells (Ok count) before after = after ≡ before
-Tells (Err fault) before after = TellsLine (fault_line fault) before after
+abbrev pub Prints : Result ℕ CommandFault → Output → Output → Type 0
+Prints (Ok count) before after = after ≡ before
+Prints (Err fault) before after = PrintsLine (fault_line fault) before after
 
 -- what a form was served with: the number of replies, or of entries, or the fault that came
 abbrev pub Performs : Form → Result ℕ CommandFault → Input → Input → Output → Output → Type 0
@@ -91,15 +91,15 @@ abbrev pub RefusesWords : {R W : Type 0} → List (String Global) → ℕ → R 
 RefusesWords words exit_status before after start written = form_of (map string_bytes words) ≡ None → (exit_status ≡ 2) × (after ≡ before) × (written ≡ start)
 
 -- and the line of usage is reported
-abbrev pub TellsUsage : {E : Type 0} → sinks.Ghosts E → List (String Global) → E → E → Type 0
-TellsUsage lines words quiet told = form_of (map string_bytes words) ≡ None → TellsLine (fault_line Usage) (lines.output quiet) (lines.output told)
+abbrev pub PrintsUsage : {E : Type 0} → sinks.Ghosts E → List (String Global) → E → E → Type 0
+PrintsUsage lines words quiet told = form_of (map string_bytes words) ≡ None → PrintsLine (fault_line Usage) (lines.output quiet) (lines.output told)
 
 -- a form was served, and the exit status and the line are those of the outcome
 pub record Exits (form : Form) (exit_status : ℕ) (before after : Input) (start written quiet told : Output) : Type 0 where
   pub outcome : Result ℕ CommandFault
   pub performed : Performs form outcome before after start written
   pub exit_status_is : exit_status ≡ outcome_exit_status outcome
-  pub line : Tells outcome quiet told
+  pub line : Prints outcome quiet told
 
 -- the form that words ask for was served, where they ask for one
 abbrev pub ServesWords : List (List ℕ) → ℕ → Input → Input → Output → Output → Output → Output → Type 0

@@ -1,6 +1,6 @@
 //! The forms `run`, `dump` and `replay`, over any reader and writer, and the exit status of each outcome.
 ghost use Rattle.std.specs.Prelude.{◌≡◌, ◌<◌, map, string_bytes};
-ghost use Rattle.tb_commands.specs.ExitStatuses.{fault_exit_status, fault_name, fault_line, On, TellsLine, TellsUsage, PerformsOn, RefusesWords, ServesWords};
+ghost use Rattle.tb_commands.specs.ExitStatuses.{fault_exit_status, fault_name, fault_line, On, PrintsLine, PrintsUsage, PerformsOn, RefusesWords, ServesWords};
 
 use crate::arguments::{Form, read_form};
 use crate::lines::{LINE_BYTES, line_of, put_line};
@@ -72,8 +72,8 @@ impl CommandFault {
 }
 
 /// Writes the line `tbs: ` and the fault's name. A failure to write it changes no exit status.
-pub fn tell<E: Sink>(fault: CommandFault, faults: &mut E)
-    ensures { TellsLine (fault_line fault) (E.output faults.old) (E.output faults.new) }
+pub fn print_fault<E: Sink>(fault: CommandFault, faults: &mut E)
+    ensures { PrintsLine (fault_line fault) (E.output faults.old) (E.output faults.new) }
 {
     put_line(line_of(fault.name()).as_slice(), faults);
 }
@@ -105,19 +105,19 @@ pub fn command<R: Source, W: Sink, E: Sink>(
     faults: &mut E,
 ) -> u8
     ensures usage { RefusesWords words.now result reader.old reader.new writer.old writer.new }
-    ensures told { TellsUsage E.Sink words.now faults.old faults.new }
+    ensures printed { PrintsUsage E.Sink words.now faults.old faults.new }
     ensures quiet { result ≡ 0 → faults.new ≡ faults.old }
     ensures served { On R.Source W.Sink E.Sink (ServesWords (map string_bytes words.now) result)
         reader.old reader.new writer.old writer.new faults.old faults.new }
 {
     let Some(form) = read_form(words) else {
-        tell(CommandFault::Usage, faults);
+        print_fault(CommandFault::Usage, faults);
         return 2;
     };
     match perform(alloc, form, reader, writer) {
         Ok(_) => 0,
         Err(fault) => {
-            tell(fault, faults);
+            print_fault(fault, faults);
             fault.exit_status()
         }
     }
@@ -175,8 +175,8 @@ pub fn fault_of(error: &io::Error) -> CommandFault {
 /// Prints the fault, and answers its exit status.
 pub fn refuse<E: Sink>(fault: CommandFault, faults: &mut E) -> u8
     ensures value { result ≡ fault_exit_status fault }
-    ensures told { TellsLine (fault_line fault) (E.output faults.old) (E.output faults.new) }
+    ensures printed { PrintsLine (fault_line fault) (E.output faults.old) (E.output faults.new) }
 {
-    tell(fault, faults);
+    print_fault(fault, faults);
     fault.exit_status()
 }

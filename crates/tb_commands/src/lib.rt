@@ -7,7 +7,7 @@
 //!   clients.
 //! - `lines`: the line that a fault is reported by.
 //! - `commands`: `serve`, the way from arguments, input and output to `command`: each form over any reader and writer, and the exit
-//!   exit status of each outcome.
+//!   status of each outcome.
 #![tactic(auto)]
 
 mod arguments;
@@ -15,5 +15,7 @@ mod commands;
 mod lines;
 
 pub use arguments::{Form, number, read_clients_max, read_form, read_id, read_profile};
-pub use commands::{BUFFER_BYTES, CommandFault, command, fault_of, refuse, serve, tell, words};
+pub use commands::{
+    BUFFER_BYTES, CommandFault, command, fault_of, print_fault, refuse, serve, words,
+};
 pub use lines::{LINE_BYTES, line_by, line_of, put_line};

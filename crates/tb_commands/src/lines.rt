@@ -1,6 +1,6 @@
 //! The line that a fault is reported by.
 ghost use Rattle.std.specs.Prelude.{◌≡◌, ◌≤◌, ◌++◌, codes, length};
-ghost use Rattle.tb_commands.specs.ExitStatuses.{line_named, TellsLine};
+ghost use Rattle.tb_commands.specs.ExitStatuses.{line_named, PrintsLine};
 
 use arrayvec::ArrayVec;
 use tb_records::{Sink, put_all};
@@ -31,7 +31,7 @@ pub fn line_of(name: &str) -> ArrayVec<u8, LINE_BYTES>
 
 /// Writes a line as far as the writer takes it.
 pub fn put_line<E: Sink>(line: &[u8], faults: &mut E)
-    ensures { TellsLine line.now (E.output faults.old) (E.output faults.new) }
+    ensures { PrintsLine line.now (E.output faults.old) (E.output faults.new) }
 {
     let _ = put_all(faults, line);
 }

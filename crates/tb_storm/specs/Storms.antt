@@ -3,7 +3,7 @@
 use Rattle.std.specs.Prelude.{ℕ, ◌≡◌, ◌⊎◌, List, ◌++◌, Result, Ok, Err, IfOk, codes}
 use Rattle.std.specs.Fmt.{decimal}
 use Rattle.tb_records.specs.Transport.{Output, Sent, CutOff}
-use Rattle.tb_commands.specs.ExitStatuses.{line_named, TellsLine}
+use Rattle.tb_commands.specs.ExitStatuses.{line_named, PrintsLine}
 use Rattle.tb_published.specs.declared.faults.OpenFault.{OpenFault}
 use Rattle.tb_published.specs.declared.faults.OpenFault.TheVariants as opening
 use Rattle.tb_published.specs.declared.faults.SeatFault.{SeatFault}
@@ -51,12 +51,12 @@ storm_lines clients totals =
 -- Lines were written, and nothing is reported; or as far as the writer took them, and the fault is Device.
 abbrev pub Writes : List ℕ → ℕ → Output → Output → Output → Output → Type 0
 Writes lines exit_status start written quiet told = ((exit_status ≡ 0) × Sent lines start written × (told ≡ quiet))
-    ⊎ ((exit_status ≡ storm_exit_status storm.Device) × CutOff lines start written × TellsLine (storm_line storm.Device) quiet told)
+    ⊎ ((exit_status ≡ storm_exit_status storm.Device) × CutOff lines start written × PrintsLine (storm_line storm.Device) quiet told)
 
 -- of a storm that ended with totals its lines are written; of another nothing is, and its fault is reported
 abbrev pub Exits : ℕ → Result Totals StormFault → ℕ → Output → Output → Output → Output → Type 0
 Exits clients (Ok totals) exit_status start written quiet told = Writes (storm_lines clients totals) exit_status start written quiet told
-Exits clients (Err fault) exit_status start written quiet told = (exit_status ≡ storm_exit_status fault) × (written ≡ start) × TellsLine (storm_line fault) quiet told
+Exits clients (Err fault) exit_status start written quiet told = (exit_status ≡ storm_exit_status fault) × (written ≡ start) × PrintsLine (storm_line fault) quiet told
 
 -- A storm of so many clients was played, and this is reported of it: its totals, or that there is no memory for their lines; or its
 -- fault, and nothing else.

@@ -1,6 +1,6 @@
 //! Why a storm does not end well.
 ghost use Rattle.std.specs.Prelude.{◌≡◌, ◌<◌};
-ghost use Rattle.tb_commands.specs.ExitStatuses.{TellsLine};
+ghost use Rattle.tb_commands.specs.ExitStatuses.{PrintsLine};
 ghost use Rattle.tb_storm.specs.Storms.{storm_exit_status, storm_fault_name, storm_line};
 
 use std::alloc::{AllocError, AllocFailed};
@@ -37,7 +37,7 @@ impl StormFault {
 
     /// Writes the line `tbs: ` and the fault's name. A failure to write it changes no exit status.
     pub fn tell<E: Sink>(self, faults: &mut E)
-        ensures { TellsLine (storm_line self) (E.output faults.old) (E.output faults.new) }
+        ensures { PrintsLine (storm_line self) (E.output faults.old) (E.output faults.new) }
     {
         put_line(line_of(self.name()).as_slice(), faults);
     }

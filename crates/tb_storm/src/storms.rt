@@ -2,7 +2,7 @@
 ghost use Rattle.std.specs.Prelude.{◌≡◌, ◌<◌, ◌≤◌, ◌+◌, [], None, IfOk};
 ghost use mathlib.Core.List.{IsPrefix};
 ghost use Rattle.tb_records.specs.Transport.{risen};
-ghost use Rattle.tb_commands.specs.ExitStatuses.{TellsLine};
+ghost use Rattle.tb_commands.specs.ExitStatuses.{PrintsLine};
 ghost use Rattle.tb_storm.specs.declared.totals.Totals.{Totals};
 ghost use Rattle.tb_storm.specs.declared.faults.StormFault.{StormFault};
 ghost use Rattle.tb_storm.specs.private.Found.{CountsTransfers, replies_of, credited_after, Totaled, TotaledIn};
@@ -267,7 +267,7 @@ fn play<R: Threads + Wait + Sync>(rt: &R, alloc: Global, scale: Scale) -> Result
 /// The exit status of a fault, whose line is reported.
 fn refuse<E: Sink>(fault: StormFault, faults: &mut E) -> u8
     ensures exit_status { result ≡ storm_exit_status fault }
-    ensures line { TellsLine (storm_line fault) (E.output faults.old) (E.output faults.new) }
+    ensures line { PrintsLine (storm_line fault) (E.output faults.old) (E.output faults.new) }
     ensures failing { 0 < result }
 {
     fault.tell(faults);
