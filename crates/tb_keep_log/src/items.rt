@@ -54,7 +54,7 @@ fn tell_standing<A: Allocator + Clone, W: Sink>(
 ) -> Result<(), LogFault>
     ensures { Answers result follower.now (W.output writer.old) (W.output writer.new) }
 {
-    match follower.tell(global, writer) {
+    match follower.write_standing(global, writer) {
         Ok(()) => {
             writer.pass_on();
             Ok(())

@@ -14,7 +14,7 @@ use Rattle.tb_log.specs.Format.{content_of, checksum_of, summed, standing_item}
 use Rattle.tb_log.specs.Following.{Following, begun, with_pair, with_content, AreAnswered, replies_from, Item, Entry, Question, with_item, item_bytes, given_to, IsAnswered, after_items, bytes_of, given, AllAnswered}
 use Rattle.tb_log.specs.Entries.{Breaks, ReadsEntry, RefusesEntry}
 use Rattle.tb_log.specs.Follows.{Serves, ItemFits, Refuses, Halts, Ended, Followed}
-use Rattle.tb_log.specs.Steps.{Takes, TellsStanding, StopsEntry, ServesEntry, TakesItem, TakesNone}
+use Rattle.tb_log.specs.Steps.{Takes, WritesStanding, StopsEntry, ServesEntry, TakesItem, TakesNone}
 use Rattle.tb_log.proofs.Taking.{takes_then}
 
 -- an entry
@@ -62,13 +62,13 @@ entry_fails fault F a b c start written kind (inr stopped) = inr (inl (record {
   stops = stopped.stops;
 }))
 
-pub question_item : (F : Following) (a b : Input) (start written : Output) → Takes (2 ∷ []) a b → TellsStanding (Ok tt) F start written → TakesItem F F a b start written
-question_item F a b start written kind told = record { item = Question; fit = tt; read = kind; answered = tt; state = refl; sent = told }
+pub question_item : (F : Following) (a b : Input) (start written : Output) → Takes (2 ∷ []) a b → WritesStanding (Ok tt) F start written → TakesItem F F a b start written
+question_item F a b start written kind wrote = record { item = Question; fit = tt; read = kind; answered = tt; state = refl; sent = wrote }
 
-pub question_fails : (fault : LogFault) (F : Following) (a b : Input) (start written : Output) → Takes (2 ∷ []) a b → TellsStanding (Err fault) F start written → Refuses fault F a b start written
-question_fails fault F a b start written kind told = inr (inr (record { read = kind.consumed; counted = kind.counted; told = by fault told }))
+pub question_fails : (fault : LogFault) (F : Following) (a b : Input) (start written : Output) → Takes (2 ∷ []) a b → WritesStanding (Err fault) F start written → Refuses fault F a b start written
+question_fails fault F a b start written kind wrote = inr (inr (record { read = kind.consumed; counted = kind.counted; failed = by fault wrote }))
   where
-    by : (f : LogFault) → TellsStanding (Err f) F start written → ((f ≡ NoMemory) × (written ≡ start)) ⊎ ((f ≡ Device) × CutOff (standing_item F.position F.log F.replies) start written)
+    by : (f : LogFault) → WritesStanding (Err f) F start written → ((f ≡ NoMemory) × (written ≡ start)) ⊎ ((f ≡ Device) × CutOff (standing_item F.position F.log F.replies) start written)
     by NoMemory silent = inl (refl, silent)
     by Device cut = inr (refl, cut)
     by f none = absurd none

@@ -89,17 +89,17 @@ pub record IsStopped (fault : LogFault) (F : Following) (before after : Input) (
   pub stops : Stops fault (with_content F content) content start written
 
 -- a question that is not answered
-pub record IsUntold (fault : LogFault) (F : Following) (before after : Input) (start written : Output) : Type 0 where
+pub record LeavesQuestion (fault : LogFault) (F : Following) (before after : Input) (start written : Output) : Type 0 where
   pub read : Consumes before.left after.left question_bytes
   pub counted : after.failed ≡ before.failed
-  pub told : ((fault ≡ NoMemory) × (written ≡ start)) ⊎ ((fault ≡ Device) × CutOff (standing_item F.position F.log F.replies) start written)
+  pub failed : ((fault ≡ NoMemory) × (written ≡ start)) ⊎ ((fault ≡ Device) × CutOff (standing_item F.position F.log F.replies) start written)
 
 -- a fault of the next item
 abbrev pub Refuses : LogFault → Following → Input → Input → Output → Output → Type 0
 Refuses fault F before after start written =
     ((Breaks fault before after ⊎ IsUnknown fault before after ⊎ IsRefused fault F before after) × (written ≡ start))
     ⊎ IsStopped fault F before after start written
-    ⊎ IsUntold fault F before after start written
+    ⊎ LeavesQuestion fault F before after start written
 
 -- the faults that come of no item: no memory for the machine, and so many items that they cannot be counted
 abbrev pub Halts : LogFault → List Item → Type 0

@@ -113,11 +113,11 @@ abbrev pub standing_of : Following → List ℕ
 standing_of F = standing_item F.position F.log F.replies
 
 -- a question was answered, or there was no memory, or the device failed
-abbrev pub TellsStanding : Result (Unit {0}) LogFault → Following → Output → Output → Type 0
-TellsStanding (Ok done) F before after = Sent (standing_of F) before after
-TellsStanding (Err Device) F before after = CutOff (standing_of F) before after
-TellsStanding (Err NoMemory) F before after = after ≡ before
-TellsStanding (Err fault) F before after = ⊥
+abbrev pub WritesStanding : Result (Unit {0}) LogFault → Following → Output → Output → Type 0
+WritesStanding (Ok done) F before after = Sent (standing_of F) before after
+WritesStanding (Err Device) F before after = CutOff (standing_of F) before after
+WritesStanding (Err NoMemory) F before after = after ≡ before
+WritesStanding (Err fault) F before after = ⊥
 
 -- items
 

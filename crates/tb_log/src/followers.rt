@@ -2,7 +2,7 @@
 ghost use Rattle.std.specs.Prelude.{◌≡◌, ◌+◌, IfOk, IfErr};
 ghost use Rattle.tb_log.specs.Format.{placed};
 ghost use Rattle.tb_log.specs.Following.{begun, with_content};
-ghost use Rattle.tb_log.specs.Steps.{Frames, NoFrame, Replies, standing_of, TellsStanding, Writes};
+ghost use Rattle.tb_log.specs.Steps.{Frames, NoFrame, Replies, standing_of, WritesStanding, Writes};
 
 use crate::chains::Chain;
 use crate::faults::LogFault;
@@ -142,8 +142,8 @@ impl<A: Allocator + Clone> Follower<A> {
     }
 
     /// Writes the position and both hashes.
-    pub fn tell<W: Sink>(&self, global: Global, writer: &mut W) -> Result<(), LogFault>
-        ensures { TellsStanding result self.now (W.output writer.old) (W.output writer.new) }
+    pub fn write_standing<W: Sink>(&self, global: Global, writer: &mut W) -> Result<(), LogFault>
+        ensures { WritesStanding result self.now (W.output writer.old) (W.output writer.new) }
     {
         write(writer, &self.standing(global)?)
     }

@@ -64,7 +64,7 @@ fn take_next<A: Allocator + Clone, R: Source, W: Sink>(
     match kind_from(reader)? {
         None => return Ok(false),
         Some(1) => take_entry(global, follower, reader, writer)?,
-        Some(2) => follower.tell(global, writer)?,
+        Some(2) => follower.write_standing(global, writer)?,
         Some(kind) => return Err(LogFault::UnknownKind(kind)),
     }
     Ok(true)

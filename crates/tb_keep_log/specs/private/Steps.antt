@@ -22,7 +22,7 @@ use Rattle.tb_log.specs.Format.{content_of}
 use Rattle.tb_log.specs.Following.{Following, begun, Item, Entry, with_item, given_to, IsAnswered}
 use Rattle.tb_log.specs.Entries.{IsPairs, ReadsEntry, RefusesEntry}
 use Rattle.tb_log.specs.Follows.{ItemFits}
-use Rattle.tb_log.specs.Steps.{TellsStanding}
+use Rattle.tb_log.specs.Steps.{WritesStanding}
 use Rattle.tb_keep.specs.declared.recovering.Rules.{Rules}
 use Rattle.tb_keep.specs.Creating.{IsUntouched}
 use Rattle.tb_keep.specs.Rounds.{Commits, RefusesRecord}
@@ -125,8 +125,8 @@ TellsBytes (Err fault) bytes before after = ⊥
 
 -- a question was answered, and the answer passed on
 abbrev pub Answers : Result (Unit {0}) LogFault → Following → Output → Output → Type 0
-Answers (Ok done) F before after = TellsStanding (Ok tt) F before after × (after.held ≡ false)
-Answers (Err fault) F before after = TellsStanding (Err fault) F before after
+Answers (Ok done) F before after = WritesStanding (Ok tt) F before after × (after.held ≡ false)
+Answers (Err fault) F before after = WritesStanding (Err fault) F before after
 
 module _ (tells : Type 0) {D : Type 0} (disk : D → Disk) where
   -- records were committed
