@@ -8,9 +8,9 @@ use Rattle.tb_journal.specs.Steps.{IsBeforeOrAfter}
 use Rattle.tb_machine.specs.Histories.{State}
 use Rattle.tb_machine.specs.Scripts.{Pair, after_pair}
 use Rattle.tb_machine.proofs.Running.{sends_none, sends_then}
-use Rattle.tb_keep.specs.Rounds.{state_from, records_from, told_from, pairs_of, Standing, Rounds}
-use Rattle.tb_keep.specs.Moments.{Backs, WhileCommitting, WhileTelling}
-use Rattle.tb_keep.proofs.Pairs.{records_join, told_join}
+use Rattle.tb_keep.specs.Rounds.{state_from, records_from, reply_bytes_from, pairs_of, Standing, Rounds}
+use Rattle.tb_keep.specs.Moments.{Backs, WhileCommitting, WhileReplying}
+use Rattle.tb_keep.proofs.Pairs.{records_join, replies_join}
 
 pub state_join : (S : State) (ps qs : List Pair) → state_from S (ps ++ qs) ≡ state_from (state_from S ps) qs
 state_join S [] qs = refl
@@ -43,47 +43,47 @@ module _ (tells : Type 0) {D : Type 0} (disk : D → Disk) where
       ∙ ap (λ (S : State). base ++ (records_from first.state (pairs_of done) ++ records_from S ps)) (state_behind done first before kept)
       ∙ ap (λ records. base ++ records) (sym (records_join first.state (pairs_of done) ps))
 
-  told_with : (done : List (List Pair)) (ps : List Pair) (first before : Standing D) → Rounds tells disk done first before
-      → told_from first.state (pairs_of done ++ ps) ≡ told_from first.state (pairs_of done) ++ told_from before.state ps
-  told_with done ps first before kept =
-      grind (arith, common_steps, told_join first.state (pairs_of done) ps, state_behind done first before kept)
+  replied_with : (done : List (List Pair)) (ps : List Pair) (first before : Standing D) → Rounds tells disk done first before
+      → reply_bytes_from first.state (pairs_of done ++ ps) ≡ reply_bytes_from first.state (pairs_of done) ++ reply_bytes_from before.state ps
+  replied_with done ps first before kept =
+      grind (arith, common_steps, replies_join first.state (pairs_of done) ps, state_behind done first before kept)
 
   pub while_committing : WhileCommitting tells disk
   while_committing done ps first before after file behind leaves left = by (leaves.each file left)
     where
-      by : IsBeforeOrAfter (recorded (disk before.device).seen) (records_from before.state ps) file → Backs tells disk first (pairs_of done ++ ps) file (told_from first.state (pairs_of done))
+      by : IsBeforeOrAfter (recorded (disk before.device).seen) (records_from before.state ps) file → Backs tells disk first (pairs_of done ++ ps) file (reply_bytes_from first.state (pairs_of done))
       by (inl old) = record {
         pairs = pairs_of done;
         others = ps;
         all_are = refl;
         reads = old ∙ ap Records (records_behind behind.known done first before behind.kept);
         untold = [];
-        told = sym (append-nil (told_from first.state (pairs_of done)));
+        told = sym (append-nil (reply_bytes_from first.state (pairs_of done)));
       }
       by (inr new) = record {
         pairs = pairs_of done ++ ps;
         others = [];
         all_are = sym (append-nil (pairs_of done ++ ps));
         reads = new ∙ ap Records (records_with behind.known done ps first before behind.kept);
-        untold = told_from before.state ps;
-        told = told_with done ps first before behind.kept;
+        untold = reply_bytes_from before.state ps;
+        told = replied_with done ps first before behind.kept;
       }
 
-  pub while_telling : WhileTelling tells disk
-  while_telling done ps first before after file some rest behind commits left begins = record {
+  pub while_replying : WhileReplying tells disk
+  while_replying done ps first before after file some rest behind commits left begins = record {
     pairs = pairs_of done ++ ps;
     others = [];
     all_are = sym (append-nil (pairs_of done ++ ps));
     reads = ap contents (commits.at_rest.kept file left) ∙ commits.at_rest.reads ∙ ap Records (commits.grown ∙ records_with behind.known done ps first before behind.kept);
     untold = rest;
-    told = told_with done ps first before behind.kept
-        ∙ ap (λ bytes. told_from first.state (pairs_of done) ++ bytes) begins
-        ∙ sym (append_assoc (told_from first.state (pairs_of done)) some rest);
+    told = replied_with done ps first before behind.kept
+        ∙ ap (λ bytes. reply_bytes_from first.state (pairs_of done) ++ bytes) begins
+        ∙ sym (append_assoc (reply_bytes_from first.state (pairs_of done)) some rest);
   }
 
-  pub told_behind : (done : List (List Pair)) (first before : Standing D) → Rounds tells disk done first before → Sent (told_from first.state (pairs_of done)) first.output before.output
-  told_behind [] first before kept = subst (λ (s : Standing D). Sent [] first.output s.output) (sym kept) (sends_none first.output)
-  told_behind (ps ∷ done) first before kept =
+  pub replied_behind : (done : List (List Pair)) (first before : Standing D) → Rounds tells disk done first before → Sent (reply_bytes_from first.state (pairs_of done)) first.output before.output
+  replied_behind [] first before kept = subst (λ (s : Standing D). Sent [] first.output s.output) (sym kept) (sends_none first.output)
+  replied_behind (ps ∷ done) first before kept =
       subst (λ bytes. Sent bytes first.output before.output)
-      (ap (λ (S : State). told_from first.state ps ++ told_from S (pairs_of done)) kept.1.state ∙ sym (told_join first.state ps (pairs_of done)))
-      (sends_then (told_from first.state ps) (told_from kept.0.state (pairs_of done)) first.output kept.0.output before.output kept.1.told (told_behind done kept.0 before kept.2))
+      (ap (λ (S : State). reply_bytes_from first.state ps ++ reply_bytes_from S (pairs_of done)) kept.1.state ∙ sym (replies_join first.state ps (pairs_of done)))
+      (sends_then (reply_bytes_from first.state ps) (reply_bytes_from kept.0.state (pairs_of done)) first.output kept.0.output before.output kept.1.told (replied_behind done kept.0 before kept.2))

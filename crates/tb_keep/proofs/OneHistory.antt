@@ -11,9 +11,9 @@ use Rattle.tb_machine.specs.Recording.{IsRecord}
 use Rattle.tb_machine.proofs.JournalRecords.{one_record}
 use Rattle.tb_machine.proofs.Legal.{fold_append}
 use Rattle.tb_keep.specs.Keeping.{state_of, head_record, AreRecorded}
-use Rattle.tb_keep.specs.Rounds.{state_from, entries_from, told_from}
+use Rattle.tb_keep.specs.Rounds.{state_from, entries_from, reply_bytes_from}
 use Rattle.tb_keep.specs.Again.{OneHistory, OneLedger, GoesOnAfter}
-use Rattle.tb_keep.proofs.Pairs.{told_join}
+use Rattle.tb_keep.proofs.Pairs.{replies_join}
 
 pub one_head : (p q : Profile) (m n : ℕ) → head_record p m ≡ head_record q n → (p ≡ q) × (m ≡ n)
 one_head p q m n is = grind (arith, common_steps)
@@ -47,4 +47,4 @@ pub one_ledger : OneLedger
 one_ledger h ps = fold_append step (start h.profile h.clients_max) h.entries (entries_from (state_of h) ps) ∙ fold_entered (state_of h) ps
 
 pub goes_on_after : GoesOnAfter
-goes_on_after h ps qs = told_join (state_of h) ps qs ∙ ap (λ (S : State). told_from (state_of h) ps ++ told_from S qs) (sym (one_ledger h ps))
+goes_on_after h ps qs = replies_join (state_of h) ps qs ∙ ap (λ (S : State). reply_bytes_from (state_of h) ps ++ reply_bytes_from S qs) (sym (one_ledger h ps))

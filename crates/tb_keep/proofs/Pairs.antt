@@ -6,7 +6,7 @@ use Rattle.tb_records.specs.ReplyFrames.{reply_bytes}
 use Rattle.tb_machine.specs.Dumps.{dumped}
 use Rattle.tb_machine.specs.Histories.{State}
 use Rattle.tb_machine.specs.Scripts.{Pair, after_pair}
-use Rattle.tb_keep.specs.Rounds.{state_from, entered, entries_from, records_from, answers_from, told_from, IsServed, AreServed, pairs_of}
+use Rattle.tb_keep.specs.Rounds.{state_from, entered, entries_from, records_from, answers_from, reply_bytes_from, IsServed, AreServed, pairs_of}
 
 pub state_snoc : (S : State) (ps : List Pair) (p : Pair) → state_from S (ps ++ p ∷ []) ≡ after_pair (state_from S ps) p
 state_snoc S [] p = refl
@@ -23,8 +23,8 @@ answers_join : (S : State) (ps qs : List Pair) → answers_from S (ps ++ qs) ≡
 answers_join S [] qs = refl
 answers_join S (p ∷ ps) qs = ap (λ rest. answers_from S (p ∷ []) ++ rest) (answers_join (after_pair S p) ps qs)
 
-pub told_join : (S : State) (ps qs : List Pair) → told_from S (ps ++ qs) ≡ told_from S ps ++ told_from (state_from S ps) qs
-told_join S ps qs = ap (flat_map reply_bytes) (answers_join S ps qs) ∙ flat_map-append reply_bytes (answers_from S ps) (answers_from (state_from S ps) qs)
+pub replies_join : (S : State) (ps qs : List Pair) → reply_bytes_from S (ps ++ qs) ≡ reply_bytes_from S ps ++ reply_bytes_from (state_from S ps) qs
+replies_join S ps qs = ap (flat_map reply_bytes) (answers_join S ps qs) ∙ flat_map-append reply_bytes (answers_from S ps) (answers_from (state_from S ps) qs)
 
 pub served_snoc : (S : State) (ps : List Pair) (p : Pair) → AreServed S ps → IsServed (state_from S ps) p → AreServed S (ps ++ p ∷ [])
 served_snoc S [] p all one = (one, tt)

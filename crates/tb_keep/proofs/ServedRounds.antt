@@ -15,10 +15,10 @@ use Rattle.tb_machine.proofs.Running.{reads_none, reads_snoc}
 use Rattle.tb_keep.specs.declared.faults.KeepFault.{KeepFault}
 use Rattle.tb_keep.specs.declared.faults.KeepFault.TheVariants as keep
 use Rattle.tb_keep.specs.Keeping.{Keeping, IsFresh}
-use Rattle.tb_keep.specs.Rounds.{state_from, records_from, told_from, IsServed, AreServed, pairs_of, Commits, Standing, standing_of, IsPrompt, ReadsPromptly, is_held, RefusesRecord, Round, Rounds, IsStop, Pauses, Fails, Served, Ends, block_bytes_max, IsDue}
-use Rattle.tb_keep.specs.private.Steps.{IsSudden, Next, Ceases, IsCommitted, IsUncommitted, Tells, MayTell, EndsNext}
+use Rattle.tb_keep.specs.Rounds.{state_from, records_from, reply_bytes_from, IsServed, AreServed, pairs_of, Commits, Standing, standing_of, IsPrompt, ReadsPromptly, is_held, RefusesRecord, Round, Rounds, IsStop, Pauses, Fails, Served, Ends, block_bytes_max, IsDue}
+use Rattle.tb_keep.specs.private.Steps.{IsSudden, Next, Ceases, IsCommitted, IsUncommitted, CommitsAndReplies, MayReply, EndsNext}
 use Rattle.tb_keep.proofs.Batches.{block_short, grows, some_byte}
-use Rattle.tb_keep.proofs.Pairs.{state_snoc, records_join, told_join, served_snoc, pairs_snoc}
+use Rattle.tb_keep.proofs.Pairs.{state_snoc, records_join, replies_join, served_snoc, pairs_snoc}
 
 abbrev is_ok : {T F : Type 0} → Result T F → Type 0
 is_ok (Ok x) = Unit {0}
@@ -37,12 +37,12 @@ promptly_snoc held (q ∷ qs) p a b c all asked read =
 
 module _ (tells : Type 0) {D : Type 0} (disk : D → Disk) where
   rounds_snoc : (rounds : List (List Pair)) (ps : List Pair) (a b c : Standing D) → Rounds tells disk rounds a b → Round tells disk ps b c
-      → (tells → IsDue c.input.at_hand (told_from b.state ps) (records_from b.state ps)) → Rounds tells disk (rounds ++ ps ∷ []) a c
+      → (tells → IsDue c.input.at_hand (reply_bytes_from b.state ps) (records_from b.state ps)) → Rounds tells disk (rounds ++ ps ∷ []) a c
   rounds_snoc [] ps a b c all one due = (
     c,
     subst (λ (s : Standing D). Round tells disk ps s c) all one,
     refl,
-    λ t. subst (λ (S : State). IsDue c.input.at_hand (told_from S ps) (records_from S ps)) (ap (λ (s : Standing D). s.state) all) (due t),
+    λ t. subst (λ (S : State). IsDue c.input.at_hand (reply_bytes_from S ps) (records_from S ps)) (ap (λ (s : Standing D). s.state) all) (due t),
   )
   rounds_snoc (qs ∷ rounds) ps a b c all one due = (all.0, all.1, rounds_snoc rounds ps all.0 b c all.2 one due, all.3)
 
@@ -59,7 +59,7 @@ module _ (tells : Type 0) {D : Type 0} (disk : D → Disk) where
     pub state : keeper.state ≡ state_from standing.state more
     pub device : keeper.journal.device ≡ standing.device
     pub waits : tells → keeper.journal.waiting ≡ records_from standing.state more
-    pub holds : held ≡ told_from standing.state more
+    pub holds : held ≡ reply_bytes_from standing.state more
     pub output : written ≡ standing.output
     pub ready : tells → IsReady disk keeper.journal
     pub fewer : length (at_rest (records_from standing.state more)) ≤ length (at_rest keeper.journal.waiting)
@@ -129,9 +129,9 @@ module _ {tells : Type 0} {D : Type 0} {disk : D → Disk} {k : ℕ} {before kee
             ∙ ap (λ (U : State). records_from S g.more ++ records_from U (n.pair ∷ [])) g.state
             ∙ sym (records_join S g.more (n.pair ∷ []));
         holds = n.turn.holds
-            ∙ ap (λ bytes. bytes ++ told_from keeper.state (n.pair ∷ [])) g.holds
-            ∙ ap (λ (U : State). told_from S g.more ++ told_from U (n.pair ∷ [])) g.state
-            ∙ sym (told_join S g.more (n.pair ∷ []));
+            ∙ ap (λ bytes. bytes ++ reply_bytes_from keeper.state (n.pair ∷ [])) g.holds
+            ∙ ap (λ (U : State). reply_bytes_from S g.more ++ reply_bytes_from U (n.pair ∷ [])) g.state
+            ∙ sym (replies_join S g.more (n.pair ∷ []));
         output = g.output;
         ready = λ t. still_ready tells disk keeper.journal after.journal (keeper.journal.waiting ++ records_from keeper.state (n.pair ∷ [])) n.turn.waits (g.ready t);
         fewer = omega (arith, bytes, waiting, g.fewer);
@@ -167,32 +167,32 @@ module _ {tells : Type 0} {D : Type 0} {disk : D → Disk} {k : ℕ} {before kee
       (subst (λ records. Commits records (disk keeper.journal.device) (disk after.journal.device)) (g.waits t) (c.commits t))
 
   -- the pairs that wait are a round, once their replies are sent
-  round_told : {after : Keeping D} {next : Output} {left : List ℕ} → Tells tells disk (Ok tt) keeper after held left written next
+  round_replied : {after : Keeping D} {next : Output} {left : List ℕ} → CommitsAndReplies tells disk (Ok tt) keeper after held left written next
       → Round tells disk g.more g.standing (standing_of after input next)
-  round_told {after} {next} {left} t = record {
+  round_replied {after} {next} {left} t = record {
     prompt = g.prompt;
     served = g.served;
     state = t.0.state ∙ g.state;
     commits = commits_more t.0;
     short = g.short;
-    told = subst (λ (o : Output). Sent (told_from g.standing.state g.more) o next) g.output (subst (λ bytes. Sent bytes written next) g.holds t.1.0);
+    told = subst (λ (o : Output). Sent (reply_bytes_from g.standing.state g.more) o next) g.output (subst (λ bytes. Sent bytes written next) g.holds t.1.0);
     passed = t.1.1;
   }
 
   -- they are due, by what is held and what waits
-  due_by : IsDue input.at_hand held keeper.journal.waiting → tells → IsDue input.at_hand (told_from g.standing.state g.more) (records_from g.standing.state g.more)
+  due_by : IsDue input.at_hand held keeper.journal.waiting → tells → IsDue input.at_hand (reply_bytes_from g.standing.state g.more) (records_from g.standing.state g.more)
   due_by due t =
-      subst (λ (w : List (List ℕ)). IsDue input.at_hand (told_from g.standing.state g.more) w) (g.waits t)
+      subst (λ (w : List (List ℕ)). IsDue input.at_hand (reply_bytes_from g.standing.state g.more) w) (g.waits t)
       (subst (λ (b : List ℕ). IsDue input.at_hand b keeper.journal.waiting) g.holds due)
 
-  going_told : {after : Keeping D} {next : Output} {left : List ℕ} → IsDue input.at_hand held keeper.journal.waiting → Tells tells disk (Ok tt) keeper after held left written next
+  going_replied : {after : Keeping D} {next : Output} {left : List ℕ} → IsDue input.at_hand held keeper.journal.waiting → CommitsAndReplies tells disk (Ok tt) keeper after held left written next
       → Going tells disk k before after first input start next left
-  going_told {after} {next} {left} due t = record {
+  going_replied {after} {next} {left} due t = record {
     rounds = g.rounds ++ g.more ∷ [];
     more = [];
     standing = standing_of after input next;
     long = ap length (pairs_snoc g.rounds g.more) ∙ g.long;
-    kept = rounds_snoc tells disk g.rounds g.more (standing_of before first start) g.standing (standing_of after input next) g.kept (round_told t) (due_by due);
+    kept = rounds_snoc tells disk g.rounds g.more (standing_of before first start) g.standing (standing_of after input next) g.kept (round_replied t) (due_by due);
     served = tt;
     read = subst (λ ps. Reads ps first input) (sym (pairs_snoc g.rounds g.more)) g.read;
     prompt = refl;
@@ -208,22 +208,22 @@ module _ {tells : Type 0} {D : Type 0} {disk : D → Disk} {k : ℕ} {before kee
     journal = t.0.journal;
   }
 
-  told_prompt : {after : Keeping D} {next : Output} {left : List ℕ} (due : IsDue input.at_hand held keeper.journal.waiting) (t : Tells tells disk (Ok tt) keeper after held left written next)
-      → IsPrompt (is_held (going_told due t).standing.output.held (going_told due t).more) input
-  unfolding going_told
-  told_prompt due t holds = let clash : true ≡ false = sym holds ∙ t.1.1 in absurd (cc)
+  replied_prompt : {after : Keeping D} {next : Output} {left : List ℕ} (due : IsDue input.at_hand held keeper.journal.waiting) (t : CommitsAndReplies tells disk (Ok tt) keeper after held left written next)
+      → IsPrompt (is_held (going_replied due t).standing.output.held (going_replied due t).more) input
+  unfolding going_replied
+  replied_prompt due t holds = let clash : true ≡ false = sym holds ∙ t.1.1 in absurd (cc)
 
-  told_room : {after : Keeping D} {next : Output} {left : List ℕ} (due : IsDue input.at_hand held keeper.journal.waiting) (t : Tells tells disk (Ok tt) keeper after held left written next)
-      → length (at_rest (records_from (going_told due t).standing.state (going_told due t).more)) + block_bytes_max ≤ 2 ^ 22
-  unfolding going_told
-  told_room due t = omega arith
+  replied_room : {after : Keeping D} {next : Output} {left : List ℕ} (due : IsDue input.at_hand held keeper.journal.waiting) (t : CommitsAndReplies tells disk (Ok tt) keeper after held left written next)
+      → length (at_rest (records_from (going_replied due t).standing.state (going_replied due t).more)) + block_bytes_max ≤ 2 ^ 22
+  unfolding going_replied
+  replied_room due t = omega arith
 
   -- the replies are sent, or need not be yet
-  pub going_may : {after : Keeping D} {next : Output} {left : List ℕ} → MayTell tells disk input.at_hand (Ok tt) keeper after held left written next
+  pub going_may : {after : Keeping D} {next : Output} {left : List ℕ} → MayReply tells disk input.at_hand (Ok tt) keeper after held left written next
       → Asking tells disk k before after first input start next left
   going_may (inl (whole, few, room, is, stays, none, silent)) =
       rw (stays, none, silent) (record { going = g; prompt = λ _. whole; room = omega (arith, room, g.fewer) })
-  going_may (inr (due, told)) = record { going = going_told due told; prompt = told_prompt due told; room = told_room due told }
+  going_may (inr (due, told)) = record { going = going_replied due told; prompt = replied_prompt due told; room = replied_room due told }
 
   -- a commit that failed
   fails : {after : Keeping D} {next : Output} (fault : JournalFault) → IsUncommitted tells disk fault keeper after → next ≡ written
@@ -241,7 +241,7 @@ module _ {tells : Type 0} {D : Type 0} {disk : D → Disk} {k : ℕ} {before kee
   -- a fault in sending, with nothing more read, or the end
   served_silent : (f : KeepFault) (left : List ℕ) {after : Keeping D} {last : Input} {next : Output}
       → ((last ≡ input) ⊎ IsPrompt (is_held g.standing.output.held g.more) input) → Pauses (state_from g.standing.state g.more) input last
-      → Tells tells disk (Err f) keeper after held left written next
+      → CommitsAndReplies tells disk (Err f) keeper after held left written next
       → Served tells disk (Err f) before after first last start next
   served_silent (keep.Journal fault) left {after} {last} {next} asked pauses t = serves asked (inr (pauses, fails fault t.0 t.1))
   served_silent (keep.Serving (run.Frame fault)) left {after} {last} {next} asked pauses t = serves asked (inr (
@@ -250,14 +250,14 @@ module _ {tells : Type 0} {D : Type 0} {disk : D → Disk} {k : ℕ} {before kee
     record {
       commits = commits_more t.0;
       short = g.short;
-      cut = subst (λ (o : Output). CutOff (told_from g.standing.state g.more) o next) g.output (subst (λ bytes. CutOff bytes written next) g.holds t.1.1);
+      cut = subst (λ (o : Output). CutOff (reply_bytes_from g.standing.state g.more) o next) g.output (subst (λ bytes. CutOff bytes written next) g.holds t.1.1);
     },
   ))
   served_silent (keep.Serving run.NoMemory) left asked pauses t = absurd t.1
   served_silent (keep.Serving run.TimeExhausted) left asked pauses t = absurd t.1
   served_silent (keep.Serving run.TooLong) left asked pauses t = absurd t.1
 
-  pub served_before : (f : KeepFault) (left : List ℕ) {after : Keeping D} {next : Output} → MayTell tells disk input.at_hand (Err f) keeper after held left written next
+  pub served_before : (f : KeepFault) (left : List ℕ) {after : Keeping D} {next : Output} → MayReply tells disk input.at_hand (Err f) keeper after held left written next
       → Served tells disk (Err f) before after first input start next
   served_before f left (inl same) = absurd (subst is_ok (sym same.3) tt)
   served_before f left (inr (due, told)) = served_silent f left (inl refl) (inl refl) told
@@ -292,27 +292,27 @@ module _ {tells : Type 0} {D : Type 0} {disk : D → Disk} {k : ℕ} {before kee
   -- what ends it
 
   pub served_out : {again after : Keeping D} {last : Input} {next : Output} {same : List ℕ} (left : List ℕ)
-      → Ceases (Ok None) keeper again input last held same → Tells tells disk (Ok tt) again after same left written next → Served tells disk (Ok k) before after first last start next
+      → Ceases (Ok None) keeper again input last held same → CommitsAndReplies tells disk (Ok tt) again after same left written next → Served tells disk (Ok k) before after first last start next
   served_out {again} {after} {last} {next} {same} left c t =
-      serves a.going (inr a.prompt) (sym a.going.long, c.read, round_told a.going (rw (c.same, c.holds) at t))
+      serves a.going (inr a.prompt) (sym a.going.long, c.read, round_replied a.going (rw (c.same, c.holds) at t))
 
   -- a fault at the end of the input
   pub served_end : (f : KeepFault) {again after : Keeping D} {last : Input} {next : Output} {same : List ℕ} (left : List ℕ)
-      → Ceases (Ok None) keeper again input last held same → Tells tells disk (Err f) again after same left written next → Served tells disk (Err f) before after first last start next
+      → Ceases (Ok None) keeper again input last held same → CommitsAndReplies tells disk (Err f) again after same left written next → Served tells disk (Err f) before after first last start next
   served_end f {again} {after} {last} {next} {same} left c t =
       served_silent a.going f left (inr a.prompt) (inr (inl c.read))
-      (subst (λ (x : Keeping D). Tells tells disk (Err f) x after held left written next) c.same
-      (subst (λ bytes. Tells tells disk (Err f) again after bytes left written next) c.holds t))
+      (subst (λ (x : Keeping D). CommitsAndReplies tells disk (Err f) x after held left written next) c.same
+      (subst (λ bytes. CommitsAndReplies tells disk (Err f) again after bytes left written next) c.holds t))
 
   -- the replies held were sent before what ends serving
   served_stopped : (stop : KeepFault) {after : Keeping D} {last : Input} {next : Output} (left : List ℕ)
-      → IsStop stop keeper.state input last → Tells tells disk (Ok tt) keeper after held left written next → Served tells disk (Err stop) before after first last start next
+      → IsStop stop keeper.state input last → CommitsAndReplies tells disk (Ok tt) keeper after held left written next → Served tells disk (Err stop) before after first last start next
   served_stopped (keep.Serving (run.Frame fault)) {after} {last} {next} left is t =
-      serves a.going (inr a.prompt) (inl (is, round_told a.going {after = after} {next = next} {left = left} t))
+      serves a.going (inr a.prompt) (inl (is, round_replied a.going {after = after} {next = next} {left = left} t))
   served_stopped (keep.Serving run.TimeExhausted) {after} {last} {next} left is t =
       serves a.going (inr a.prompt) (
         subst (λ (U : State). IsStop (keep.Serving run.TimeExhausted) U input last) a.going.state is,
-        round_told a.going {after = after} {next = next} {left = left} t,
+        round_replied a.going {after = after} {next = next} {left = left} t,
       )
   served_stopped (keep.Serving run.NoMemory) left is t = absurd is
   served_stopped (keep.Serving run.TooLong) left is t = absurd is

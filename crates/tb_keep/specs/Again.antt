@@ -5,7 +5,7 @@ use Rattle.tb_journal.specs.Device.{Disk}
 use Rattle.tb_machine.specs.Scripts.{Pair}
 use Rattle.tb_keep.specs.declared.faults.KeepFault.{KeepFault}
 use Rattle.tb_keep.specs.Keeping.{History, state_of, longer, Keeping, Keeps, IsLedger}
-use Rattle.tb_keep.specs.Rounds.{state_from, entries_from, told_from, pairs_of, Served}
+use Rattle.tb_keep.specs.Rounds.{state_from, entries_from, reply_bytes_from, pairs_of, Served}
 
 -- a file represents one history at most
 abbrev pub OneHistory : Type 0
@@ -18,7 +18,7 @@ OneLedger = (h : History) (ps : List Pair) → state_of (longer h (entries_from 
 -- pairs that come after a crash are answered as they are behind the pairs from before it
 abbrev pub GoesOnAfter : Type 0
 GoesOnAfter = (h : History) (ps qs : List Pair)
-    → told_from (state_of h) (ps ++ qs) ≡ told_from (state_of h) ps ++ told_from (state_of (longer h (entries_from (state_of h) ps))) qs
+    → reply_bytes_from (state_of h) (ps ++ qs) ≡ reply_bytes_from (state_of h) ps ++ reply_bytes_from (state_of (longer h (entries_from (state_of h) ps))) qs
 
 -- the pairs that were read, and of which none is acknowledged without its entry
 abbrev pub all_pairs : {tells : Type 0} {D : Type 0} {disk : D → Disk} {result : Result ℕ KeepFault} {before after : Keeping D} {first last : Input} {start written : Output}

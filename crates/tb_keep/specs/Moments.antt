@@ -6,7 +6,7 @@ use Rattle.tb_journal.specs.Contents.{Records, contents, recorded}
 use Rattle.tb_journal.specs.Steps.{IsAtRest, IsBeforeOrAfter}
 use Rattle.tb_machine.specs.Scripts.{Pair}
 use Rattle.tb_keep.specs.Keeping.{History, state_of, longer, records_of, IsKeepable, IsLedger}
-use Rattle.tb_keep.specs.Rounds.{records_from, told_from, pairs_of, Commits, Standing, Rounds, entries_from, AreServed}
+use Rattle.tb_keep.specs.Rounds.{records_from, reply_bytes_from, pairs_of, Commits, Standing, Rounds, entries_from, AreServed}
 
 module _ (tells : Type 0) {D : Type 0} (disk : D → Disk) where
   -- the file has the records from before and the entries of some first pairs, and the bytes are a prefix of the replies to these
@@ -16,7 +16,7 @@ module _ (tells : Type 0) {D : Type 0} (disk : D → Disk) where
     pub all_are : all ≡ pairs ++ others
     pub reads : contents file ≡ Records (recorded (disk first.device).seen ++ records_from first.state pairs)
     pub untold : List ℕ
-    pub told : told_from first.state pairs ≡ bytes ++ untold
+    pub told : reply_bytes_from first.state pairs ≡ bytes ++ untold
 
   -- rounds behind a file at rest, and further pairs: of these nothing is sent before their entries are committed
   pub record Behind (done : List (List Pair)) (first before : Standing D) : Type 0 where
@@ -30,21 +30,21 @@ module _ (tells : Type 0) {D : Type 0} (disk : D → Disk) where
       → Behind done first before
       → LeavesOnly (disk before.device) (disk after) (IsBeforeOrAfter (recorded (disk before.device).seen) (records_from before.state ps))
       → (disk after).left_since (disk before.device).moment file
-      → Backs first (pairs_of done ++ ps) file (told_from first.state (pairs_of done))
+      → Backs first (pairs_of done ++ ps) file (reply_bytes_from first.state (pairs_of done))
 
   -- a file that a crash leaves once these are committed, when a prefix of the replies is sent
-  abbrev pub WhileTelling : Type 0
-  WhileTelling = (done : List (List Pair)) (ps : List Pair) (first before : Standing D) (after : D) (file some rest : List ℕ)
+  abbrev pub WhileReplying : Type 0
+  WhileReplying = (done : List (List Pair)) (ps : List Pair) (first before : Standing D) (after : D) (file some rest : List ℕ)
       → Behind done first before
       → Commits (records_from before.state ps) (disk before.device) (disk after)
       → (disk after).may_leave file
-      → told_from before.state ps ≡ some ++ rest
-      → Backs first (pairs_of done ++ ps) file (told_from first.state (pairs_of done) ++ some)
+      → reply_bytes_from before.state ps ≡ some ++ rest
+      → Backs first (pairs_of done ++ ps) file (reply_bytes_from first.state (pairs_of done) ++ some)
 
   -- what was sent until then are the replies to the pairs of these rounds
-  abbrev pub TellsTheDone : Type 0
-  TellsTheDone = (done : List (List Pair)) (first before : Standing D) → Rounds tells disk done first before
-      → Sent (told_from first.state (pairs_of done)) first.output before.output
+  abbrev pub RepliesToTheDone : Type 0
+  RepliesToTheDone = (done : List (List Pair)) (first before : Standing D) → Rounds tells disk done first before
+      → Sent (reply_bytes_from first.state (pairs_of done)) first.output before.output
 
   -- such a file represents a history that may be kept: that of the file at first, and the entries of those pairs
   abbrev pub Lasts : Type 0

@@ -5,20 +5,20 @@ ghost use Rattle.tb_keep.specs.Quick.{HistoriesAreInOrder, QuickRefusesNone};
 ghost use Rattle.tb_keep.specs.Reading.{DumpIsOfHistory, WholeRules, WholeNoHead, WholeDumps};
 ghost use Rattle.tb_keep.specs.Recovering.{OnlyMemory, FileOnlyMemory, WholeStops};
 ghost use Rattle.tb_keep.specs.Salvaging.{IsLongest};
-ghost use Rattle.tb_keep.specs.Moments.{WhileCommitting, WhileTelling, TellsTheDone, Lasts, RoundsAreServed};
+ghost use Rattle.tb_keep.specs.Moments.{WhileCommitting, WhileReplying, RepliesToTheDone, Lasts, RoundsAreServed};
 
 use tb_journal::Device;
 
 /// Whatever was acknowledged is in the file, at each moment of the rounds that `keep` serves: while entries are committed only
 /// the replies to earlier ones were sent, and while replies are sent each file that a crash leaves has their entries.
-pub fn told_stands<D: Device>()
+pub fn acknowledged_stands<D: Device>()
     ensures committing { WhileCommitting D.tells D.disk }
-    ensures telling { WhileTelling D.tells D.disk }
-    ensures told { TellsTheDone D.tells D.disk }
+    ensures replying { WhileReplying D.tells D.disk }
+    ensures replied { RepliesToTheDone D.tells D.disk }
 {}
 
 /// Such a file represents a history that may be kept: `open` reads it, and the entries of the acknowledged pairs are in it.
-pub fn told_lasts<D: Device>()
+pub fn acknowledged_lasts<D: Device>()
     ensures lasts { Lasts D.tells D.disk }
     ensures served { RoundsAreServed D.tells D.disk }
 {}

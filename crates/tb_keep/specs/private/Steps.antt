@@ -20,7 +20,7 @@ use Rattle.tb_machine.specs.Recording.{IsRecord}
 use Rattle.tb_keep.specs.declared.faults.KeepFault.{KeepFault}
 use Rattle.tb_keep.specs.declared.faults.KeepFault.TheVariants as keep
 use Rattle.tb_keep.specs.Keeping.{Keeping}
-use Rattle.tb_keep.specs.Rounds.{IsServed, IsUntimely, Commits, IsRead, IsStop, RefusesRecord, records_from, told_from, block_bytes_max, IsDue}
+use Rattle.tb_keep.specs.Rounds.{IsServed, IsUntimely, Commits, IsRead, IsStop, RefusesRecord, records_from, reply_bytes_from, block_bytes_max, IsDue}
 use Rattle.tb_keep.specs.declared.replies.Replies.{Replies}
 
 -- a fault of a record that is made to wait: there is no memory for it, or the journal refuses it
@@ -63,7 +63,7 @@ pub record HoldsPair {D : Type 0} (p : Pair) (before after : Keeping D) (held gr
   pub served : IsServed before.state p
   pub state : after.state ≡ after_pair before.state p
   pub waits : after.journal ≡ record before.journal { waiting = before.journal.waiting ++ records_from before.state (p ∷ []) }
-  pub holds : grown ≡ held ++ told_from before.state (p ∷ [])
+  pub holds : grown ≡ held ++ reply_bytes_from before.state (p ∷ [])
   pub usable : after.usable ≡ before.usable
 
 -- a pair had no time
@@ -121,26 +121,26 @@ module _ (tells : Type 0) {D : Type 0} (disk : D → Disk) where
     pub any_moment : tells → LeavesOnly (disk before.journal.device) (disk after.journal.device) (IsBeforeOrAfter (recorded (disk before.journal.device).seen) before.journal.waiting)
 
   -- what waits was committed, and then what is held was sent; a fault came before the one or within the other
-  abbrev pub Tells : Result (Unit {0}) KeepFault → Keeping D → Keeping D → List ℕ → List ℕ → Output → Output → Type 0
-  Tells (Err (keep.Journal fault)) before after held left start written = IsUncommitted fault before after × (written ≡ start)
-  Tells result before after held left start written = IsCommitted before after × HandsOut result held left start written
+  abbrev pub CommitsAndReplies : Result (Unit {0}) KeepFault → Keeping D → Keeping D → List ℕ → List ℕ → Output → Output → Type 0
+  CommitsAndReplies (Err (keep.Journal fault)) before after held left start written = IsUncommitted fault before after × (written ≡ start)
+  CommitsAndReplies result before after held left start written = IsCommitted before after × HandsOut result held left start written
 
   -- or nothing was done, where that is not due
-  abbrev pub MayTell : List ℕ → Result (Unit {0}) KeepFault → Keeping D → Keeping D → List ℕ → List ℕ → Output → Output → Type 0
-  MayTell at_hand result before after held left start written =
+  abbrev pub MayReply : List ℕ → Result (Unit {0}) KeepFault → Keeping D → Keeping D → List ℕ → List ℕ → Output → Output → Type 0
+  MayReply at_hand result before after held left start written =
       ((holds_pair at_hand ≡ true) × (length held < 2 ^ 20) × (length (at_rest before.journal.waiting) + block_bytes_max ≤ 2 ^ 22) × (result ≡ Ok tt) × (after ≡ before) × (left ≡ held) × (written ≡ start))
-      ⊎ (IsDue at_hand held before.journal.waiting × Tells result before after held left start written)
+      ⊎ (IsDue at_hand held before.journal.waiting × CommitsAndReplies result before after held left start written)
 
   -- what is held is sent before a fault ends serving; which may fail, and then that fault ends it
-  abbrev pub EndsTold : KeepFault → KeepFault → Keeping D → Keeping D → List ℕ → List ℕ → Output → Output → Type 0
-  EndsTold stop f before after held left start written =
-      ((f ≡ stop) × Tells (Ok tt) before after held left start written) ⊎ Tells (Err f) before after held left start written
+  abbrev pub EndsReplying : KeepFault → KeepFault → Keeping D → Keeping D → List ℕ → List ℕ → Output → Output → Type 0
+  EndsReplying stop f before after held left start written =
+      ((f ≡ stop) × CommitsAndReplies (Ok tt) before after held left start written) ⊎ CommitsAndReplies (Err f) before after held left start written
 
   -- a fault in serving a pair, after which nothing is sent; or a stop, before which what is held is sent
   abbrev pub EndsNext : KeepFault → Keeping D → Keeping D → Input → Input → List ℕ → List ℕ → Output → Output → Type 0
   EndsNext f before after first last held left start written =
       (IsSudden f × Next (Err f) before after first last held left × (written ≡ start))
-      ⊎ ((stop : KeepFault) × IsStop stop before.state first last × EndsTold stop f before after held left start written)
+      ⊎ ((stop : KeepFault) × IsStop stop before.state first last × EndsReplying stop f before after held left start written)
 
   abbrev pub KeepsNext : Result Bool KeepFault → Keeping D → Keeping D → Input → Input → List ℕ → List ℕ → Output → Output → Type 0
   KeepsNext (Ok more) before after first last held left start written = GoesOn more before after first last held left × (written ≡ start)
@@ -154,13 +154,13 @@ abbrev pub HandsOutOver : {W : Type 0} → (W → Output) → Result (Unit {0}) 
 HandsOutOver output result held left writer later = HandsOut result held.bytes.items left.bytes.items (output writer) (output later)
 
 module _ (tells : Type 0) {D : Type 0} (disk : D → Disk) {W : Type 0} (output : W → Output) where
-  abbrev pub MayTellOver : List ℕ → Result (Unit {0}) KeepFault → Keeping D → Keeping D → Replies → Replies → W → W → Type 0
-  MayTellOver at_hand result before after held left writer later =
-      MayTell tells disk at_hand result before after held.bytes.items left.bytes.items (output writer) (output later)
+  abbrev pub MayReplyOver : List ℕ → Result (Unit {0}) KeepFault → Keeping D → Keeping D → Replies → Replies → W → W → Type 0
+  MayReplyOver at_hand result before after held left writer later =
+      MayReply tells disk at_hand result before after held.bytes.items left.bytes.items (output writer) (output later)
 
-  abbrev pub EndsToldOver : KeepFault → KeepFault → Keeping D → Keeping D → Replies → Replies → W → W → Type 0
-  EndsToldOver stop f before after held left writer later =
-      EndsTold tells disk stop f before after held.bytes.items left.bytes.items (output writer) (output later)
+  abbrev pub EndsReplyingOver : KeepFault → KeepFault → Keeping D → Keeping D → Replies → Replies → W → W → Type 0
+  EndsReplyingOver stop f before after held left writer later =
+      EndsReplying tells disk stop f before after held.bytes.items left.bytes.items (output writer) (output later)
 
   abbrev pub KeepsNextOver : {R : Type 0} → (R → Input) → Result Bool KeepFault → Keeping D → Keeping D → R → R → Replies → Replies → W → W → Type 0
   KeepsNextOver input result before after reader rest held left writer later =

@@ -1,5 +1,5 @@
 use Rattle.tb_keep.proofs.Lasting.{lasts, rounds_are_served}
-use Rattle.tb_keep.proofs.laws.told_lasts.Goals as goal
+use Rattle.tb_keep.proofs.laws.acknowledged_lasts.Goals as goal
 
 pub returns-clause-lasts : goal.returns-clause-lasts
 returns-clause-lasts g c = lasts g.D.Device.tells g.D.Device.disk
