@@ -11,7 +11,8 @@ import asyncio
 from typing import Any, AsyncGenerator, AsyncIterator, Optional, Union
 
 from tb_host.log import LogFull, NoLog, Report, Written
-from tb_host.process import came
+
+from .clocks import wake
 
 NODES = ("n1", "n2", "n3")
 LATE = 1.0  # seconds after which a node that has nothing new is looked at again
@@ -27,7 +28,7 @@ class Engine:
         self.heads: list[bytes] = []
         self.reports: dict[str, bytes] = {}
         self.since: list[float] = []  # when each row was put there
-        self.grown = asyncio.Event()
+        self.waiting: list[asyncio.Future[None]] = []  # for the next row
         self.last_place = 0
         self.lag = dict.fromkeys(NODES, 0.0)  # seconds by which a node is late
         self.rotten: dict[tuple[str, int], bytes] = {}  # what a node gives at a place instead
@@ -51,8 +52,9 @@ class Engine:
         if self.rots_next and isinstance(it, Written):
             self.rots_next = False
             self.rot(it)
-        self.grown.set()
-        self.grown = asyncio.Event()
+        waiting, self.waiting = self.waiting, []
+        for future in waiting:
+            wake(future)
 
     def rot(self, it: Written) -> None:
         """One bit of an entry changes at one node."""
@@ -66,7 +68,13 @@ class Engine:
         if at < len(self.rows) and not self.is_away:
             await asyncio.sleep(max(0.0, self.since[at] + self.lag[node] - self.world.loop.now))
         else:
-            await came(self.grown, LATE)
+            loop = asyncio.get_running_loop()
+            self.waiting.append(loop.create_future())
+            timer = loop.call_later(LATE, wake, self.waiting[-1])
+            try:
+                await self.waiting[-1]
+            finally:
+                timer.cancel()
 
     def report(self, name: str, data: bytes) -> None:
         self.reports[name] = data

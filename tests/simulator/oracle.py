@@ -11,12 +11,14 @@ from stand_in_tbd import Ledger
 from tb_client.names import Operation
 from tb_host.entries import NOTHING, Entry, chained, cut
 from tb_host.log import Written
+from tb_host.replica import LATE
 
 from .clocks import BEGAN
 from .servers import replied
 from .world import CLIENTS_MAX, World
 
-AHEAD = 10  # seconds that a machine's clock may be ahead, by --ahead
+# seconds that a machine's clock may be ahead, by --ahead and by how late an answer counts
+AHEAD = 10 + LATE
 
 
 def pairs_of(world: World) -> list[tuple[int, bytes]]:
@@ -120,10 +122,14 @@ def test_names(world: World) -> None:
 def test(seed: int, steps: int | None = None) -> list[str]:
     """Runs a seed. What was wrong."""
     hook, sys.unraisablehook = sys.unraisablehook, lambda _: None
+    gc.disable()  # what is collected amid a run would not be the same each time
+    gc.freeze()  # so that the collection looks at what the run has left alone
     try:
         return _test(seed, steps)
     finally:
         gc.collect()  # what crashed lives have left ends without its `finally`
+        gc.unfreeze()
+        gc.enable()
         sys.unraisablehook = hook
 
 

@@ -12,6 +12,7 @@ import struct
 from typing import Any, Callable, Optional
 
 from stand_in_tbd import Ledger
+from tb_host.process import WATCH
 
 REFUSAL = struct.Struct("<QIBB2xIQ4x")
 PAIR = 56  # bytes of a moment and a header
@@ -86,6 +87,19 @@ class Outgoing:
     drop = close
 
 
+async def exited(process: Process) -> int:
+    """As the host's, which looks again and again: it sees the end as late, and no look is made
+    before that."""
+    loop = asyncio.get_running_loop()
+    seen, pause = loop.time(), 0.001
+    await process.ended.wait()
+    while seen < loop.time():
+        seen, pause = seen + pause, min(2 * pause, WATCH)
+    await asyncio.sleep(seen - loop.time())
+    assert process.returncode is not None
+    return process.returncode
+
+
 class Process:
     """A server's process. Its work is done on its machine, some time after it was asked for."""
 
@@ -96,6 +110,7 @@ class Process:
         self.stdout, self.stderr = self.output.stream, self.told.stream
         self.stdin = Outgoing(self._take, self._close)
         self.returncode: Optional[int] = None
+        self.ended = asyncio.Event()
         self.at_end: Callable[[], None] = lambda: None
         self.data, self.is_due = b"", False
         self.ends_amid = False  # it ends amid the next replies that it writes
@@ -165,6 +180,7 @@ class Process:
         if self.returncode is None:
             self.at_end()
             self.returncode = status
+            self.ended.set()
             self.stdin.is_open = False
             self.stdin.broke.set()
             self.output.close()

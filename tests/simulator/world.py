@@ -5,6 +5,8 @@ from __future__ import annotations
 import asyncio
 import contextlib
 import contextvars
+import copy
+import functools
 import os
 import random
 import shutil
@@ -13,7 +15,7 @@ import time
 from typing import Any, Callable, Iterator, Optional
 from unittest import mock
 
-from tb_host import command, lines, listen, local_copy, machines, pipes, serving
+from tb_host import command, lines, listen, local_copy, machines, pipes, process, serving
 from tb_host.connections import Listener
 from tb_host.counts import Counts
 from tb_host.evictions import Evictions
@@ -28,7 +30,7 @@ from .clients import Client, annoy
 from .clocks import HOST, Host, VirtualLoop, virtual
 from .logs import NODES, Engine, SimulatedLog
 from .network import AnyPeer, Wire
-from .servers import Process
+from .servers import Process, exited
 
 CLIENTS_MAX = 8
 # seconds that something takes at most; most of it takes much less
@@ -112,6 +114,25 @@ class Machine:
         self.world.tear(self)
         pause = self.world.drawn.uniform(0.1, away)
         self.world.loop.call_later(pause, self._again, self.host)
+
+
+@functools.lru_cache(None)
+def _words_of(name: str) -> Any:
+    words = ["--log", "etcd://n1,n2,n3/bank", "--copy", "FOLDER", "--name", name]
+    words += ["--patience", "5", "--slow", "5", "--ahead", "10"]
+    return machines._run_words([*words, "--", "tb_script", "run", str(CLIENTS_MAX)])
+
+
+def given_to_replica(name: str) -> Any:
+    """The words of a replica's command line. They are read once: that takes as long as a second
+    of its run."""
+    return copy.copy(_words_of(name))
+
+
+@functools.lru_cache(None)
+def given_to_listener() -> Any:
+    words = ["--tcp", "127.0.0.1:1", "--slow", "5", "--", "tbd", "run", "FILE", "8"]
+    return listen.words(words)
 
 
 class World:
@@ -203,26 +224,23 @@ class World:
         if self.has_replicas:
             await self._serve_replica(machine)
         else:
-            words = ["--tcp", "127.0.0.1:1", "--slow", "5", "--", "tbd", "run", "FILE", "8"]
-            given = listen.words(words)
+            given = given_to_listener()
             server = command.Command(given.command, given.slow, 1.0)
             await self._take_connections(machine, server, given)
 
     async def _serve_replica(self, machine: Machine) -> None:
         log = SimulatedLog(self, self.engine)
-        words = ["--log", "etcd://n1,n2,n3/bank", "--copy", machine.folder, "--name", machine.name]
-        words += ["--patience", "5", "--slow", "5", "--ahead", "10"]
-        given = machines._run_words([*words, "--", "tb_script", "run", str(CLIENTS_MAX)])
-        copy = machine.copy = Copy(given.copy)
+        given = given_to_replica(machine.name)
+        mine = machine.copy = Copy(machine.folder)
         try:
-            copy.scan()
-            replica = Replica(given, log, copy, machine.name)
+            mine.scan()
+            replica = Replica(given, log, mine, machine.name)
             await replica.begin()
             given.shown = machine.name
             await self._take_connections(machine, replica, given)
         finally:
-            machine.copy = None if machine.copy is copy else machine.copy
-            copy.close()
+            machine.copy = None if machine.copy is mine else machine.copy
+            mine.close()
 
     async def _take_connections(self, machine: Machine, server: Any, given: Any) -> None:
         counts = Counts(None, server.is_serving, server.committed, server.numbers)
@@ -336,7 +354,7 @@ class World:
         """Nothing that waits, and no connection, is left when all clients are gone."""
         for machine in self.machines:
             server, listener = machine.server, machine.listener
-            self.see(listener is not None, f"{machine.name} does not serve: {machine.ends}")
+            self.see(listener is not None, f"{machine.name} does not serve: {machine.ends[-1:]}")
             if listener is None:
                 continue
             self.see(not listener.open, f"{machine.name} has open connections")
@@ -378,6 +396,7 @@ class World:
         with virtual(self.loop, self.drawn), contextlib.ExitStack() as patches:
             for where, name, there in (
                 (pipes, "started", started),
+                (process, "exited", exited),
                 (os, "killpg", kill),
                 (command, "is_asleep", lambda _: True),
                 (command, "Commits", NoCommits),

@@ -293,7 +293,7 @@ class Listener:
         self.open: Set[Connection] = set()
         self.served: Set[Connection] = set()  # those that are not told why they are closed
         self.leaving: Set[Connection] = set()  # those that were told why, and may still send
-        self.none_is_open = asyncio.Event()
+        self.none_is_open, self.one_is_open = asyncio.Event(), asyncio.Event()
         self.none_is_open.set()
         self.why = ""  # why no more requests are taken
         # replies, the seconds that they took, and whose they are
@@ -303,6 +303,7 @@ class Listener:
         """Takes a connection. Says whether it is served: there may be too many."""
         self.open.add(it)
         self.none_is_open.clear()
+        self.one_is_open.set()
         self.counts.taken += 1
         self.counts.connections += 1
         if len(self.served) >= self.given.connections:
@@ -372,6 +373,7 @@ class Listener:
             some.discard(it)
         if not self.open:
             self.none_is_open.set()
+            self.one_is_open.clear()
 
     def count_later(self, reply: bytes, seconds: float, peer: Optional[Peer]) -> None:
         """Counts a reply once those that came with it have left."""
@@ -404,6 +406,7 @@ class Listener:
         """Looks for connections that take too long, until it is cancelled. One look for all of
         them, twenty times a second, takes less than a timer for each request."""
         while True:
+            await self.one_is_open.wait()
             await asyncio.sleep(LOOK)
             now = time.monotonic()
             for it in [it for it in self.open if it.due <= now]:
