@@ -161,7 +161,7 @@ def test_upgrade_one_at_a_time(cluster_of, show):
     for at in range(cluster.count):
         time.sleep(REPORT)
         status, said = cluster.part("upgrade", "--log", cluster.log())
-        assert status == 1 and "read no format 2" in said, said
+        assert status == 1 and "read no format 3" in said, said
         timed = Timed(show, traffic)
         it = cluster.replicas[at]
         assert it.end() == 0, last(it)

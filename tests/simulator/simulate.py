@@ -45,6 +45,8 @@ def run(first: int, count: int, jobs: int, stops: bool) -> int:
     with multiprocessing.Pool(jobs) as pool:
         for seed, is_wrong in pool.imap(failed, range(first, first + count), chunksize=4):
             done += 1
+            if done % 5000 == 0:
+                print(f"{done} of {count}", file=sys.stderr, flush=True)
             if is_wrong:
                 count_of_failed += 1
                 steps, wrong = shortened(seed)

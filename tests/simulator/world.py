@@ -15,7 +15,7 @@ import time
 from typing import Any, Callable, Iterator, Optional
 from unittest import mock
 
-from tb_host import command, lines, listen, local_copy, machines, pipes, process, serving
+from tb_host import command, entries, lines, listen, local_copy, machines, pipes, process, serving
 from tb_host.connections import Listener
 from tb_host.counts import Counts
 from tb_host.evictions import Evictions
@@ -395,6 +395,7 @@ class World:
 
         with virtual(self.loop, self.drawn), contextlib.ExitStack() as patches:
             for where, name, there in (
+                (entries, "SMALL", 600),  # so that some entries are deflated
                 (pipes, "started", started),
                 (process, "exited", exited),
                 (os, "killpg", kill),

@@ -25,6 +25,7 @@ import tempfile
 import threading
 import time
 import unittest
+import zlib
 from unittest import mock
 
 from paths import CONFORMANCE, HOST, TESTS
@@ -36,7 +37,16 @@ from tb_host import status as parts_of_status
 from tb_host.restored import restore
 from tb_host.backlog import Backlog, Checkpoint
 from tb_host.connections import Connection
-from tb_host.entries import MOMENT_MAX, NOTHING, Claim, Entry, askers, chained
+from tb_host.entries import (
+    MOMENT_MAX,
+    NOTHING,
+    PAIRS_MAX,
+    Claim,
+    Entry,
+    NotDeflated,
+    askers,
+    chained,
+)
 from tb_host.entries import tested_askers as askers_or_fault
 from tb_host.faults import Fault
 from tb_host.follower import Follower
@@ -280,13 +290,13 @@ class MemoryLog:
 
 class Entries(unittest.TestCase):
     def test_bytes(self):
-        """Of both formats. The second one has the SHA-256 of its magic and of all after that."""
+        """Of formats 1 and 2. The second has the SHA-256 of its magic and of all after that."""
         it = entry(A, 7, pair(5, register(9)), position=3, digest=b"d" * 32, answered=2)
         rest = A + struct.pack("<QQ", 7, 3) + b"d" * 32 + struct.pack("<Q", 2) + NOTHING + it.pairs
         self.assertEqual(it.to_bytes(1), b"TBENTRY1" + rest)
         digest = hashlib.sha256(b"TBENTRY2" + rest).digest()
         self.assertEqual(it.to_bytes(2), b"TBENTRY2" + digest + rest)
-        self.assertEqual(it.to_bytes(), it.to_bytes(2))
+        self.assertEqual(it.to_bytes(), it.to_bytes(2), "pairs that are short")
         for data in (it.to_bytes(1), it.to_bytes(2)):
             self.assertEqual(Entry.from_bytes(data), it)
             self.assertEqual(Entry.parted(data), it)
@@ -294,11 +304,31 @@ class Entries(unittest.TestCase):
                 with self.assertRaisesRegex(ValueError, "it has no head of an entry"):
                     Entry.from_bytes(wrong)
 
+    def test_long_pairs(self):
+        """They are deflated in format 3. What another one has made of them is no entry."""
+        it = entry(A, 7, *(pair(it, register(it)) for it in range(1, 100)))
+        data = it.to_bytes()
+        head, body = data[:40], data[144:]
+        self.assertEqual((data[:8], zlib.decompress(body, -15)), (b"TBENTRYZ", it.pairs))
+        self.assertEqual(head[8:], hashlib.sha256(b"TBENTRYZ" + data[40:]).digest())
+        self.assertLess(len(data), len(it.pairs) // 4)
+        self.assertEqual((Entry.from_bytes(data), Entry.parted(data)), (it, it))
+        self.assertEqual(it.to_bytes(2)[:8], b"TBENTRY2")
+        longest = it._replace(pairs=bytes(PAIRS_MAX)).to_bytes()
+        self.assertEqual(len(Entry.from_bytes(longest).pairs), PAIRS_MAX)
+        longer = it._replace(pairs=bytes(PAIRS_MAX + 1)).to_bytes()
+        for wrong in (longer[144:], body[:-1], body + b"x", b"x" * 9):
+            made = b"TBENTRYZ", hashlib.sha256(b"TBENTRYZ" + data[40:144] + wrong).digest()
+            with self.assertRaisesRegex(NotDeflated, "its pairs are"):
+                Entry.from_bytes(b"".join(made) + data[40:144] + wrong)
+
     def test_each_bit_of_an_entry(self):
         """One that was changed is none, whichever it is."""
-        data = entry(
-            A, 7, pair(5, register(9)), position=3, digest=b"d" * 32, answered=2
-        ).to_bytes()
+        short = entry(A, 7, pair(5, register(9)), position=3, digest=b"d" * 32, answered=2)
+        for it in (short, entry(A, 7, *[pair(5, register(9))] * 80)):
+            self.each_bit_of(it.to_bytes())
+
+    def each_bit_of(self, data):
         for at in range(8 * len(data)):
             changed = bytearray(data)
             changed[at // 8] ^= 1 << at % 8
@@ -2340,7 +2370,14 @@ class Rot(OverALog):
             self.assertEqual(await self.ended(), "BadEntry", data)
 
     async def test_an_engine_of_one_node(self):
-        for wrong, name in ((changed(self.fill(1)[0], 60), "Rotten"), (b"no entry", "BadEntry")):
+        rest = b"TBENTRYZ", entry(A, 1).to_bytes(1)[8:] + b"not deflated"
+        deflated = rest[0] + hashlib.sha256(b"".join(rest)).digest() + rest[1]
+        for wrong, name in (
+            (changed(self.fill(1)[0], 60), "Rotten"),
+            (b"no entry", "BadEntry"),
+            (deflated, "BadEntry"),
+            (changed(deflated, 150), "Rotten"),
+        ):
             self.folder, self.log = f"{self.folder}-", MemoryLog()
             self.log.places = ["n0"]
             self.log.put(wrong)
@@ -2479,13 +2516,13 @@ class Rot(OverALog):
         written = [some.data[:8] for some in self.log.items if isinstance(some, Written)]
         self.assertEqual(written, [b"TBENTRY1", b"TBENTRY1", b"TBENTRY2"])
         lines = (
-            "entries are written in format 2 from now on\nentries are written in format 2 already\n"
+            "entries are written in format 3 from now on\nentries are written in format 3 already\n"
         )
         self.assertEqual(said.getvalue(), lines)
-        self.assertEqual(json.loads(self.log.heads[0]), {**head, "format": 2})
+        self.assertEqual(json.loads(self.log.heads[0]), {**head, "format": 3})
         await self.closed(it)
         it = await self.began()
-        self.assertEqual(it.form, 2)
+        self.assertEqual(it.form, 3)
         await self.asked(it, 8)
         await self.closed(it)
 
@@ -2497,13 +2534,13 @@ class Rot(OverALog):
         old = json.loads(self.log.kept["r0"])
         del old["reads"]
         self.log.kept["r1"] = json.dumps(old).encode()
-        with self.assertRaisesRegex(Ended, "^r1 read no format 2: upgrade or forget them first$"):
+        with self.assertRaisesRegex(Ended, "^r1 read no format 3: upgrade or forget them first$"):
             await parts_of_status.upgrade(argparse.Namespace(log="x"), self.log)
         self.assertEqual(json.loads(self.log.heads[0])["format"], 1)
         await self.closed(it)
 
     async def test_a_format_that_is_not_read(self):
-        self.log.heads = [json.dumps({**head_of(COMMAND), "format": 3, "id": "x"}).encode()]
+        self.log.heads = [json.dumps({**head_of(COMMAND), "format": 4, "id": "x"}).encode()]
         self.assertEqual(await self.begins(self.made()), "OtherRules")
 
 
@@ -2837,7 +2874,7 @@ class Words(unittest.TestCase):
                 log.parts(wrong)
 
     def test_what_replicas_have_in_common(self):
-        head = {"format": 2, "rules": 1, "clients_max": 64, "profile": 1}
+        head = {"format": 3, "rules": 1, "clients_max": 64, "profile": 1}
         self.assertEqual(head_of(["tb_script", "run", "64"]), head)
         self.assertEqual(head_of(["tb_follow", "64"], True), head)
         self.assertEqual(head_of(["tb_follow", "64", "1"], True), head)

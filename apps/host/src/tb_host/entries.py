@@ -6,25 +6,28 @@ log there; and the position up to which its server had answered, with the hash o
 So each reader finds within one entry that it and the writer do not have the same.
 
 An entry of format 2 has the SHA-256 of all that is after it: so a reader finds that a disk, or
-whatever it was read from, has changed it. One of format 1 has none.
+whatever it was read from, has changed it. One of format 1 has none. In one of format 3 the pairs
+are deflated, without a head (RFC 1951), where they are long: what an engine writes and sends takes
+most of a long request's time.
 """
 from __future__ import annotations
 
 import hashlib
 import struct
+import zlib
 from typing import Iterable, Iterator, List, NamedTuple, Tuple
 
 from tb_client.frames import asker, request_fault
 
-MAGIC, MAGIC_1 = b"TBENTRY2", b"TBENTRY1"
-WRITTEN = 2  # the format of entries in a new log
-SUM = 32  # bytes of the SHA-256 after the magic, in format 2
+MAGICS = MAGIC_1, MAGIC_2, MAGIC_3 = b"TBENTRY1", b"TBENTRY2", b"TBENTRYZ"
+WRITTEN = 3  # the format of entries in a new log
+SUM = 32  # bytes of the SHA-256 after the magic, from format 2 on
 REST = struct.Struct("<16sQQ32sQ32s")  # the head after these
 PAIRS_MAX = 1 << 20  # bytes of pairs in an entry: the longest request fits
 MOMENT = struct.Struct("<Q")
 PAIR = struct.Struct("<Q32xI12x")  # its moment, and how many bytes lie behind its header
 MOMENT_MAX = 1 << 62  # nanoseconds since 1970: the year 2116; so that time remains for all
-SMALL = 4096  # bytes that are copied rather than hashed by two calls
+SMALL = 4096  # bytes that are copied rather than hashed by two calls, and not deflated
 NOTHING = bytes(32)  # the hash of an empty log, and of no replies
 
 
@@ -61,37 +64,68 @@ class Entry(NamedTuple):
     pairs: bytes
 
     def to_bytes(self, form: int = WRITTEN) -> bytes:
-        """The entry's bytes in format 1 or 2."""
+        """The entry's bytes in a format. Short ones of format 3 are those of format 2."""
         rest = REST.pack(self.writer, self.number, *self.log, *self.replies)
         if form == 1:
             return b"".join((MAGIC_1, rest, self.pairs))
-        return b"".join((MAGIC, _sum(rest, self.pairs), rest, self.pairs))
+        is_long = form > 2 and len(self.pairs) >= SMALL
+        magic, pairs = (MAGIC_3, _deflated(self.pairs)) if is_long else (MAGIC_2, self.pairs)
+        return b"".join((magic, _sum(magic, rest, pairs), rest, pairs))
 
     @classmethod
     def from_bytes(cls, data: bytes) -> Entry:
         """The entry of these bytes. Raises `ValueError` if they are none, or not what its writer
         made."""
-        it = cls.parted(data)
-        if data.startswith(MAGIC):
-            at = len(MAGIC) + SUM
-            if _sum(data[at : at + REST.size], it.pairs) != data[len(MAGIC) : at]:
+        magic, at = _begun(data)
+        if at > len(magic):
+            rest, pairs = data[at : at + REST.size], data[at + REST.size :]
+            if _sum(magic, rest, pairs) != data[len(magic) : at]:
                 raise ValueError("it does not have its SHA-256")
-        return it
+        return cls.parted(data)
 
     @classmethod
     def parted(cls, data: bytes) -> Entry:
         """The same of bytes whose checksum was tested elsewhere, as a record's of a copy."""
-        at = len(MAGIC) + (SUM if data.startswith(MAGIC) else 0)
-        if data[: len(MAGIC)] not in (MAGIC, MAGIC_1) or len(data) < at + REST.size:
-            raise ValueError("it has no head of an entry")
+        magic, at = _begun(data)
         writer, number, *claims = REST.unpack_from(data, at)
         pairs = data[at + REST.size :]
+        pairs = _inflated(pairs) if magic == MAGIC_3 else pairs
         return cls(writer, number, Claim(*claims[:2]), Claim(*claims[2:]), pairs)
 
 
-def _sum(rest: bytes, pairs: bytes) -> bytes:
+def _begun(data: bytes) -> Tuple[bytes, int]:
+    """The magic of an entry, and where the head behind it and behind a SHA-256 begins."""
+    magic = data[: len(MAGIC_1)]
+    at = len(magic) + (0 if magic == MAGIC_1 else SUM)
+    if magic not in MAGICS or len(data) < at + REST.size:
+        raise ValueError("it has no head of an entry")
+    return magic, at
+
+
+class NotDeflated(ValueError):
+    """The writer of an entry made it with pairs that are not what was deflated."""
+
+
+def _deflated(pairs: bytes) -> bytes:
+    made = zlib.compressobj(1, wbits=-zlib.MAX_WBITS)
+    return made.compress(pairs) + made.flush()
+
+
+def _inflated(data: bytes) -> bytes:
+    """Pairs that were deflated: no more than an entry may have."""
+    found = zlib.decompressobj(-zlib.MAX_WBITS)
+    try:
+        pairs = found.decompress(data, PAIRS_MAX + 1)
+    except zlib.error as error:
+        raise NotDeflated(f"its pairs are not what was deflated: {error}") from None
+    if len(pairs) > PAIRS_MAX or not found.eof or found.unused_data:
+        raise NotDeflated("its pairs are too long, or not whole")
+    return pairs
+
+
+def _sum(magic: bytes, rest: bytes, pairs: bytes) -> bytes:
     """The SHA-256 that an entry has of itself."""
-    found = hashlib.sha256(MAGIC)
+    found = hashlib.sha256(magic)
     found.update(rest)
     found.update(pairs)
     return found.digest()

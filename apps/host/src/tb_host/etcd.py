@@ -18,7 +18,7 @@ import etcd3.etcdrpc as rpc
 import grpc
 import grpc.aio
 
-from .entries import MAGIC
+from .entries import MAGICS
 from .faults import NO_SUCH_JSON, wrong_trimmed
 from .lines import Ended, say_of
 from .log import Access, LogFull, LogGone, NoLog, Report, Written
@@ -382,7 +382,7 @@ class EtcdLog:
         """What a key says that changed up to a revision. What has an entry's value is one, whatever
         a disk has made of its key."""
         rest = pair.key[len(self.prefix) :]
-        if pair.value.startswith(MAGIC) or rest.startswith(b"log/") and self._entry_in(pair.key):
+        if pair.value.startswith(MAGICS) or rest.startswith(b"log/") and self._entry_in(pair.key):
             return _written(pair, node)
         if pair.mod_revision > revision:
             return Written(self.cursor + 1, b"", node)

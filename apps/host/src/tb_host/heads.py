@@ -8,7 +8,7 @@ from .command import journal_at
 from .entries import WRITTEN
 from .faults import NO_SUCH_JSON
 
-FORMATS = (1, 2)  # of entries that are read
+FORMATS = (1, 2, 3)  # of entries that are read
 RULES = 1  # grows where a server answers a script otherwise than before
 
 

@@ -11,7 +11,7 @@ import contextlib
 import time
 from typing import AsyncGenerator, AsyncIterator, Counter, Dict, Iterable, NamedTuple, Optional
 
-from .entries import MAGIC, NOTHING, Entry, chained
+from .entries import MAGICS, NOTHING, Entry, NotDeflated, chained
 from .faults import Fault
 from .lines import say
 from .log import Log, Written
@@ -36,8 +36,10 @@ class Misfit(Doubt):
         """Whether no writer made it so: it has a SHA-256 of other bytes, or its place is wrong."""
         try:
             Entry.from_bytes(self.data)
+        except NotDeflated:
+            return False
         except ValueError:
-            return not self.data or self.data.startswith(MAGIC)
+            return not self.data or self.data.startswith(MAGICS[1:])
         return False
 
 
