@@ -3,7 +3,7 @@
 
     load.py PORT CLIENTS BATCH SECONDS
 
-Each client registers, and makes transfers of 1 from account 1 to account 2, BATCH in a request.
+Each client registers, and makes transfers from account 1 to account 2, BATCH in a request.
 Prints how many transfers were answered in SECONDS, how many seconds that took, and the times of a
 request that half of them (p50) and 99 of 100 (p99) do not exceed, in milliseconds.
 """
@@ -31,15 +31,29 @@ def renewed(body, batch, first):
         struct.pack_into("<Q", body, 128 * at, first + at)
 
 
+def transfers(name, batch):
+    """A batch of a client. Each has bytes of its own: a log in which all are alike would be
+    deflated to next to nothing."""
+    made = bytearray()
+    for at in range(batch):
+        amount, data = 1 + int.from_bytes(os.urandom(2), "little"), os.urandom(16)
+        made += Transfer(
+            name << 64 | at,  # the high half of an id is the client's
+            *(1, 2, amount),
+            user_data_128=int.from_bytes(data, "little"),
+            user_data_64=name,
+            ledger=700,
+            code=10,
+        ).to_bytes()
+    return made
+
+
 async def client(port, number, batch, end, times):
     reader, writer = await asyncio.open_connection("127.0.0.1", port)
     name = (os.getpid() << 16) + number + 1
     reply = await asked(reader, writer, request_frame(name, 0, 0, Operation.register))
     session = struct.unpack_from("<Q", reply, 16)[0]
-    record = Transfer(1, 1, 2, 1, user_data_64=name, ledger=700, code=10).to_bytes()
-    body, done, request = bytearray(record * batch), 0, 0
-    for at in range(batch):
-        struct.pack_into("<Q", body, 128 * at + 8, name)  # the high half of an id is the client's
+    body, done, request = transfers(name, batch), 0, 0
     while time.monotonic() < end:
         request += 1
         renewed(body, batch, 1 + done)

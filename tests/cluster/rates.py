@@ -10,13 +10,15 @@ import sys
 import tempfile
 import time
 
-from tb_host.entries import MOMENT
+from tb_client import Operation
+from tb_client.frames import request_frame
+from tb_host.entries import MOMENT, NOTHING, Claim, Entry
 from tb_host.log import Access, opened
 
+from .load import transfers
 from .processes import HERE, HOST, PYTHON, Process, free_ports, slowed, until
 
 LOADS = (("24 clients with single transfers", 24, 1), ("1 client with batches of 8190", 1, 8190))
-HEADER, RECORD = 48, 128  # bytes of a request's header, and of a transfer
 
 
 @contextlib.contextmanager
@@ -48,16 +50,21 @@ def loaded(port, clients, batch, seconds):
 def engine_alone(cluster, clients, batch, seconds):
     """The same of an engine that gets entries of one request of each client, one entry after
     another as a replica appends them, in a log that no replica reads."""
-    length = clients * (MOMENT.size + HEADER + RECORD * batch)
-    times = sorted(asyncio.run(_appended(cluster, length, seconds)))
+    frames = (
+        request_frame(it, 1, 1, Operation.create_transfers, bytes(transfers(it, batch)))
+        for it in range(1, clients + 1)
+    )
+    pairs = b"".join(MOMENT.pack(1) + it for it in frames)
+    times = sorted(asyncio.run(_appended(cluster, pairs, seconds)))
     halves = (1000 * times[len(times) * part // 100] for part in (50, 99))
     return clients * batch * len(times) / sum(times), *halves
 
 
-async def _appended(cluster, length, seconds):
-    """How long each append took, in seconds."""
+async def _appended(cluster, pairs, seconds):
+    """How long each append of an entry took, in seconds."""
     log = opened(f"{cluster.log()}_alone", Access(user=cluster.log_user))
-    writer, data, times = os.urandom(16), os.urandom(length), []
+    writer, times, nothing = os.urandom(16), [], Claim(0, NOTHING)
+    data = Entry(writer, 1, nothing, nothing, pairs).to_bytes()
     end = time.monotonic() + seconds
     try:
         await log.head(b"rates")
