@@ -206,7 +206,10 @@ class Machines:
             self.until_listens(at)
 
     def until_listens(self, at, seconds=90):
-        until(self.replicas[at].listens, seconds, f"{self.replicas[at].name} listens")
+        it = self.replicas[at]
+        until(lambda: it.listens() or not it.runs(), seconds, f"{it.name} listens")
+        if not it.listens():
+            raise TimeoutError(f"{it.name} ended: {it.said(it.since)}")
 
     def part(self, *words, seconds=60):
         """Runs a part of tb-replica, as status. Answers its status, and what it printed."""
@@ -282,11 +285,11 @@ class Cluster(Machines):
 
         with self.channel(self.serves[(at + 1) % self.count]) as channel:
             stub = rpc.ClusterStub(channel)
-            members = stub.MemberList(rpc.MemberListRequest(), timeout=10).members
+            members = stub.MemberList(rpc.MemberListRequest(), timeout=60).members
             (gone,) = (it.ID for it in members if it.name == f"n{at}")
-            stub.MemberRemove(rpc.MemberRemoveRequest(ID=gone), timeout=10)
+            stub.MemberRemove(rpc.MemberRemoveRequest(ID=gone), timeout=60)
             url = f"http://127.0.0.1:{self.peer_links[at]}"
-            stub.MemberAdd(rpc.MemberAddRequest(peerURLs=[url]), timeout=10)
+            stub.MemberAdd(rpc.MemberAddRequest(peerURLs=[url]), timeout=60)
         node = self.nodes[at]
         node.words = [*node.words, "--initial-cluster-state", "existing"]
         node.start()

@@ -2241,6 +2241,42 @@ class Replicas(OverALog):
                 await parts_of_status.trim(argparse.Namespace(forget=[]), self.log)
         self.log.trim.assert_not_awaited()
 
+    async def say_hello(self, hello):
+        await self.log.report("r1", json.dumps({"clock": 0, "hello": hello}).encode())
+
+    async def test_a_hello_has_one_answer(self):
+        """Replicas that begin together answered each other's answers."""
+        it = await self.began()
+        for hello in (5, 5, 5, 6):
+            await self.say_hello(hello)
+            while f'"heard": {{"r1": {hello}}}'.encode() not in self.log.kept.get("r0", b""):
+                await asyncio.sleep(0.01)
+            await asyncio.sleep(0.1)
+        mine = [json.loads(some.data) for some in self.log.items if isinstance(some, Report)]
+        heard = [it["heard"]["r1"] for it in mine if it.get("heard")]
+        self.assertEqual(heard, [5, 6])
+        await self.closed(it)
+
+    @mock.patch.object(replica, "ANSWERS", 0.2)
+    async def test_hellos_without_an_end(self):
+        """A replica begins though others ask it again before the log has its answer."""
+        report, it = self.log.report, self.made()
+
+        async def late(name, data):
+            await report(name, data)
+            hello = len(self.log.items)
+            await report("r1", json.dumps({"clock": 0, "hello": hello}).encode())
+            while it.heard.get("r1") != hello:
+                await asyncio.sleep(0.01)
+
+        await it.begin()
+        with mock.patch.object(self.log, "report", late):
+            self.running, end = asyncio.ensure_future(it.run()), time.monotonic() + 10
+            while not it.is_met and time.monotonic() < end:
+                await asyncio.sleep(0.01)
+        self.assertTrue(it.is_met)
+        await self.closed(it)
+
     async def test_reports_from_before_say_nothing_of_the_clock(self):
         said = {"clock": 0, "heard": {"r0": 5}, "hello": 3}
         await self.log.report("r1", json.dumps(said).encode())

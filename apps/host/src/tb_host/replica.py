@@ -525,8 +525,10 @@ class Replica:
         with contextlib.suppress(AttributeError, *NO_SUCH_JSON):
             said = json.loads(report.data)
             self._hear_clock(report.name, said)
-            if said.get("hello"):
-                self.heard[report.name] = int(said["hello"])
+            hello = int(said.get("hello", 0))
+            # once: answers to those who ask too would be answered by them without an end
+            if hello and hello != self.heard.get(report.name):
+                self.heard[report.name] = hello
                 self.reporting.set()
             if (
                 self.writer.hex() in said.get("doubts", ())
@@ -734,12 +736,12 @@ class Replica:
         report was read, so was the log up to there."""
         end = time.monotonic() + ANSWERS
         self.reporting.set()
-        while self.reporting.is_set() or others - set(self.clocks) or not self.is_heard:
+        while time.monotonic() < end and (
+            self.reporting.is_set() or others - set(self.clocks) or not self.is_heard
+        ):
             if self.reporting.is_set():
                 self.reporting.clear()
                 await self.report()
-            elif time.monotonic() > end:
-                return
             else:
                 await asyncio.sleep(0.02)
 
