@@ -1,5 +1,6 @@
-"""What the proved command before this one printed (recorded/, made by record.py), and this one run
-within the test."""
+"""What the proved command before this one printed, at commit 6a0631bb (recorded/), and this one run
+within the test. A file of recorded/ has a JSON object a line: texts are bytes decoded as latin-1,
+frames and dumps are hexadecimal digits."""
 from __future__ import annotations
 
 import contextlib
