@@ -6,9 +6,9 @@
                                                           measures: some twelve minutes
 
 A PART is loads (compare.py), storms (tbs storm), keep (keep.py), reading (reading.py),
-instructions (instructions.py), growth (grow.py) or profiles (samples.py); with none, all. Each
-needs what its file says: the programs of crates/tbs and tbd, as `rt run` leaves them, the command
-of apps/telovamish, valgrind and perf.
+instructions (instructions.py) or growth (grow.py); with none, all. Each needs what its file says:
+the programs of crates/tbs and tbd, as `rt run` leaves them, the command of apps/telovamish, and
+valgrind.
 
 --before PROGRAM has an earlier tbs take part, and --now PROGRAM one of today that was built in the
 same way. --tiny is a hundredth of each size: a trial of these files, whose figures mean nothing.
@@ -22,12 +22,9 @@ import instructions
 import keep
 import measure
 import reading
-import samples
 import tried
 
 WORK = "/tmp/telovamish_bench"
-# Profiles are of these loads: a large table, single requests, and a file.
-PROFILED = ("single", "expiring", "run-lookups", "start-rising")
 # Client threads of a storm, and the transfers of each, one a request.
 STORMS, EACH, STORM_UNIT = (1, 4, 16), 1000, "thousand transfers a second"
 
@@ -67,11 +64,6 @@ class Plan:
     def growth(self):
         return grow.grow(self.most, 10**6, self.folder)
 
-    def profiles(self):
-        for name in PROFILED:
-            samples.profile(name, self.scale, self.folder)
-        return True
-
     def prepare(self):
         """Builds the peers, and makes the scripts."""
         for name in measure.PEERS:
@@ -95,7 +87,7 @@ def storm_seconds(words):
     return time.monotonic() - began
 
 
-PARTS = ["loads", "storms", "keep", "reading", "instructions", "growth", "profiles"]
+PARTS = ["loads", "storms", "keep", "reading", "instructions", "growth"]
 # The programs that a part needs besides tbs.
 NEEDS = {"keep": keep.TBD, "reading": reading.TELOVAMISH}
 

@@ -1,17 +1,17 @@
 #!/usr/bin/env python3
-"""Runs tbs and four other servers on the same scripts by turns, compares their replies byte for
+"""Runs tbs and three other servers on the same scripts by turns, compares their replies byte for
 byte, and prints what an event costs.
 
     compare.py [LOAD ..]              the loads that are named, or all but lookups-1m
     compare.py --replies [SEED ..]    compares replies alone, over scripts of all operations
 
-The others are hash.rs (hash maps), plain.rs and lean.rs (BTreeMap) and sqlite.c (SQLite in memory).
+The others are hash.rs (hash maps), plain.rs (BTreeMap) and sqlite.c (SQLite in memory).
 It needs rustc, gcc with libsqlite3-dev, and crates/tbs/out/tbs as `rt run` in crates/tbs leaves it;
 PROGRAM names another. Scripts are made from a seed; --work FOLDER keeps them and the programs.
 
 For each load: nanoseconds of CPU time an event and bytes of memory an event, from the first
-transfer on (what the accounts took is subtracted), the best of --turns runs (5; lean.rs runs twice,
-SQLite once, over a tenth of the events), and the ratios of tbs to the others. A ratio over its
+transfer on (what the accounts took is subtracted), the best of --turns runs (5; SQLite
+runs once, over a tenth of the events), and the ratios of tbs to the others. A ratio over its
 bound, in brackets, is marked with '>'. With --before PROGRAM an earlier tbs takes part in old-1m,
 which has a bound over it, or in the one load that is named; with --now PROGRAM its ratio is that of
 a tbs of today that was built as the earlier one was. In bulk-1m tbs also runs in huge pages.
@@ -85,11 +85,10 @@ LOADS = {
 # tbs in huge pages, as docs/work/PERFORMANCE.md says, takes part in this load.
 HUGE, HUGE_PAGES = "bulk-1m", ["env", "GLIBC_TUNABLES=glibc.malloc.hugetlb=1"]
 # Servers that have no bound run less often.
-SELDOM = {"lean": 2, "huge": 2}
+SELDOM = {"huge": 2}
 BY_DEFAULT = [it for it in LOADS if it != "lookups-1m"]
-# What a bulk transfer at the second load may cost, compared with the first; and its memory.
+# What a bulk transfer at the second load may cost, compared with the first.
 GROWTH = ("bulk-10k", "bulk-1m", 2.3)
-BYTES_MAX = 200
 
 
 def measured(words, script, cut, replies):

@@ -19,7 +19,7 @@ import tried
 
 LOADS = ["rising", "chains", "single", "lookups", "expiring", "pending", "resolving", "random"]
 BY_DEFAULT = ["rising", "single", "expiring", "random"]
-PEERS = ["hash", "plain", "lean"]
+PEERS = ["hash", "plain"]
 BOUNDS = {"single": 2800}
 ACCOUNTS = 10_000
 

@@ -22,7 +22,7 @@ import tried  # noqa: E402
 
 TBS = os.environ.get("PROGRAM", str(HERE.parent / "crates" / "tbs" / "out" / "tbs"))
 # Servers that serve the same scripts, and what each is over.
-PEERS = {"hash": "hash maps", "plain": "BTreeMap", "lean": "BTreeMap, lean", "sqlite": "SQLite"}
+PEERS = {"hash": "hash maps", "plain": "BTreeMap", "sqlite": "SQLite"}
 FOR_ALL_PROCESSORS = "x86-64-v2"
 PIPE_BYTES = 1 << 20
 POST_OR_VOID = 4 | 8

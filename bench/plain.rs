@@ -1,7 +1,7 @@
 //! A plain Rust server of the same scripts, written apart from the proved one, over BTreeMaps.
 //! rustc -O -C target-cpu=x86-64-v2 plain.rs && ./plain CLIENTS_MAX PROFILE < script > replies
 //!
-//! server.rs has all but its tables. lean.rs is such a server with fewer instructions, hash.rs one over hash maps.
+//! server.rs has all but its tables; hash.rs is such a server over hash maps.
 mod tables {
     use std::collections::BTreeMap;
 
