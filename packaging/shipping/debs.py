@@ -68,7 +68,7 @@ def pages(tree: Path, top: Path, record: Record) -> None:
             shutil.copyfile(tree / name, folder / name)
     for path in [it for it in folder.rglob("*") if it.is_file()]:
         path.chmod(0o644)
-        if path.suffix in (".py", ".dot", ".gp") or path.name == "Makefile":
+        if path.suffix in (".py", ".dot") or path.name == "Makefile":
             path.unlink()
     for page in folder.rglob("*.md"):
         page.write_text(with_links_inside(page, folder))
