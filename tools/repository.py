@@ -4,30 +4,21 @@ import shutil
 import subprocess
 
 ROOT = os.path.dirname(os.path.dirname(os.path.abspath(__file__)))
-PRODUCT_ENDS = "\n# Tools"
 
 
-def crates(root=ROOT, product=False):
-    """The crates, or those of the product alone, each with the words behind its name."""
+def crates(root=ROOT):
+    """The crates, each with the words after its name."""
     with open(f"{root}/crates.txt", encoding="utf-8") as file:
-        text = file.read()
-    lines = text.split(PRODUCT_ENDS)[0] if product else text
-    rows = [line.partition("#")[0].partition(":") for line in lines.splitlines()]
+        rows = [line.partition("#")[0].partition(":") for line in file]
     return {head.split()[0]: tail.split() for head, colon, tail in rows if colon}
 
 
-def own(root=ROOT, product=False):
-    """The crates, each with those of the repository that it names."""
-    rows = crates(root, product)
-    return {name: [it for it in words if it in rows] for name, words in rows.items()}
-
-
 def below(names, root=ROOT):
-    """The crates that these are built on, each behind those that it is built on itself."""
-    rows, order = own(root), []
+    """The crates that these are built on, each after those that it is built on itself."""
+    rows, order = crates(root), []
 
     def visit(name):
-        for it in rows[name]:
+        for it in filter(rows.__contains__, rows[name]):
             visit(it)
             if it not in order:
                 order.append(it)
@@ -37,9 +28,9 @@ def below(names, root=ROOT):
     return order
 
 
-def files(root=ROOT, *folders):
-    """The files that git knows of, with what is not committed, in all folders or in these."""
-    words = ["git", "-C", root, "ls-files", "-co", "--exclude-standard", *folders]
+def files(root=ROOT):
+    """The files that git knows of, with what is not committed."""
+    words = ["git", "-C", root, "ls-files", "-co", "--exclude-standard"]
     ran = subprocess.run(words, check=True, capture_output=True, text=True)
     return [it for it in ran.stdout.splitlines() if os.path.isfile(f"{root}/{it}")]
 

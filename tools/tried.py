@@ -57,43 +57,11 @@ def arguments(page):
     )
 
 
-def arguments_of_parts(page, names):
-    """The same of a script that has parts: --only names some of them, and without it all run."""
-    parser = arguments(page)
-    parser.add_argument(
-        "--only",
-        metavar="PART",
-        nargs="+",
-        choices=names,
-        default=names,
-        help=f"one or more of {', '.join(names)}",
-    )
-    return parser
-
-
 def count(text):
     """An argument that is a whole number from 1 on."""
     if not text.isascii() or not text.isdigit() or int(text) == 0:
         raise argparse.ArgumentTypeError(f"'{text}' is no whole number from 1 on")
     return int(text)
-
-
-def span(text):
-    """An argument that says how long: a number, 0 or more."""
-    try:
-        number = float(text)
-    except ValueError:
-        number = -1.0
-    if not 0 <= number < 10**6:
-        raise argparse.ArgumentTypeError(f"'{text}' is no number from 0 to a million")
-    return number
-
-
-def progress(what, done, total):
-    """Tells on a terminal how far a long run is, in one line that is written over."""
-    if sys.stderr.isatty():
-        end = "\n" if done == total else ""
-        print(f"\r{what}: {done} of {total}\x1b[K", end=end, file=sys.stderr, flush=True)
 
 
 def is_read():
