@@ -4,12 +4,8 @@
 //! Modules, each over those before it:
 //!
 //! - `runs`: a ledger that one request after another moves on.
-//! - `lookups`: what is found and filled in.
+//! - `lookups`: what is found.
 //! - `searches`: how far a search goes.
-//! - `touching`: accounts that are brought into the cache.
-//! - `profiles`: the step from profile 1 to 2.
 mod lookups;
-mod profiles;
 mod runs;
 mod searches;
-mod touching;

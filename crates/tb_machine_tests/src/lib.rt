@@ -7,7 +7,6 @@
 //! - `records`: of tb_records.
 //! - `maps`: of avl_tree.
 //! - `ledger`: of tb_ledger.
-//! - `sessions`: of tb_sessions.
 //! - `machine`: of tb_machine.
 //! - `refusing`: of avl_tree and tb_machine, over an allocator that refuses.
 #![tactic(auto)]
@@ -24,5 +23,3 @@ mod maps;
 mod records;
 #[cfg(test)]
 mod refusing;
-#[cfg(test)]
-mod sessions;

@@ -9,7 +9,6 @@
 //! - `frames`: frames in hexadecimal.
 //! - `machines`: what machines are asked.
 //! - `records`: what the machine's own lookups find.
-//! - `classes`: a register and its repeat by the machine's own calls.
 //! - `serving`: scripts served.
 //! - `accounts`: accounts that are created or refused.
 //! - `amounts`: balancing, and sums that would pass 128 bits.
@@ -19,16 +18,12 @@
 //! - `forms`: `run`, `dump` and `replay` as one call.
 //! - `asking`: nothing is asked again, and what was read is answered.
 //! - `faults`: scripts that end before their time.
-//! - `entries`: the copy of an entry.
 //! - `dumps`: scripts dumped, dumps replayed.
-//! - `restoring`: a machine restored from records of a journal.
 mod accounts;
 mod amounts;
 mod asking;
 mod chains;
-mod classes;
 mod dumps;
-mod entries;
 mod faults;
 mod fixtures;
 mod forms;
@@ -36,7 +31,6 @@ mod frames;
 mod machines;
 mod pending;
 mod records;
-mod restoring;
 mod rows;
 mod scripts;
 mod serving;

@@ -1,4 +1,4 @@
-//! What is found by ids, and what is filled in.
+//! What is found by ids.
 use crate::comparing::holds;
 use crate::ledger::runs::{Run, ask, start};
 use std::alloc::Global;
@@ -81,41 +81,4 @@ fn posts_whole_part_and_none(rt: HostRuntime) {
         expect_transfers(&rt, &run, &[21, 23, 26, 25], &records);
         drop(run);
     }
-}
-
-/// Accounts have these ids.
-fn have_ids(accounts: &[Account], ids: &[u128]) -> bool {
-    for (account, id) in accounts.iter().zip(ids) {
-        if account.id != *id {
-            return false;
-        }
-    }
-    accounts.len() == ids.len()
-}
-
-/// Accounts 2, 2, 9 and 1 are filled in, two at a time.
-fn fill_accounts(rt: &impl Abort, run: &Run) {
-    let mut out = Vec::with_capacity(run.alloc, 4).expect(rt, "memory");
-    run.ledger.fill_accounts(&[2, 2], &mut out);
-    holds(rt, have_ids(&out, &[2, 2]), "the first two");
-    assert!(rt; out.len() == 2 && out.capacity() >= 4);
-    run.ledger.fill_accounts(&[9, 1], &mut out);
-    holds(rt, have_ids(&out, &[2, 2, 1]), "all");
-    drop(out);
-}
-
-/// A transfer that is not there is looked for.
-fn fill_transfers(rt: &impl Abort, run: &Run) {
-    let mut out = Vec::with_capacity(run.alloc, 1).expect(rt, "memory");
-    run.ledger.fill_transfers(&[7], &mut out);
-    holds(rt, out.is_empty(), "a transfer");
-    drop(out);
-}
-
-#[test]
-fn fills_append_in_the_order_of_ids(rt: HostRuntime) {
-    let run = start(&rt, rt.alloc(), Profile::One);
-    fill_accounts(&rt, &run);
-    fill_transfers(&rt, &run);
-    drop(run);
 }

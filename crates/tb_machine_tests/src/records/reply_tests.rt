@@ -229,35 +229,6 @@ fn copies_are_equal(rt: HostRuntime) {
     expect_appended(&rt, alloc, sharing_copy(alloc), &creation(&CREATION));
 }
 
-/// Says that a copy of the body is the same.
-fn copies(alloc: Global, body: &Body) -> bool {
-    match body.copy(alloc) {
-        Ok(copy) => {
-            let same = copy.same(body);
-            drop(copy);
-            same
-        }
-        Err(_) => false,
-    }
-}
-
-/// The creation of two accounts.
-fn accounts_of(alloc: Global, one: u128, other: u128) -> Result<Body, FrameFault> {
-    let events = items(alloc, &[account(one, 0), account(other, 0)])?;
-    Ok(Body::CreateAccounts(events))
-}
-
-#[test]
-fn bodies_are_the_same(rt: HostRuntime) {
-    let body = accounts_of(rt.alloc(), 1, 2).expect(&rt, "memory");
-    let other = accounts_of(rt.alloc(), 1, 3).expect(&rt, "memory");
-    let kept = copies(rt.alloc(), &body);
-    let mistaken = body.same(&Body::Register) || body.same(&other);
-    drop(other);
-    drop(body);
-    holds(&rt, kept && !mistaken, "the body");
-}
-
 /// Writes a reply and reads it back. That no other one is read follows of the contracts alone: what was written is the
 /// reply's own encoding, of which there is one reading.
 fn read_back(alloc: Global, reply: &Reply) -> Result<Reply, FrameFault>
