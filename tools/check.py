@@ -4,8 +4,9 @@
 Installs the Debian packages of tools/packages.txt that are missing (as root; another user gets
 their names and a failure), and runs `rt ci`. Over the programs that it built come formats, types,
 the quick tests of tests/, telovamish, books and the host, and the own tests of the four clients.
-Each part prints what it prints. The last line is 'N passed, M failed' over all parts; a part that
-cannot be run counts as one failure.
+After the proofs two lanes of parts run next to each other; what a part prints goes out when it has
+ended. The last line is 'N passed, M failed' over all parts; a part that cannot be run counts as one
+failure.
 """
 
 import json
@@ -17,6 +18,7 @@ import subprocess
 import sys
 import time
 from collections.abc import Callable
+from concurrent.futures import ThreadPoolExecutor
 from dataclasses import dataclass
 from pathlib import Path
 
@@ -147,27 +149,34 @@ def install(packages: list[str]) -> bool:
     return not missing()
 
 
-def run(part: Part) -> Counts:
-    """Runs a part: its output goes out as it comes. A status other than 0 is a failure, and so is
-    a part in which nothing passed."""
-    print(f"== {part.name}", flush=True)
-    began, lines = time.monotonic(), []
+def run(part: Part, is_live: bool = False) -> Counts:
+    """Runs a part: its output goes out as it comes, or when it has ended. A status other than 0 is
+    a failure, and so is a part in which nothing passed."""
+    began, lines = time.monotonic(), [f"== {part.name}\n"]
     words = dict(cwd=ROOT / part.folder, stdout=subprocess.PIPE, stderr=subprocess.STDOUT)
     try:
         process = subprocess.Popen(part.words, text=True, errors="replace", **words)
     except OSError as why:
-        print(why)
+        print(f"== {part.name}\n{why}", flush=True)
         return 0, 1
     assert process.stdout
+    if is_live:
+        print(lines[0], end="", flush=True)
     for line in process.stdout:
         lines.append(line)
-        print(line, end="", flush=True)
+        if is_live:
+            print(line, end="", flush=True)
     status = process.wait()
     passed, failed = part.count("".join(lines))
     if (status or not passed) and not failed:
         passed, failed = max(passed - 1, 0), 1
-    print(f"== {part.name}: {passed} and {failed} in {time.monotonic() - began:.0f} s", flush=True)
+    lines.append(f"== {part.name}: {passed} and {failed} in {time.monotonic() - began:.0f} s\n")
+    print("".join(lines[-1:] if is_live else lines), end="", flush=True)
     return passed, failed
+
+
+def run_all(parts: list[Part]) -> list[Counts]:
+    return [run(it) for it in parts]
 
 
 def main() -> int:
@@ -175,7 +184,11 @@ def main() -> int:
     if needed and not install(needed):
         print("packages are missing\n0 passed, 1 failed")
         return 1
-    counts = [run(part) for part in PARTS]
+    proofs, *others = PARTS
+    lanes = [[it for it in others if (it.count is pytest_counts) == of] for of in (True, False)]
+    counts = [run(proofs, is_live=True)]
+    with ThreadPoolExecutor() as pool:
+        counts += sum(pool.map(run_all, lanes), [])
     passed, failed = (sum(it) for it in zip(*counts))
     print(f"{passed} passed, {failed} failed")
     return 1 if failed else 0
