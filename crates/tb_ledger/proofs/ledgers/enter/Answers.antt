@@ -1,4 +1,4 @@
-use Rattle.tb_ledger.proofs.Common.{length, ap, arith, capacity_of}
+use Rattle.tb_ledger.proofs.Common.{rules, length, ap, arith, capacity_of}
 use Rattle.tb_ledger.proofs.Capacities.{has_left, uses_kept}
 use Rattle.tb_ledger.proofs.ledgers.enter.Goals as goal
 
@@ -17,3 +17,6 @@ run_batch-requires-clause-ready g c =
       log = c.in_ok-reserve-2.ensures;
       results = omega (arith, made.capacity, ap (λ items. length items) made.none);
     }
+
+pub returns-in_err-reserve-2-clause-err : goal.returns-in_err-reserve-2-clause-err
+returns-in_err-reserve-2-clause-err g c = search rules
