@@ -11,13 +11,23 @@ mod tables {
     pub struct Due(BTreeMap<(u64, u64), u128>);
 
     impl Due {
-        pub fn new() -> Due { Due(BTreeMap::new()) }
-        pub fn insert(&mut self, key: (u64, u64), id: u128) { self.0.insert(key, id); }
-        pub fn remove(&mut self, key: &(u64, u64)) { self.0.remove(key); }
+        pub fn new() -> Due {
+            Due(BTreeMap::new())
+        }
+        pub fn insert(&mut self, key: (u64, u64), id: u128) {
+            self.0.insert(key, id);
+        }
+        pub fn remove(&mut self, key: &(u64, u64)) {
+            self.0.remove(key);
+        }
         /// Takes the first one out, where it expires until a time.
         pub fn pop_until(&mut self, t: u64) -> Option<((u64, u64), u128)> {
             let first = self.0.first_entry()?;
-            if first.key().0 > t { None } else { Some(first.remove_entry()) }
+            if first.key().0 > t {
+                None
+            } else {
+                Some(first.remove_entry())
+            }
         }
     }
 }

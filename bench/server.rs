@@ -107,7 +107,9 @@ impl Account {
             self.flags
         }
     }
-    fn closed(&self) -> bool { self.present_flags() & CLOSED != 0 }
+    fn closed(&self) -> bool {
+        self.present_flags() & CLOSED != 0
+    }
     fn write(&self, out: &mut Vec<u8>) {
         let mut b = [0; 128];
         put(&mut b, 0, &self.id.to_le_bytes());
@@ -163,8 +165,15 @@ impl Transfer {
         put(&mut b, 120, &self.timestamp.to_le_bytes());
         out.extend_from_slice(&b);
     }
-    fn is(&self, bit: u16) -> bool { self.flags & bit != 0 }
-    fn expires(&self) -> (u64, u64) { (self.timestamp + self.timeout as u64 * SECOND, self.timestamp) }
+    fn is(&self, bit: u16) -> bool {
+        self.flags & bit != 0
+    }
+    fn expires(&self) -> (u64, u64) {
+        (
+            self.timestamp + self.timeout as u64 * SECOND,
+            self.timestamp,
+        )
+    }
 }
 
 enum Undo {
@@ -187,92 +196,195 @@ struct Ledger {
 impl Ledger {
     fn release(p: &Transfer, d: &Account, c: &Account, state: State) {
         d.debits_pending.set(d.debits_pending.get() - p.amount);
-        if p.is(CLOSING_DEBIT) { d.closers.set(d.closers.get() - 1); }
+        if p.is(CLOSING_DEBIT) {
+            d.closers.set(d.closers.get() - 1);
+        }
         c.credits_pending.set(c.credits_pending.get() - p.amount);
-        if p.is(CLOSING_CREDIT) { c.closers.set(c.closers.get() - 1); }
+        if p.is(CLOSING_CREDIT) {
+            c.closers.set(c.closers.get() - 1);
+        }
         p.state.set(state);
     }
 
     fn expire(&mut self, t: u64) {
         while let Some((key, id)) = self.due.pop_until(t) {
             // (a heap keeps entries of transfers that were posted, voided or taken back since)
-            let Some(p) = self.transfers.get(&id) else { continue };
+            let Some(p) = self.transfers.get(&id) else {
+                continue;
+            };
             if p.expires() == key && matches!(p.state.get(), State::Open) {
-                let (d, c) = (self.accounts.get(&p.debit).unwrap(), self.accounts.get(&p.credit).unwrap());
+                let (d, c) = (
+                    self.accounts.get(&p.debit).unwrap(),
+                    self.accounts.get(&p.credit).unwrap(),
+                );
                 Ledger::release(p, d, c, State::Expired);
             }
         }
     }
 
     fn create_account(&mut self, a: &Account, time: u64) -> u32 {
-        if a.timestamp != 0 { return 3; }
-        if a.reserved != 0 { return 4; }
-        if a.flags & 0xFFD0 != 0 { return 5; }
-        if a.id == 0 { return 6; }
-        if a.id == u128::MAX { return 7; }
+        if a.timestamp != 0 {
+            return 3;
+        }
+        if a.reserved != 0 {
+            return 4;
+        }
+        if a.flags & 0xFFD0 != 0 {
+            return 5;
+        }
+        if a.id == 0 {
+            return 6;
+        }
+        if a.id == u128::MAX {
+            return 7;
+        }
         if let Some(e) = self.accounts.get(&a.id) {
-            if a.flags != e.present_flags() { return 15; }
-            if a.user128 != e.user128 { return 16; }
-            if a.user64 != e.user64 { return 17; }
-            if a.user32 != e.user32 { return 18; }
-            if a.ledger != e.ledger { return 19; }
-            if a.code != e.code { return 20; }
+            if a.flags != e.present_flags() {
+                return 15;
+            }
+            if a.user128 != e.user128 {
+                return 16;
+            }
+            if a.user64 != e.user64 {
+                return 17;
+            }
+            if a.user32 != e.user32 {
+                return 18;
+            }
+            if a.ledger != e.ledger {
+                return 19;
+            }
+            if a.code != e.code {
+                return 20;
+            }
             return 21;
         }
-        if a.flags & DEBITS_LIMITED != 0 && a.flags & CREDITS_LIMITED != 0 { return 8; }
-        if a.debits_pending.get() != 0 { return 9; }
-        if a.debits_posted.get() != 0 { return 10; }
-        if a.credits_pending.get() != 0 { return 11; }
-        if a.credits_posted.get() != 0 { return 12; }
-        if a.ledger == 0 { return 13; }
-        if a.code == 0 { return 14; }
-        self.accounts.insert(a.id, Account { timestamp: time, ..a.clone() });
+        if a.flags & DEBITS_LIMITED != 0 && a.flags & CREDITS_LIMITED != 0 {
+            return 8;
+        }
+        if a.debits_pending.get() != 0 {
+            return 9;
+        }
+        if a.debits_posted.get() != 0 {
+            return 10;
+        }
+        if a.credits_pending.get() != 0 {
+            return 11;
+        }
+        if a.credits_posted.get() != 0 {
+            return 12;
+        }
+        if a.ledger == 0 {
+            return 13;
+        }
+        if a.code == 0 {
+            return 14;
+        }
+        self.accounts.insert(
+            a.id,
+            Account {
+                timestamp: time,
+                ..a.clone()
+            },
+        );
         self.undo_log.push(Undo::AddedAccount(a.id));
         0
     }
 
     fn create_transfer(&mut self, t: &Transfer, time: u64) -> u32 {
-        if t.timestamp != 0 { return 3; }
-        if t.flags & 0xFF00 != 0 { return 4; }
-        if t.id == 0 { return 5; }
-        if t.id == u128::MAX { return 6; }
+        if t.timestamp != 0 {
+            return 3;
+        }
+        if t.flags & 0xFF00 != 0 {
+            return 4;
+        }
+        if t.id == 0 {
+            return 5;
+        }
+        if t.id == u128::MAX {
+            return 6;
+        }
         let resolves = t.is(POST | VOID);
-        let p = if resolves { self.transfers.get(&t.pending_id) } else { None };
+        let p = if resolves {
+            self.transfers.get(&t.pending_id)
+        } else {
+            None
+        };
         let mut f = t.clone();
         if let Some(p) = p {
-            if f.debit == 0 { f.debit = p.debit; }
-            if f.credit == 0 { f.credit = p.credit; }
-            if f.user128 == 0 { f.user128 = p.user128; }
-            if f.user64 == 0 { f.user64 = p.user64; }
-            if f.user32 == 0 { f.user32 = p.user32; }
-            if f.ledger == 0 { f.ledger = p.ledger; }
-            if f.code == 0 { f.code = p.code; }
+            if f.debit == 0 {
+                f.debit = p.debit;
+            }
+            if f.credit == 0 {
+                f.credit = p.credit;
+            }
+            if f.user128 == 0 {
+                f.user128 = p.user128;
+            }
+            if f.user64 == 0 {
+                f.user64 = p.user64;
+            }
+            if f.user32 == 0 {
+                f.user32 = p.user32;
+            }
+            if f.ledger == 0 {
+                f.ledger = p.ledger;
+            }
+            if f.code == 0 {
+                f.code = p.code;
+            }
             if f.is(POST) {
-                if f.amount == u128::MAX { f.amount = p.amount; }
+                if f.amount == u128::MAX {
+                    f.amount = p.amount;
+                }
             } else if f.amount == 0 {
                 f.amount = p.amount;
             }
         }
         if let Some(e) = self.transfers.get(&t.id) {
-            if f.flags != e.flags { return 36; }
-            if f.pending_id != e.pending_id { return 40; }
-            if f.timeout != e.timeout { return 44; }
-            if f.debit != e.debit { return 37; }
-            if f.credit != e.credit { return 38; }
+            if f.flags != e.flags {
+                return 36;
+            }
+            if f.pending_id != e.pending_id {
+                return 40;
+            }
+            if f.timeout != e.timeout {
+                return 44;
+            }
+            if f.debit != e.debit {
+                return 37;
+            }
+            if f.credit != e.credit {
+                return 38;
+            }
             if f.is(BALANCING_DEBIT | BALANCING_CREDIT) {
-                if f.amount < e.amount { return 39; }
+                if f.amount < e.amount {
+                    return 39;
+                }
             } else if f.amount != e.amount {
                 return 39;
             }
-            if f.user128 != e.user128 { return 41; }
-            if f.user64 != e.user64 { return 42; }
-            if f.user32 != e.user32 { return 43; }
-            if f.ledger != e.ledger { return 67; }
-            if f.code != e.code { return 45; }
+            if f.user128 != e.user128 {
+                return 41;
+            }
+            if f.user64 != e.user64 {
+                return 42;
+            }
+            if f.user32 != e.user32 {
+                return 43;
+            }
+            if f.ledger != e.ledger {
+                return 67;
+            }
+            if f.code != e.code {
+                return 45;
+            }
             return 46;
         }
         if let Some(failed) = &self.failed {
-            if failed.contains(&t.id) { return 68; }
+            if failed.contains(&t.id) {
+                return 68;
+            }
         }
         f.timestamp = time;
         if resolves {
@@ -283,32 +395,76 @@ impl Ledger {
     }
 
     fn resolve(&mut self, t: &Transfer, f: Transfer) -> u32 {
-        if f.is(POST) && f.is(VOID) || f.is(PENDING | BALANCING_DEBIT | BALANCING_CREDIT | CLOSING_DEBIT | CLOSING_CREDIT) { return 7; }
-        if f.pending_id == 0 { return 14; }
-        if f.pending_id == u128::MAX { return 15; }
-        if f.pending_id == f.id { return 16; }
-        if f.timeout != 0 { return 17; }
-        let Some(p) = self.transfers.get(&f.pending_id) else { return 25 };
-        if !p.is(PENDING) { return 26; }
-        if t.debit != 0 && t.debit != p.debit { return 27; }
-        if t.credit != 0 && t.credit != p.credit { return 28; }
-        if t.ledger != 0 && t.ledger != p.ledger { return 29; }
-        if t.code != 0 && t.code != p.code { return 30; }
-        if f.amount > p.amount { return 31; }
-        if f.is(VOID) && f.amount < p.amount { return 32; }
+        if f.is(POST) && f.is(VOID)
+            || f.is(PENDING | BALANCING_DEBIT | BALANCING_CREDIT | CLOSING_DEBIT | CLOSING_CREDIT)
+        {
+            return 7;
+        }
+        if f.pending_id == 0 {
+            return 14;
+        }
+        if f.pending_id == u128::MAX {
+            return 15;
+        }
+        if f.pending_id == f.id {
+            return 16;
+        }
+        if f.timeout != 0 {
+            return 17;
+        }
+        let Some(p) = self.transfers.get(&f.pending_id) else {
+            return 25;
+        };
+        if !p.is(PENDING) {
+            return 26;
+        }
+        if t.debit != 0 && t.debit != p.debit {
+            return 27;
+        }
+        if t.credit != 0 && t.credit != p.credit {
+            return 28;
+        }
+        if t.ledger != 0 && t.ledger != p.ledger {
+            return 29;
+        }
+        if t.code != 0 && t.code != p.code {
+            return 30;
+        }
+        if f.amount > p.amount {
+            return 31;
+        }
+        if f.is(VOID) && f.amount < p.amount {
+            return 32;
+        }
         match p.state.get() {
             State::Posted => return 33,
             State::Voided => return 34,
             State::Expired => return 35,
             State::Open => {}
         }
-        let (d, c) = (self.accounts.get(&p.debit).unwrap(), self.accounts.get(&p.credit).unwrap());
-        if f.is(POST) && d.closed() { return 65; }
-        if f.is(POST) && c.closed() { return 66; }
+        let (d, c) = (
+            self.accounts.get(&p.debit).unwrap(),
+            self.accounts.get(&p.credit).unwrap(),
+        );
+        if f.is(POST) && d.closed() {
+            return 65;
+        }
+        if f.is(POST) && c.closed() {
+            return 66;
+        }
         self.undo_log.push(Undo::Account(d.clone()));
         self.undo_log.push(Undo::Account(c.clone()));
         self.undo_log.push(Undo::Transfer(p.clone()));
-        Ledger::release(p, d, c, if f.is(POST) { State::Posted } else { State::Voided });
+        Ledger::release(
+            p,
+            d,
+            c,
+            if f.is(POST) {
+                State::Posted
+            } else {
+                State::Voided
+            },
+        );
         if f.is(POST) {
             d.debits_posted.set(d.debits_posted.get() + f.amount);
             c.credits_posted.set(c.credits_posted.get() + f.amount);
@@ -323,30 +479,66 @@ impl Ledger {
     }
 
     fn single(&mut self, mut f: Transfer, time: u64) -> u32 {
-        if f.debit == 0 { return 8; }
-        if f.debit == u128::MAX { return 9; }
-        if f.credit == 0 { return 10; }
-        if f.credit == u128::MAX { return 11; }
-        if f.debit == f.credit { return 12; }
-        if f.pending_id != 0 { return 13; }
+        if f.debit == 0 {
+            return 8;
+        }
+        if f.debit == u128::MAX {
+            return 9;
+        }
+        if f.credit == 0 {
+            return 10;
+        }
+        if f.credit == u128::MAX {
+            return 11;
+        }
+        if f.debit == f.credit {
+            return 12;
+        }
+        if f.pending_id != 0 {
+            return 13;
+        }
         let pending = f.is(PENDING);
-        if f.timeout != 0 && !pending { return 17; }
-        if f.is(CLOSING_DEBIT | CLOSING_CREDIT) && !pending { return 64; }
-        if f.ledger == 0 { return 19; }
-        if f.code == 0 { return 20; }
-        let Some(d) = self.accounts.get(&f.debit) else { return 21 };
-        let Some(c) = self.accounts.get(&f.credit) else { return 22 };
-        if d.ledger != c.ledger { return 23; }
-        if f.ledger != d.ledger { return 24; }
-        if d.closed() { return 65; }
-        if c.closed() { return 66; }
+        if f.timeout != 0 && !pending {
+            return 17;
+        }
+        if f.is(CLOSING_DEBIT | CLOSING_CREDIT) && !pending {
+            return 64;
+        }
+        if f.ledger == 0 {
+            return 19;
+        }
+        if f.code == 0 {
+            return 20;
+        }
+        let Some(d) = self.accounts.get(&f.debit) else {
+            return 21;
+        };
+        let Some(c) = self.accounts.get(&f.credit) else {
+            return 22;
+        };
+        if d.ledger != c.ledger {
+            return 23;
+        }
+        if f.ledger != d.ledger {
+            return 24;
+        }
+        if d.closed() {
+            return 65;
+        }
+        if c.closed() {
+            return 66;
+        }
         let (d_pending, d_posted) = (d.debits_pending.get(), d.debits_posted.get());
         let (c_pending, c_posted) = (c.credits_pending.get(), c.credits_posted.get());
         if f.is(BALANCING_DEBIT) {
-            f.amount = f.amount.min(d.credits_posted.get().saturating_sub(d_posted + d_pending));
+            f.amount = f
+                .amount
+                .min(d.credits_posted.get().saturating_sub(d_posted + d_pending));
         }
         if f.is(BALANCING_CREDIT) {
-            f.amount = f.amount.min(c.debits_posted.get().saturating_sub(c_posted + c_pending));
+            f.amount = f
+                .amount
+                .min(c.debits_posted.get().saturating_sub(c_posted + c_pending));
         }
         let over = |xs: &[u128]| {
             let mut s = 0u128;
@@ -359,22 +551,44 @@ impl Ledger {
             false
         };
         let n = f.amount;
-        if pending && over(&[d_pending, n]) { return 47; }
-        if pending && over(&[c_pending, n]) { return 48; }
-        if over(&[d_posted, n]) { return 49; }
-        if over(&[c_posted, n]) { return 50; }
-        if over(&[d_pending, d_posted, n]) { return 51; }
-        if over(&[c_pending, c_posted, n]) { return 52; }
-        if time as u128 + f.timeout as u128 * SECOND as u128 > MAX_TIME as u128 { return 53; }
-        if d.flags & DEBITS_LIMITED != 0 && d_pending + d_posted + n > d.credits_posted.get() { return 54; }
-        if c.flags & CREDITS_LIMITED != 0 && c_pending + c_posted + n > c.debits_posted.get() { return 55; }
+        if pending && over(&[d_pending, n]) {
+            return 47;
+        }
+        if pending && over(&[c_pending, n]) {
+            return 48;
+        }
+        if over(&[d_posted, n]) {
+            return 49;
+        }
+        if over(&[c_posted, n]) {
+            return 50;
+        }
+        if over(&[d_pending, d_posted, n]) {
+            return 51;
+        }
+        if over(&[c_pending, c_posted, n]) {
+            return 52;
+        }
+        if time as u128 + f.timeout as u128 * SECOND as u128 > MAX_TIME as u128 {
+            return 53;
+        }
+        if d.flags & DEBITS_LIMITED != 0 && d_pending + d_posted + n > d.credits_posted.get() {
+            return 54;
+        }
+        if c.flags & CREDITS_LIMITED != 0 && c_pending + c_posted + n > c.debits_posted.get() {
+            return 55;
+        }
         self.undo_log.push(Undo::Account(d.clone()));
         self.undo_log.push(Undo::Account(c.clone()));
         if pending {
             d.debits_pending.set(d_pending + n);
             c.credits_pending.set(c_pending + n);
-            if f.is(CLOSING_DEBIT) { d.closers.set(d.closers.get() + 1); }
-            if f.is(CLOSING_CREDIT) { c.closers.set(c.closers.get() + 1); }
+            if f.is(CLOSING_DEBIT) {
+                d.closers.set(d.closers.get() + 1);
+            }
+            if f.is(CLOSING_CREDIT) {
+                c.closers.set(c.closers.get() + 1);
+            }
         } else {
             d.debits_posted.set(d_posted + n);
             c.credits_posted.set(c_posted + n);
@@ -433,7 +647,11 @@ fn batch<E>(
         l.undo_log.clear();
         let mut broke = None;
         for i in start..=end {
-            let code = if i + 1 == n && linked(&events[i]) { 2 } else { take(l, &events[i], time - n as u64 + i as u64 + 1) };
+            let code = if i + 1 == n && linked(&events[i]) {
+                2
+            } else {
+                take(l, &events[i], time - n as u64 + i as u64 + 1)
+            };
             if code != 0 {
                 broke = Some((i, code));
                 break;
@@ -472,7 +690,15 @@ struct Row {
     commit: u64,
 }
 
-fn frame(client: u128, session: u64, request: u32, operation: u8, status: u8, commit: u64, body: &[u8]) -> Vec<u8> {
+fn frame(
+    client: u128,
+    session: u64,
+    request: u32,
+    operation: u8,
+    status: u8,
+    commit: u64,
+    body: &[u8],
+) -> Vec<u8> {
     let mut out = Vec::with_capacity(48 + body.len());
     out.extend(client.to_le_bytes());
     out.extend(session.to_le_bytes());
@@ -497,9 +723,25 @@ pub struct Machine {
 impl Machine {
     /// An empty machine; failed ids are kept by profile 2 alone.
     pub fn new(clients_max: usize, keeps_failed: bool) -> Machine {
-        let failed = if keeps_failed { Some(BTreeSet::new()) } else { None };
-        let ledger = Ledger { accounts: Rows::new(), transfers: Rows::new(), due: Due::new(), failed, undo_log: Vec::new() };
-        Machine { clients_max, ledger, rows: BTreeMap::new(), commit: 0, time: 0 }
+        let failed = if keeps_failed {
+            Some(BTreeSet::new())
+        } else {
+            None
+        };
+        let ledger = Ledger {
+            accounts: Rows::new(),
+            transfers: Rows::new(),
+            due: Due::new(),
+            failed,
+            undo_log: Vec::new(),
+        };
+        Machine {
+            clients_max,
+            ledger,
+            rows: BTreeMap::new(),
+            commit: 0,
+            time: 0,
+        }
     }
 
     /// The number of requests that were executed.
@@ -510,8 +752,13 @@ impl Machine {
 
     /// Serves the request of a header and a body that comes at a moment, and writes the reply; false where there is no time for it.
     pub fn serve(&mut self, moment: u64, h: &[u8], body: Vec<u8>, output: &mut impl Write) -> bool {
-        let (client, session, request, operation, len) =
-            (number(h, 0, 16), number(h, 16, 8) as u64, number(h, 24, 4) as u32, h[28], body.len());
+        let (client, session, request, operation, len) = (
+            number(h, 0, 16),
+            number(h, 16, 8) as u64,
+            number(h, 24, 4) as u32,
+            h[28],
+            body.len(),
+        );
         let found = self.rows.get_mut(&client);
         let status = match &found {
             None => {
@@ -564,11 +811,25 @@ impl Machine {
             let out = match operation {
                 129 => {
                     let events: Vec<Account> = body.chunks(128).map(Account::read).collect();
-                    batch(l, &events, t, |a| a.flags & LINKED != 0, |_| None, Ledger::create_account)
+                    batch(
+                        l,
+                        &events,
+                        t,
+                        |a| a.flags & LINKED != 0,
+                        |_| None,
+                        Ledger::create_account,
+                    )
                 }
                 130 => {
                     let events: Vec<Transfer> = body.chunks(128).map(Transfer::read).collect();
-                    batch(l, &events, t, |e| e.is(LINKED), |e| Some(e.id), Ledger::create_transfer)
+                    batch(
+                        l,
+                        &events,
+                        t,
+                        |e| e.is(LINKED),
+                        |e| Some(e.id),
+                        Ledger::create_transfer,
+                    )
                 }
                 131 => {
                     let mut out = Vec::new();
@@ -595,7 +856,14 @@ impl Machine {
             let session = if operation == 2 { self.commit } else { session };
             let reply = frame(client, session, request, operation, 0, self.commit, &out);
             output.write_all(&reply).unwrap();
-            let row = Row { session, request, operation, body, reply, commit: self.commit };
+            let row = Row {
+                session,
+                request,
+                operation,
+                body,
+                reply,
+                commit: self.commit,
+            };
             if let Some(found) = found {
                 *found = row;
                 return true;
@@ -608,7 +876,9 @@ impl Machine {
         } else if let (0, Some(row)) = (status, found) {
             output.write_all(&row.reply).unwrap();
         } else {
-            output.write_all(&frame(client, session, request, operation, status, 0, &[])).unwrap();
+            output
+                .write_all(&frame(client, session, request, operation, status, 0, &[]))
+                .unwrap();
         }
         true
     }

@@ -1,13 +1,19 @@
-// The server of plain.rs over SQLite in memory, by its C API: for comparison of speed and of replies.
-// gcc -O2 -march=x86-64-v2 sqlite.c -lsqlite3 -o sqlite && ./sqlite CLIENTS_MAX PROFILE < script > replies
+// The server of plain.rs over SQLite in memory, by its C API: for comparison of speed and of
+// replies.
 //
-// - all statements are prepared once; a request is one transaction, a chain of two events or more a savepoint in it;
-// - keys are blobs of 16 bytes, the high byte first, so that their order is that of the ids; sums are blobs too, since SQLite's
-//   integers have 64 bits;
+//     gcc -O2 -march=x86-64-v2 sqlite.c -lsqlite3 -o sqlite
+//     ./sqlite CLIENTS_MAX PROFILE < script > replies
+//
+// - all statements are prepared once; a request is one transaction, a chain of two events or more a
+//   savepoint in it;
+// - keys are blobs of 16 bytes, the high byte first, so that their order is that of the ids; sums
+//   are blobs too, since SQLite's integers have 64 bits;
 // - an index has the open pending transfers with a timeout alone, by the time of expiry;
-// - the sessions and their replies are in the program's memory, which is the cheapest that they can be.
+// - the sessions and their replies are in the program's memory, which is the cheapest that they can
+//   be.
 //
-// Where SQLite reports an error (it has no memory left, say), the server prints it and ends with status 1.
+// Where SQLite reports an error (it has no memory left, say), the server prints it and ends with
+// status 1.
 #include <endian.h>
 #include <sqlite3.h>
 #include <stdbool.h>
@@ -24,9 +30,23 @@ typedef unsigned __int128 u128;
 
 // The flags of an account and of a transfer.
 enum { LINKED = 1, DEBITS_LIMITED = 2, CREDITS_LIMITED = 4, CLOSED = 32 };
-enum { PENDING = 2, POST = 4, VOID = 8, BALANCING_DEBIT = 16, BALANCING_CREDIT = 32, CLOSING_DEBIT = 64, CLOSING_CREDIT = 128 };
+enum {
+    PENDING = 2,
+    POST = 4,
+    VOID = 8,
+    BALANCING_DEBIT = 16,
+    BALANCING_CREDIT = 32,
+    CLOSING_DEBIT = 64,
+    CLOSING_CREDIT = 128
+};
 enum { OPEN, POSTED, VOIDED, EXPIRED };
-enum { REGISTER = 2, CREATE_ACCOUNTS = 129, CREATE_TRANSFERS = 130, LOOKUP_ACCOUNTS = 131, LOOKUP_TRANSFERS = 132 };
+enum {
+    REGISTER = 2,
+    CREATE_ACCOUNTS = 129,
+    CREATE_TRANSFERS = 130,
+    LOOKUP_ACCOUNTS = 131,
+    LOOKUP_TRANSFERS = 132
+};
 
 // Records as the wire has them.
 typedef struct {
@@ -48,8 +68,14 @@ typedef struct {
 _Static_assert(sizeof(Account) == 128 && sizeof(Transfer) == 128, "records have 128 bytes");
 
 // Rows: a record, and what it does not have.
-typedef struct { Account is; uint32_t closers; } AccountRow;
-typedef struct { Transfer is; int state; } TransferRow;
+typedef struct {
+    Account is;
+    uint32_t closers;
+} AccountRow;
+typedef struct {
+    Transfer is;
+    int state;
+} TransferRow;
 
 static const char SCHEMA[] =
     "PRAGMA cache_size = -16777216; PRAGMA synchronous = OFF; PRAGMA locking_mode = EXCLUSIVE; PRAGMA temp_store = MEMORY;"
@@ -63,24 +89,47 @@ static const char SCHEMA[] =
     "CREATE TABLE failed(id BLOB PRIMARY KEY) WITHOUT ROWID;";
 
 enum {
-    BEGIN, COMMIT, SAVEPOINT, ROLL_BACK, RELEASE,
-    FIND_ACCOUNT, ADD_ACCOUNT, SET_DEBITS, SET_CREDITS,
-    FIND_TRANSFER, ADD_TRANSFER, SET_STATE, FIRST_DUE, FIND_FAILED, ADD_FAILED, STATEMENTS
+    BEGIN,
+    COMMIT,
+    SAVEPOINT,
+    ROLL_BACK,
+    RELEASE,
+    FIND_ACCOUNT,
+    ADD_ACCOUNT,
+    SET_DEBITS,
+    SET_CREDITS,
+    FIND_TRANSFER,
+    ADD_TRANSFER,
+    SET_STATE,
+    FIRST_DUE,
+    FIND_FAILED,
+    ADD_FAILED,
+    STATEMENTS
 };
 
 static const char *const TEXTS[STATEMENTS] = {
-    [BEGIN] = "BEGIN", [COMMIT] = "COMMIT",
-    [SAVEPOINT] = "SAVEPOINT chain", [ROLL_BACK] = "ROLLBACK TO chain", [RELEASE] = "RELEASE chain",
-    [FIND_ACCOUNT] = "SELECT debits_pending, debits_posted, credits_pending, credits_posted, user_data_128, user_data_64,"
-                     " user_data_32, ledger, code, flags, timestamp, closers FROM accounts WHERE id = ?1",
-    [ADD_ACCOUNT] = "INSERT INTO accounts VALUES(?1, ?2, ?3, ?4, ?5, ?6, ?7, ?8, ?9, ?10, ?11, ?12, 0)",
-    [SET_DEBITS] = "UPDATE accounts SET debits_pending = ?2, debits_posted = ?3, closers = ?4 WHERE id = ?1",
-    [SET_CREDITS] = "UPDATE accounts SET credits_pending = ?2, credits_posted = ?3, closers = ?4 WHERE id = ?1",
-    [FIND_TRANSFER] = "SELECT debit, credit, amount, pending_id, user_data_128, user_data_64, user_data_32, timeout, ledger, code,"
-                      " flags, timestamp, state FROM transfers WHERE id = ?1",
-    [ADD_TRANSFER] = "INSERT INTO transfers VALUES(?1, ?2, ?3, ?4, ?5, ?6, ?7, ?8, ?9, ?10, ?11, ?12, ?13, 0, ?14)",
+    [BEGIN] = "BEGIN",
+    [COMMIT] = "COMMIT",
+    [SAVEPOINT] = "SAVEPOINT chain",
+    [ROLL_BACK] = "ROLLBACK TO chain",
+    [RELEASE] = "RELEASE chain",
+    [FIND_ACCOUNT] =
+        "SELECT debits_pending, debits_posted, credits_pending, credits_posted, user_data_128, user_data_64,"
+        " user_data_32, ledger, code, flags, timestamp, closers FROM accounts WHERE id = ?1",
+    [ADD_ACCOUNT] =
+        "INSERT INTO accounts VALUES(?1, ?2, ?3, ?4, ?5, ?6, ?7, ?8, ?9, ?10, ?11, ?12, 0)",
+    [SET_DEBITS] =
+        "UPDATE accounts SET debits_pending = ?2, debits_posted = ?3, closers = ?4 WHERE id = ?1",
+    [SET_CREDITS] =
+        "UPDATE accounts SET credits_pending = ?2, credits_posted = ?3, closers = ?4 WHERE id = ?1",
+    [FIND_TRANSFER] =
+        "SELECT debit, credit, amount, pending_id, user_data_128, user_data_64, user_data_32, timeout, ledger, code,"
+        " flags, timestamp, state FROM transfers WHERE id = ?1",
+    [ADD_TRANSFER] =
+        "INSERT INTO transfers VALUES(?1, ?2, ?3, ?4, ?5, ?6, ?7, ?8, ?9, ?10, ?11, ?12, ?13, 0, ?14)",
     [SET_STATE] = "UPDATE transfers SET state = ?2, expires = NULL WHERE id = ?1",
-    [FIRST_DUE] = "SELECT id FROM transfers WHERE expires <= ?1 ORDER BY expires, timestamp LIMIT 1",
+    [FIRST_DUE] =
+        "SELECT id FROM transfers WHERE expires <= ?1 ORDER BY expires, timestamp LIMIT 1",
     [FIND_FAILED] = "SELECT 1 FROM failed WHERE id = ?1",
     [ADD_FAILED] = "INSERT OR IGNORE INTO failed VALUES(?1)",
 };
@@ -104,12 +153,20 @@ static void *memory(void *old, size_t size) {
 
 // Binding and reading columns
 
-typedef struct { uint64_t high, low; } Key;
+typedef struct {
+    uint64_t high, low;
+} Key;
 
 static Key key_of(u128 id) { return (Key){htobe64((uint64_t)(id >> 64)), htobe64((uint64_t)id)}; }
-static void bind_key(sqlite3_stmt *s, int at, const Key *key) { sqlite3_bind_blob(s, at, key, 16, SQLITE_STATIC); }
-static void bind_wide(sqlite3_stmt *s, int at, const u128 *n) { sqlite3_bind_blob(s, at, n, 16, SQLITE_STATIC); }
-static void bind(sqlite3_stmt *s, int at, uint64_t n) { sqlite3_bind_int64(s, at, (sqlite3_int64)n); }
+static void bind_key(sqlite3_stmt *s, int at, const Key *key) {
+    sqlite3_bind_blob(s, at, key, 16, SQLITE_STATIC);
+}
+static void bind_wide(sqlite3_stmt *s, int at, const u128 *n) {
+    sqlite3_bind_blob(s, at, n, 16, SQLITE_STATIC);
+}
+static void bind(sqlite3_stmt *s, int at, uint64_t n) {
+    sqlite3_bind_int64(s, at, (sqlite3_int64)n);
+}
 
 static u128 wide(sqlite3_stmt *s, int at) {
     u128 n;
@@ -146,9 +203,17 @@ static bool find_account(u128 id, AccountRow *row) {
     bool found = step(s);
     if (found) {
         row->is = (Account){
-            .id = id, .debits_pending = wide(s, 0), .debits_posted = wide(s, 1), .credits_pending = wide(s, 2),
-            .credits_posted = wide(s, 3), .user128 = wide(s, 4), .user64 = column(s, 5), .user32 = (uint32_t)column(s, 6),
-            .ledger = (uint32_t)column(s, 7), .code = (uint16_t)column(s, 8), .flags = (uint16_t)column(s, 9),
+            .id = id,
+            .debits_pending = wide(s, 0),
+            .debits_posted = wide(s, 1),
+            .credits_pending = wide(s, 2),
+            .credits_posted = wide(s, 3),
+            .user128 = wide(s, 4),
+            .user64 = column(s, 5),
+            .user32 = (uint32_t)column(s, 6),
+            .ledger = (uint32_t)column(s, 7),
+            .code = (uint16_t)column(s, 8),
+            .flags = (uint16_t)column(s, 9),
             .timestamp = column(s, 10),
         };
         row->closers = (uint32_t)column(s, 11);
@@ -175,7 +240,8 @@ static void add_account(const Account *a, uint64_t time) {
     run(ADD_ACCOUNT);
 }
 
-static void set_sums(int which, u128 id, const u128 *pending, const u128 *posted, uint32_t closers) {
+static void set_sums(
+    int which, u128 id, const u128 *pending, const u128 *posted, uint32_t closers) {
     sqlite3_stmt *s = statements[which];
     Key k = key_of(id);
     bind_key(s, 1, &k);
@@ -185,8 +251,12 @@ static void set_sums(int which, u128 id, const u128 *pending, const u128 *posted
     run(which);
 }
 
-static void set_debits(const AccountRow *d) { set_sums(SET_DEBITS, d->is.id, &d->is.debits_pending, &d->is.debits_posted, d->closers); }
-static void set_credits(const AccountRow *c) { set_sums(SET_CREDITS, c->is.id, &c->is.credits_pending, &c->is.credits_posted, c->closers); }
+static void set_debits(const AccountRow *d) {
+    set_sums(SET_DEBITS, d->is.id, &d->is.debits_pending, &d->is.debits_posted, d->closers);
+}
+static void set_credits(const AccountRow *c) {
+    set_sums(SET_CREDITS, c->is.id, &c->is.credits_pending, &c->is.credits_posted, c->closers);
+}
 
 static bool find_transfer(u128 id, TransferRow *row) {
     sqlite3_stmt *s = statements[FIND_TRANSFER];
@@ -195,9 +265,18 @@ static bool find_transfer(u128 id, TransferRow *row) {
     bool found = step(s);
     if (found) {
         row->is = (Transfer){
-            .id = id, .debit = wide(s, 0), .credit = wide(s, 1), .amount = wide(s, 2), .pending_id = wide(s, 3),
-            .user128 = wide(s, 4), .user64 = column(s, 5), .user32 = (uint32_t)column(s, 6), .timeout = (uint32_t)column(s, 7),
-            .ledger = (uint32_t)column(s, 8), .code = (uint16_t)column(s, 9), .flags = (uint16_t)column(s, 10),
+            .id = id,
+            .debit = wide(s, 0),
+            .credit = wide(s, 1),
+            .amount = wide(s, 2),
+            .pending_id = wide(s, 3),
+            .user128 = wide(s, 4),
+            .user64 = column(s, 5),
+            .user32 = (uint32_t)column(s, 6),
+            .timeout = (uint32_t)column(s, 7),
+            .ledger = (uint32_t)column(s, 8),
+            .code = (uint16_t)column(s, 9),
+            .flags = (uint16_t)column(s, 10),
             .timestamp = column(s, 11),
         };
         row->state = (int)column(s, 12);
@@ -222,8 +301,10 @@ static void add_transfer(const Transfer *t) {
     bind(s, 11, t->code);
     bind(s, 12, t->flags);
     bind(s, 13, t->timestamp);
-    if (t->flags & PENDING && t->timeout != 0) bind(s, 14, t->timestamp + t->timeout * SECOND);
-    else sqlite3_bind_null(s, 14);
+    if (t->flags & PENDING && t->timeout != 0)
+        bind(s, 14, t->timestamp + t->timeout * SECOND);
+    else
+        sqlite3_bind_null(s, 14);
     run(ADD_TRANSFER);
 }
 
@@ -246,7 +327,8 @@ static bool has_failed(u128 id) {
 }
 
 static void note_failed(u128 id, uint32_t code) {
-    bool is_transient = code == 21 || code == 22 || code == 25 || code == 54 || code == 55 || code == 65 || code == 66;
+    bool is_transient = code == 21 || code == 22 || code == 25 || code == 54 || code == 55 ||
+        code == 65 || code == 66;
     if (!keeps_failed || !is_transient) return;
     Key k = key_of(id);
     bind_key(statements[ADD_FAILED], 1, &k);
@@ -256,7 +338,9 @@ static void note_failed(u128 id, uint32_t code) {
 // The ledger
 
 static bool is_closed(const AccountRow *a) { return a->closers > 0 || a->is.flags & CLOSED; }
-static uint16_t present_flags(const AccountRow *a) { return is_closed(a) ? a->is.flags | CLOSED : a->is.flags; }
+static uint16_t present_flags(const AccountRow *a) {
+    return is_closed(a) ? a->is.flags | CLOSED : a->is.flags;
+}
 
 static bool overflows(u128 a, u128 b) { return a + b < a; }
 static bool overflows3(u128 a, u128 b, u128 c) { return overflows(a, b) || overflows(a + b, c); }
@@ -278,7 +362,9 @@ static void expire(uint64_t time) {
         sqlite3_reset(s);
         TransferRow p;
         AccountRow d, c;
-        check(find_transfer(id, &p) && find_account(p.is.debit, &d) && find_account(p.is.credit, &c), "a row is missing");
+        check(
+            find_transfer(id, &p) && find_account(p.is.debit, &d) && find_account(p.is.credit, &c),
+            "a row is missing");
         release(&p.is, &d, &c, EXPIRED);
         set_debits(&d);
         set_credits(&c);
@@ -347,7 +433,8 @@ static uint32_t resolve(const Transfer *t, const Transfer *f, const TransferRow 
     AccountRow d, c;
     bool posts = f->flags & POST;
     if (posts && f->flags & VOID) return 7;
-    if (f->flags & (PENDING | BALANCING_DEBIT | BALANCING_CREDIT | CLOSING_DEBIT | CLOSING_CREDIT)) return 7;
+    if (f->flags & (PENDING | BALANCING_DEBIT | BALANCING_CREDIT | CLOSING_DEBIT | CLOSING_CREDIT))
+        return 7;
     if (f->pending_id == 0) return 14;
     if (f->pending_id == MAX_ID) return 15;
     if (f->pending_id == f->id) return 16;
@@ -403,8 +490,10 @@ static uint32_t two_party(Transfer *f) {
     if (is_closed(&c)) return 66;
     u128 *debit_pending = &d.is.debits_pending, *debit_posted = &d.is.debits_posted;
     u128 *credit_pending = &c.is.credits_pending, *credit_posted = &c.is.credits_posted;
-    if (f->flags & BALANCING_DEBIT) f->amount = at_most(f->amount, d.is.credits_posted, *debit_posted + *debit_pending);
-    if (f->flags & BALANCING_CREDIT) f->amount = at_most(f->amount, c.is.debits_posted, *credit_posted + *credit_pending);
+    if (f->flags & BALANCING_DEBIT)
+        f->amount = at_most(f->amount, d.is.credits_posted, *debit_posted + *debit_pending);
+    if (f->flags & BALANCING_CREDIT)
+        f->amount = at_most(f->amount, c.is.debits_posted, *credit_posted + *credit_pending);
     u128 n = f->amount;
     if (is_pending && overflows(*debit_pending, n)) return 47;
     if (is_pending && overflows(*credit_pending, n)) return 48;
@@ -413,8 +502,10 @@ static uint32_t two_party(Transfer *f) {
     if (overflows3(*debit_pending, *debit_posted, n)) return 51;
     if (overflows3(*credit_pending, *credit_posted, n)) return 52;
     if (f->timestamp + f->timeout * SECOND > MAX_TIME) return 53;
-    if (d.is.flags & DEBITS_LIMITED && *debit_pending + *debit_posted + n > d.is.credits_posted) return 54;
-    if (c.is.flags & CREDITS_LIMITED && *credit_pending + *credit_posted + n > c.is.debits_posted) return 55;
+    if (d.is.flags & DEBITS_LIMITED && *debit_pending + *debit_posted + n > d.is.credits_posted)
+        return 54;
+    if (c.is.flags & CREDITS_LIMITED && *credit_pending + *credit_posted + n > c.is.debits_posted)
+        return 55;
     *(is_pending ? debit_pending : debit_posted) += n;
     *(is_pending ? credit_pending : credit_posted) += n;
     if (f->flags & CLOSING_DEBIT) d.closers++;
@@ -445,7 +536,10 @@ static uint32_t create_transfer(const void *event, uint64_t time) {
 // Batches
 
 // A growing answer, used again by the next request.
-static struct { uint8_t *bytes; size_t length, capacity; } answer;
+static struct {
+    uint8_t *bytes;
+    size_t length, capacity;
+} answer;
 
 static void put(const void *bytes, size_t length) {
     if (answer.length + length > answer.capacity) {
@@ -463,13 +557,17 @@ static void put_result(size_t index, uint32_t code) {
 
 static bool is_linked(const uint8_t *event) { return event[118] & LINKED; }
 
-// Runs the events of a chain, and says the code of the first that fails, with its place in `at`, or 0.
-static uint32_t run_chain(const uint8_t *body, size_t first, size_t last, size_t count, uint64_t time, bool are_accounts, size_t *at) {
+// Runs the events of a chain, and says the code of the first that fails, with its place in `at`, or
+// 0.
+static uint32_t run_chain(const uint8_t *body, size_t first, size_t last, size_t count,
+    uint64_t time, bool are_accounts, size_t *at) {
     for (size_t i = first; i <= last; i++) {
         const uint8_t *event = body + 128 * i;
         uint64_t own = time - count + i + 1;
         bool is_open = i + 1 == count && is_linked(event);
-        uint32_t code = is_open ? 2 : are_accounts ? create_account(event, own) : create_transfer(event, own);
+        uint32_t code = is_open ? 2
+            : are_accounts      ? create_account(event, own)
+                                : create_transfer(event, own);
         *at = i;
         if (code != 0) return code;
     }
@@ -506,7 +604,15 @@ static void look_up(const uint8_t *body, size_t count, bool are_accounts) {
 
 // Sessions
 
-typedef struct { uint8_t client[16]; uint64_t session; uint32_t request; uint8_t operation, status; uint8_t zero[2]; uint32_t length; uint8_t rest[12]; } Header;
+typedef struct {
+    uint8_t client[16];
+    uint64_t session;
+    uint32_t request;
+    uint8_t operation, status;
+    uint8_t zero[2];
+    uint32_t length;
+    uint8_t rest[12];
+} Header;
 
 _Static_assert(sizeof(Header) == 48, "a header has 48 bytes");
 
@@ -551,14 +657,20 @@ static int class_of(const Header *h, const Session *s, const uint8_t *body) {
     if (h->session > s->session) return 3;
     if (h->request < s->request) return 4;
     if (h->request == s->request) {
-        bool is_same = h->operation == s->operation && h->length == s->body_length && memcmp(body, s->body, h->length) == 0;
+        bool is_same = h->operation == s->operation && h->length == s->body_length &&
+            memcmp(body, s->body, h->length) == 0;
         return is_same ? 0 : 5;
     }
     return h->request == s->request + 1 ? NEW : 6;
 }
 
-static void put_head(const Header *h, uint64_t session, uint8_t status, uint64_t commit, size_t length) {
-    Header head = {.session = session, .request = h->request, .operation = h->operation, .status = status, .length = (uint32_t)length};
+static void put_head(
+    const Header *h, uint64_t session, uint8_t status, uint64_t commit, size_t length) {
+    Header head = {.session = session,
+        .request = h->request,
+        .operation = h->operation,
+        .status = status,
+        .length = (uint32_t)length};
     memcpy(head.client, h->client, 16);
     memcpy(head.rest, &commit, 8);
     put(&head, sizeof head);
@@ -569,24 +681,30 @@ static void execute(uint8_t operation, const uint8_t *body, size_t length, uint6
     run(BEGIN);
     expire(time);
     switch (operation) {
-        case CREATE_ACCOUNTS: case CREATE_TRANSFERS: run_batch(body, length / 128, time, operation == CREATE_ACCOUNTS); break;
-        case LOOKUP_ACCOUNTS: case LOOKUP_TRANSFERS: look_up(body, length / 16, operation == LOOKUP_ACCOUNTS); break;
+    case CREATE_ACCOUNTS:
+    case CREATE_TRANSFERS: run_batch(body, length / 128, time, operation == CREATE_ACCOUNTS); break;
+    case LOOKUP_ACCOUNTS:
+    case LOOKUP_TRANSFERS: look_up(body, length / 16, operation == LOOKUP_ACCOUNTS); break;
     }
     run(COMMIT);
 }
 
-// Serves a request, and leaves its reply in `answer`; the body becomes the session's. False where there is no time for it.
+// Serves a request, and leaves its reply in `answer`; the body becomes the session's. False where
+// there is no time for it.
 static bool serve(uint64_t moment, const Header *h, uint8_t *body) {
     Session *s = find_session(h->client);
     int status = class_of(h, s, body);
     answer.length = 0;
-    if (status == 0) put(s->reply, s->reply_length);
-    else if (status != NEW) put_head(h, h->session, (uint8_t)status, 0, 0);
+    if (status == 0)
+        put(s->reply, s->reply_length);
+    else if (status != NEW)
+        put_head(h, h->session, (uint8_t)status, 0, 0);
     if (status != NEW) {
         free(body);
         return true;
     }
-    uint64_t events = h->operation == CREATE_ACCOUNTS || h->operation == CREATE_TRANSFERS ? h->length / 128 : 0;
+    uint64_t events =
+        h->operation == CREATE_ACCOUNTS || h->operation == CREATE_TRANSFERS ? h->length / 128 : 0;
     uint64_t least = last_time + (events ? events : 1);
     uint64_t time = moment > least ? moment : least;
     if (time > MAX_TIME) return false;
@@ -603,8 +721,14 @@ static bool serve(uint64_t moment, const Header *h, uint8_t *body) {
     uint8_t *reply = memory(s->reply, answer.length);
     memcpy(reply, answer.bytes, answer.length);
     *s = (Session){
-        .session = head->session, .commit = commits, .request = h->request, .operation = h->operation,
-        .body = body, .reply = reply, .body_length = h->length, .reply_length = answer.length,
+        .session = head->session,
+        .commit = commits,
+        .request = h->request,
+        .operation = h->operation,
+        .body = body,
+        .reply = reply,
+        .body_length = h->length,
+        .reply_length = answer.length,
     };
     memcpy(s->client, h->client, 16);
     return true;
@@ -614,7 +738,9 @@ static void open_database(void) {
     check(sqlite3_open(":memory:", &db) == SQLITE_OK, "open");
     check(sqlite3_exec(db, SCHEMA, NULL, NULL, NULL) == SQLITE_OK, "schema");
     for (int i = 0; i < STATEMENTS; i++)
-        check(sqlite3_prepare_v3(db, TEXTS[i], -1, SQLITE_PREPARE_PERSISTENT, &statements[i], NULL) == SQLITE_OK, TEXTS[i]);
+        check(sqlite3_prepare_v3(
+                  db, TEXTS[i], -1, SQLITE_PREPARE_PERSISTENT, &statements[i], NULL) == SQLITE_OK,
+            TEXTS[i]);
 }
 
 int main(int count, char **words) {

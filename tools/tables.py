@@ -13,11 +13,13 @@ Prints a line for each difference, and 'N compared, M differ'. Status 1 where so
 Not generated, and witnesses of their own: the servers of bench/, and name_tests of tb_records.
 """
 import copy
+import functools
 import glob
 import os
 import re
 import sys
 
+import formats
 import tried
 
 sys.dont_write_bytecode = True
@@ -46,7 +48,8 @@ COMMAND = "apps/telovamish/src/telovamish"
 
 def in_parts(table):
     """The files with parts that are generated: the path, and the text of each part."""
-    yield "clients/embed/tb_embed.h", c.parts(table)
+    header = "clients/embed/tb_embed.h"
+    yield header, {name: laid_out(header, text) for name, text in c.parts(table).items()}
     yield "clients/embed/rust/tb_embed.rs", rust.parts(table)
     yield "clients/embed/python/tb_embed.py", python.embedded(table)
     yield f"{PYTHON}/names.py", python.names(table)
@@ -60,10 +63,17 @@ def whole(table, top):
     if os.path.isdir(f"{top}/clients/go"):
         yield "clients/go/names.go", go.whole(table)
     if os.path.isdir(f"{top}/clients/java"):
-        yield from ((f"{JAVA}/{name}", text) for name, text in java.files(table).items())
+        for name, text in java.files(table).items():
+            yield f"{JAVA}/{name}", laid_out(f"{JAVA}/{name}", text)
     if os.path.isdir(f"{top}/clients/node"):
         yield "clients/node/names.js", node.module(table)
         yield "clients/node/names.d.ts", node.types(table)
+
+
+@functools.cache
+def laid_out(path, text):
+    """The text in the layout of .clang-format."""
+    return formats.clang(path, text)
 
 
 def read(path):

@@ -1,8 +1,10 @@
-/* The ledger server inside a C program: a request's frame and a moment go in, the reply's frame comes out. Frames are those of
- * docs/use/FORMATS.md; docs/use/EMBEDDING.md says what the calls promise and what they trust.
+/* The ledger server inside a C program: a request's frame and a moment go in, the reply's frame
+ * comes out. Frames are those of docs/use/FORMATS.md; docs/use/EMBEDDING.md says what the calls
+ * promise and what they trust.
  *
- * First the names and the structs that frames are made of, then the five calls of the library, then functions that write and
- * read the frames of requests, and read those of replies. These are static inline, and need no library. */
+ * First the names and the structs that frames are made of, then the five calls of the library, then
+ * functions that write and read the frames of requests, and read those of replies. These are static
+ * inline, and need no library. */
 #ifndef TB_EMBED_H
 #define TB_EMBED_H
 
@@ -10,7 +12,8 @@
 #include <stdint.h>
 #include <string.h>
 
-/* Numbers in frames are little-endian, and the structs below are copied from and to them as they are. */
+/* Numbers in frames are little-endian, and the structs below are copied from and to them as they
+ * are. */
 #if !defined(__BYTE_ORDER__) || __BYTE_ORDER__ != __ORDER_LITTLE_ENDIAN__
 #error "tb_embed.h is for little-endian processors"
 #endif
@@ -22,7 +25,8 @@ extern "C" {
 #define TB_ASSERT(holds, text) _Static_assert(holds, text)
 #endif
 
-/* A handle, which its owner keeps: {0} is a closed one. Its fields are the library's: never write, copy or share them. */
+/* A handle, which its owner keeps: {0} is a closed one. Its fields are the library's: never write,
+ * copy or share them. */
 typedef struct tb_server {
     void *at;
     uint8_t is_open;
@@ -45,8 +49,8 @@ enum tb_status {
     TB_TIME_EXHAUSTED = 5,
     /* no record has this id, and the room has 128 bytes */
     TB_ABSENT = 6,
-    /* the room is too small. tb_embed_serve has served the request, tells how many bytes the reply has, and gives it
-       where the same request is sent next */
+    /* the room is too small. tb_embed_serve has served the request, tells how many bytes the reply
+       has, and gives it where the same request is sent next */
     TB_TOO_SMALL = 7
 };
 /* end of statuses */
@@ -75,7 +79,8 @@ enum tb_operation {
     TB_OPERATION_LOOKUP_TRANSFERS = 132
 };
 
-/* What the server says of a request, in its reply. With any but the first it was not executed now, and there is no body. */
+/* What the server says of a request, in its reply. With any but the first it was not executed now,
+ * and there is no body. */
 enum tb_reply_status {
     /* it is in the history, and this is its reply */
     TB_REPLY_STATUS_REPLY = 0,
@@ -145,7 +150,8 @@ enum tb_transfer_flags {
     TB_TRANSFER_IMPORTED = 256
 };
 
-/* What became of an event of create_accounts. docs/use/RULES.md says where each holds, docs/use/CLIENTS.md what to do. */
+/* What became of an event of create_accounts. docs/use/RULES.md says where each holds,
+ * docs/use/CLIENTS.md what to do. */
 enum tb_create_account_result {
     TB_CREATE_ACCOUNT_OK = 0,
     TB_CREATE_ACCOUNT_LINKED_EVENT_FAILED = 1,
@@ -236,7 +242,8 @@ enum tb_create_transfer_result {
 };
 /* end of enums */
 
-/* The records, as they stand in frames: little-endian, 128 bits as two halves, the low one first. */
+/* The records, as they stand in frames: little-endian, 128 bits as two halves, the low one first.
+ */
 typedef struct tb_u128 {
     uint64_t low, high;
 } tb_u128;
@@ -259,7 +266,8 @@ typedef struct tb_transfer {
 } tb_transfer;
 /* end of records */
 
-/* What became of one event of a create: its place in the request, and a result code. Events that were accepted are not told. */
+/* What became of one event of a create: its place in the request, and a result code. Events that
+ * were accepted are not told. */
 typedef struct tb_event_result {
     uint32_t index, result;
 } tb_event_result;
@@ -335,25 +343,31 @@ TB_ASSERT(offsetof(tb_reply_header, commit_low) == 36, "tb_reply_header");
 
 TB_ASSERT(sizeof(tb_u128) == TB_ID_SIZE && offsetof(tb_u128, high) == 8, "128 bits");
 
-/* Opens a closed handle at the empty history. profile is 1 or 2; clients_max is 1 to TB_CLIENTS_MAX. DONE, USAGE, NO_MEMORY. */
+/* Opens a closed handle at the empty history. profile is 1 or 2; clients_max is 1 to
+ * TB_CLIENTS_MAX. DONE, USAGE, NO_MEMORY. */
 uint32_t tb_embed_open(tb_server *server, uint32_t profile, uint32_t clients_max);
 
-/* Serves the frame of one request that comes at a moment, in nanoseconds, and writes the frame of its reply to the beginning
- * of the room. written is the number of bytes at DONE, those needed at TOO_SMALL, and else 0. At TOO_SMALL the whole room is
- * overwritten, with the first bytes of the reply. DONE, CLOSED, NO_MEMORY, MALFORMED, TIME_EXHAUSTED, TOO_SMALL. */
-uint32_t tb_embed_serve(tb_server *server, uint64_t moment, const uint8_t *request, size_t request_length, uint8_t *reply,
-                        size_t reply_room, size_t *written);
+/* Serves the frame of one request that comes at a moment, in nanoseconds, and writes the frame of
+ * its reply to the beginning of the room. written is the number of bytes at DONE, those needed at
+ * TOO_SMALL, and else 0. At TOO_SMALL the whole room is overwritten, with the first bytes of the
+ * reply. DONE, CLOSED, NO_MEMORY, MALFORMED, TIME_EXHAUSTED, TOO_SMALL. */
+uint32_t tb_embed_serve(tb_server *server, uint64_t moment, const uint8_t *request,
+    size_t request_length, uint8_t *reply, size_t reply_room, size_t *written);
 
-/* Writes the 128 bytes of an account as it stands after the last request: a tb_account. DONE, CLOSED, ABSENT, TOO_SMALL. */
-uint32_t tb_embed_account(tb_server *server, uint64_t id_low, uint64_t id_high, uint8_t *account, size_t room);
+/* Writes the 128 bytes of an account as it stands after the last request: a tb_account. DONE,
+ * CLOSED, ABSENT, TOO_SMALL. */
+uint32_t tb_embed_account(
+    tb_server *server, uint64_t id_low, uint64_t id_high, uint8_t *account, size_t room);
 
 /* The same of a transfer as it was recorded: a tb_transfer. */
-uint32_t tb_embed_transfer(tb_server *server, uint64_t id_low, uint64_t id_high, uint8_t *transfer, size_t room);
+uint32_t tb_embed_transfer(
+    tb_server *server, uint64_t id_low, uint64_t id_high, uint8_t *transfer, size_t room);
 
 /* Closes the handle and frees its server. A closed handle stays closed. */
 void tb_embed_close(tb_server *server);
 
-/* A client's session, which its owner keeps and stores, with the frame of the request that waits or was left in doubt next to it.
+/* A client's session, which its owner keeps and stores, with the frame of the request that waits or
+ * was left in doubt next to it.
  * {.id = ID} is a client that has not registered; make one once for each id. */
 typedef struct tb_caller {
     tb_u128 id;
@@ -368,7 +382,8 @@ enum tb_caller_phase {
     TB_CALLER_UNREGISTERED = 0,
     TB_CALLER_OPEN = 1, /* a request waits for its reply: its frame may be sent, again and again */
     TB_CALLER_IDLE = 2,
-    TB_CALLER_OVER = 3 /* the session is over, and the last request was executed once or not at all */
+    /* the session is over, and the last request was executed once or not at all */
+    TB_CALLER_OVER = 3
 };
 
 /* What a reply is for the request that waits. */
@@ -390,25 +405,30 @@ enum tb_caller_status {
     TB_CALLER_MALFORMED = 6,      /* the bytes are no frame, or the client's id is 0 */
     TB_CALLER_TOO_SMALL = 7,      /* the room is too small: written bytes are needed */
     TB_CALLER_NO_MEMORY = 8,
-    TB_CALLER_REGISTER_NUMBERS = 9, /* a client that has not registered has session 0 and number 0 */
-    TB_CALLER_OTHER_CLIENT = 10,    /* the frame that is kept is another client's */
-    TB_CALLER_OTHER_SESSION = 11,   /* it is of another session */
-    TB_CALLER_OTHER_NUMBER = 12,    /* its number is not the last one */
-    TB_CALLER_NO_CLIENT = 13        /* no phase has this number, or the frame that is kept is malformed */
+    /* a client that has not registered has session 0 and number 0 */
+    TB_CALLER_REGISTER_NUMBERS = 9,
+    TB_CALLER_OTHER_CLIENT = 10,  /* the frame that is kept is another client's */
+    TB_CALLER_OTHER_SESSION = 11, /* it is of another session */
+    TB_CALLER_OTHER_NUMBER = 12,  /* its number is not the last one */
+    /* no phase has this number, or the frame that is kept is malformed */
+    TB_CALLER_NO_CLIENT = 13
 };
 
-/* Makes the next request, the register first, and writes its frame, which is kept from then on: store it with the client before it
- * is sent. What is asked for is the body of the frame `request`, whose client, session and number do not count (but none is
- * 0 where a frame may not have 0). written is the number of bytes at DONE, those needed at TOO_SMALL, and else 0. */
-uint32_t tb_caller_call(tb_caller *caller, const uint8_t *request, size_t request_length, uint8_t *frame, size_t frame_room,
-                        size_t *written);
+/* Makes the next request, the register first, and writes its frame, which is kept from then on:
+ * store it with the client before it is sent. What is asked for is the body of the frame `request`,
+ * whose client, session and number do not count (but none is 0 where a frame may not have 0).
+ * written is the number of bytes at DONE, those needed at TOO_SMALL, and else 0. */
+uint32_t tb_caller_call(tb_caller *caller, const uint8_t *request, size_t request_length,
+    uint8_t *frame, size_t frame_room, size_t *written);
 
-/* Takes the reply that the bytes begin with, where frame is the one that is kept. heard says what it is for this request, and read
- * how many bytes it has. At any status but DONE heard is TB_HEARD_OTHER, and read is 0. */
-uint32_t tb_caller_received(tb_caller *caller, const uint8_t *frame, size_t frame_length, const uint8_t *reply, size_t reply_length,
-                            uint32_t *heard, size_t *read);
+/* Takes the reply that the bytes begin with, where frame is the one that is kept. heard says what
+ * it is for this request, and read how many bytes it has. At any status but DONE heard is
+ * TB_HEARD_OTHER, and read is 0. */
+uint32_t tb_caller_received(tb_caller *caller, const uint8_t *frame, size_t frame_length,
+    const uint8_t *reply, size_t reply_length, uint32_t *heard, size_t *read);
 
-/* Says whether a client and a frame that were stored go together: DONE, NO_MEMORY, or what is wrong with them. */
+/* Says whether a client and a frame that were stored go together: DONE, NO_MEMORY, or what is wrong
+ * with them. */
 uint32_t tb_caller_check(const tb_caller *caller, const uint8_t *frame, size_t frame_length);
 
 /* Numbers of 128 bits. */
@@ -427,9 +447,7 @@ static inline tb_u128 tb_amount_max(void) {
     return number;
 }
 
-static inline int tb_u128_equal(tb_u128 a, tb_u128 b) {
-    return a.low == b.low && a.high == b.high;
-}
+static inline int tb_u128_equal(tb_u128 a, tb_u128 b) { return a.low == b.low && a.high == b.high; }
 
 #ifdef __SIZEOF_INT128__
 __extension__ typedef unsigned __int128 tb_uint128;
@@ -446,13 +464,14 @@ static inline tb_uint128 tb_u128_value(tb_u128 halves) {
 }
 #endif
 
-/* Requests. Each function writes a frame to the beginning of a room, and answers its length. It answers 0, and leaves the room as
- * it is, where the client is 0, the request's number is 0, there are more than 8190 items, or the room is too small. The items
- * are outside of the room; their pointer may be null where there are none. To send a request again, send the same bytes. */
+/* Requests. Each function writes a frame to the beginning of a room, and answers its length. It
+ * answers 0, and leaves the room as it is, where the client is 0, the request's number is 0, there
+ * are more than 8190 items, or the room is too small. The items are outside of the room; their
+ * pointer may be null where there are none. To send a request again, send the same bytes. */
 
 /* What the five have in common. */
-static inline size_t tb_write_frame(uint8_t *frame, size_t room, tb_u128 client, uint64_t session, uint32_t request,
-                                    uint8_t operation, const void *items, size_t item_size, size_t count) {
+static inline size_t tb_write_frame(uint8_t *frame, size_t room, tb_u128 client, uint64_t session,
+    uint32_t request, uint8_t operation, const void *items, size_t item_size, size_t count) {
     tb_request_header header;
     size_t length;
     if (count > TB_ITEMS_MAX || (request == 0) != (operation == TB_OPERATION_REGISTER)) return 0;
@@ -469,32 +488,38 @@ static inline size_t tb_write_frame(uint8_t *frame, size_t room, tb_u128 client,
     return TB_HEADER_SIZE + length;
 }
 
-/* Begins a session of a client: the reply's session is that of its later requests, which are numbered 1, 2, 3 and so on. */
+/* Begins a session of a client: the reply's session is that of its later requests, which are
+ * numbered 1, 2, 3 and so on. */
 static inline size_t tb_write_register(uint8_t *frame, size_t room, tb_u128 client) {
     return tb_write_frame(frame, room, client, 0, 0, TB_OPERATION_REGISTER, NULL, 0, 0);
 }
 
-static inline size_t tb_write_create_accounts(uint8_t *frame, size_t room, tb_u128 client, uint64_t session, uint32_t request,
-                                              const tb_account *accounts, size_t count) {
-    return tb_write_frame(frame, room, client, session, request, TB_OPERATION_CREATE_ACCOUNTS, accounts, TB_RECORD_SIZE, count);
+static inline size_t tb_write_create_accounts(uint8_t *frame, size_t room, tb_u128 client,
+    uint64_t session, uint32_t request, const tb_account *accounts, size_t count) {
+    return tb_write_frame(frame, room, client, session, request, TB_OPERATION_CREATE_ACCOUNTS,
+        accounts, TB_RECORD_SIZE, count);
 }
 
-static inline size_t tb_write_create_transfers(uint8_t *frame, size_t room, tb_u128 client, uint64_t session, uint32_t request,
-                                               const tb_transfer *transfers, size_t count) {
-    return tb_write_frame(frame, room, client, session, request, TB_OPERATION_CREATE_TRANSFERS, transfers, TB_RECORD_SIZE, count);
+static inline size_t tb_write_create_transfers(uint8_t *frame, size_t room, tb_u128 client,
+    uint64_t session, uint32_t request, const tb_transfer *transfers, size_t count) {
+    return tb_write_frame(frame, room, client, session, request, TB_OPERATION_CREATE_TRANSFERS,
+        transfers, TB_RECORD_SIZE, count);
 }
 
-static inline size_t tb_write_lookup_accounts(uint8_t *frame, size_t room, tb_u128 client, uint64_t session, uint32_t request,
-                                              const tb_u128 *ids, size_t count) {
-    return tb_write_frame(frame, room, client, session, request, TB_OPERATION_LOOKUP_ACCOUNTS, ids, TB_ID_SIZE, count);
+static inline size_t tb_write_lookup_accounts(uint8_t *frame, size_t room, tb_u128 client,
+    uint64_t session, uint32_t request, const tb_u128 *ids, size_t count) {
+    return tb_write_frame(frame, room, client, session, request, TB_OPERATION_LOOKUP_ACCOUNTS, ids,
+        TB_ID_SIZE, count);
 }
 
-static inline size_t tb_write_lookup_transfers(uint8_t *frame, size_t room, tb_u128 client, uint64_t session, uint32_t request,
-                                               const tb_u128 *ids, size_t count) {
-    return tb_write_frame(frame, room, client, session, request, TB_OPERATION_LOOKUP_TRANSFERS, ids, TB_ID_SIZE, count);
+static inline size_t tb_write_lookup_transfers(uint8_t *frame, size_t room, tb_u128 client,
+    uint64_t session, uint32_t request, const tb_u128 *ids, size_t count) {
+    return tb_write_frame(frame, room, client, session, request, TB_OPERATION_LOOKUP_TRANSFERS, ids,
+        TB_ID_SIZE, count);
 }
 
-/* A request that was read. It points into the bytes that it was read from: they are to stay as they are while it is used. */
+/* A request that was read. It points into the bytes that it was read from: they are to stay as they
+ * are while it is used. */
 typedef struct tb_request {
     tb_request_header header;
     const uint8_t *body; /* header.length bytes */
@@ -502,13 +527,15 @@ typedef struct tb_request {
 } tb_request;
 
 static inline int tb_is_operation(uint8_t operation) {
-    return operation == TB_OPERATION_REGISTER
-           || (operation >= TB_OPERATION_CREATE_ACCOUNTS && operation <= TB_OPERATION_LOOKUP_TRANSFERS);
+    return operation == TB_OPERATION_REGISTER ||
+        (operation >= TB_OPERATION_CREATE_ACCOUNTS && operation <= TB_OPERATION_LOOKUP_TRANSFERS);
 }
 
 /* The bytes of an item in a request: a record, or an id. A register has none. */
 static inline size_t tb_request_item_size(uint8_t operation) {
-    return operation == TB_OPERATION_CREATE_ACCOUNTS || operation == TB_OPERATION_CREATE_TRANSFERS ? TB_RECORD_SIZE : TB_ID_SIZE;
+    return operation == TB_OPERATION_CREATE_ACCOUNTS || operation == TB_OPERATION_CREATE_TRANSFERS
+        ? TB_RECORD_SIZE
+        : TB_ID_SIZE;
 }
 
 static inline int tb_are_zeros(const uint8_t *bytes, size_t length) {
@@ -518,24 +545,28 @@ static inline int tb_are_zeros(const uint8_t *bytes, size_t length) {
     return 1;
 }
 
-/* What is wrong with the header of a request, by the tests of docs/use/FORMATS.md in their order. */
+/* What is wrong with the header of a request, by the tests of docs/use/FORMATS.md in their order.
+ */
 static inline uint32_t tb_request_header_fault(const tb_request_header *header) {
     int is_register = header->operation == TB_OPERATION_REGISTER;
     size_t item_size = tb_request_item_size(header->operation);
     if (tb_u128_equal(header->client, tb_u128_of(0))) return TB_FAULT_CLIENT_ZERO;
     if (!tb_is_operation(header->operation)) return TB_FAULT_UNKNOWN_OPERATION;
-    if (!tb_are_zeros(header->zeros, sizeof header->zeros) || !tb_are_zeros(header->more_zeros, sizeof header->more_zeros))
+    if (!tb_are_zeros(header->zeros, sizeof header->zeros) ||
+        !tb_are_zeros(header->more_zeros, sizeof header->more_zeros))
         return TB_FAULT_RESERVED;
-    if (is_register && (header->session != 0 || header->request != 0)) return TB_FAULT_REGISTER_NUMBERS;
+    if (is_register && (header->session != 0 || header->request != 0))
+        return TB_FAULT_REGISTER_NUMBERS;
     if (!is_register && header->request == 0) return TB_FAULT_REQUEST_ZERO;
-    if (is_register ? header->length != 0 : header->length % item_size != 0) return TB_FAULT_BAD_LENGTH;
+    if (is_register ? header->length != 0 : header->length % item_size != 0)
+        return TB_FAULT_BAD_LENGTH;
     if (header->length / item_size > TB_ITEMS_MAX) return TB_FAULT_TOO_MANY;
     return TB_FAULT_NONE;
 }
 
-/* Reads the request whose frame is at the beginning of the bytes, and answers TB_FAULT_NONE. It has TB_HEADER_SIZE +
- * header.length bytes; more may follow, but tb_embed_serve takes just these. Else it answers the fault, and the request is all 0.
- * No byte behind the length is read. */
+/* Reads the request whose frame is at the beginning of the bytes, and answers TB_FAULT_NONE. It has
+ * TB_HEADER_SIZE + header.length bytes; more may follow, but tb_embed_serve takes just these. Else
+ * it answers the fault, and the request is all 0. No byte behind the length is read. */
 static inline uint32_t tb_read_request(const uint8_t *bytes, size_t length, tb_request *request) {
     tb_request_header header;
     uint32_t fault;
@@ -551,14 +582,17 @@ static inline uint32_t tb_read_request(const uint8_t *bytes, size_t length, tb_r
     return TB_FAULT_NONE;
 }
 
-/* What the functions for items have in common: the item at a place from 0 on, where there is one. */
-static inline int tb_item(const uint8_t *body, size_t count, size_t place, void *item, size_t item_size) {
+/* What the functions for items have in common: the item at a place from 0 on, where there is one.
+ */
+static inline int tb_item(
+    const uint8_t *body, size_t count, size_t place, void *item, size_t item_size) {
     if (place >= count) return 0;
     memcpy(item, body + place * item_size, item_size);
     return 1;
 }
 
-/* The item of a request at a place from 0 on: 1, or 0 where the request has no such item, or items of another kind. */
+/* The item of a request at a place from 0 on: 1, or 0 where the request has no such item, or items
+ * of another kind. */
 
 /* Of create_accounts. */
 static inline int tb_request_account(const tb_request *request, size_t place, tb_account *account) {
@@ -567,7 +601,8 @@ static inline int tb_request_account(const tb_request *request, size_t place, tb
 }
 
 /* Of create_transfers. */
-static inline int tb_request_transfer(const tb_request *request, size_t place, tb_transfer *transfer) {
+static inline int tb_request_transfer(
+    const tb_request *request, size_t place, tb_transfer *transfer) {
     if (request->header.operation != TB_OPERATION_CREATE_TRANSFERS) return 0;
     return tb_item(request->body, request->count, place, transfer, TB_RECORD_SIZE);
 }
@@ -575,11 +610,13 @@ static inline int tb_request_transfer(const tb_request *request, size_t place, t
 /* Of lookup_accounts or lookup_transfers. */
 static inline int tb_request_id(const tb_request *request, size_t place, tb_u128 *id) {
     uint8_t operation = request->header.operation;
-    if (operation != TB_OPERATION_LOOKUP_ACCOUNTS && operation != TB_OPERATION_LOOKUP_TRANSFERS) return 0;
+    if (operation != TB_OPERATION_LOOKUP_ACCOUNTS && operation != TB_OPERATION_LOOKUP_TRANSFERS)
+        return 0;
     return tb_item(request->body, request->count, place, id, TB_ID_SIZE);
 }
 
-/* Replies. A tb_reply points into the bytes that it was read from: they are to stay as they are while it is used. */
+/* Replies. A tb_reply points into the bytes that it was read from: they are to stay as they are
+ * while it is used. */
 typedef struct tb_reply {
     tb_reply_header header;
     const uint8_t *body; /* header.length bytes */
@@ -592,31 +629,38 @@ static inline uint64_t tb_commit(const tb_reply_header *header) {
 
 /* The bytes of an item in the reply to an operation. */
 static inline size_t tb_reply_item_size(uint8_t operation) {
-    return operation == TB_OPERATION_LOOKUP_ACCOUNTS || operation == TB_OPERATION_LOOKUP_TRANSFERS ? TB_RECORD_SIZE
-                                                                                                   : TB_RESULT_SIZE;
+    return operation == TB_OPERATION_LOOKUP_ACCOUNTS || operation == TB_OPERATION_LOOKUP_TRANSFERS
+        ? TB_RECORD_SIZE
+        : TB_RESULT_SIZE;
 }
 
 /* What is wrong with the header of a reply, by the tests of docs/use/FORMATS.md in their order. */
 static inline uint32_t tb_reply_header_fault(const tb_reply_header *header) {
-    int is_register = header->operation == TB_OPERATION_REGISTER, is_refusal = header->status != TB_REPLY_STATUS_REPLY;
+    int is_register = header->operation == TB_OPERATION_REGISTER,
+        is_refusal = header->status != TB_REPLY_STATUS_REPLY;
     size_t item_size = tb_reply_item_size(header->operation);
     uint64_t commit = tb_commit(header);
     if (tb_u128_equal(header->client, tb_u128_of(0))) return TB_FAULT_CLIENT_ZERO;
     if (!tb_is_operation(header->operation)) return TB_FAULT_UNKNOWN_OPERATION;
-    if (header->status > TB_REPLY_STATUS_NOT_YET || header->zeros[0] || header->zeros[1] || header->more_zeros)
+    if (header->status > TB_REPLY_STATUS_NOT_YET || header->zeros[0] || header->zeros[1] ||
+        header->more_zeros)
         return TB_FAULT_RESERVED;
-    if (is_register && (header->request != 0 || (is_refusal && header->session != 0))) return TB_FAULT_REGISTER_NUMBERS;
+    if (is_register && (header->request != 0 || (is_refusal && header->session != 0)))
+        return TB_FAULT_REGISTER_NUMBERS;
     if (!is_register && header->request == 0) return TB_FAULT_REQUEST_ZERO;
     if (is_refusal ? commit != 0
-                   : header->session == 0 || (is_register ? header->session != commit : header->session >= commit))
+                   : header->session == 0 ||
+                (is_register ? header->session != commit : header->session >= commit))
         return TB_FAULT_REPLY_NUMBERS;
-    if (is_refusal || is_register ? header->length != 0 : header->length % item_size != 0) return TB_FAULT_BAD_LENGTH;
+    if (is_refusal || is_register ? header->length != 0 : header->length % item_size != 0)
+        return TB_FAULT_BAD_LENGTH;
     if (header->length / item_size > TB_ITEMS_MAX) return TB_FAULT_TOO_MANY;
     return TB_FAULT_NONE;
 }
 
-/* Reads the reply whose frame is at the beginning of the bytes, and answers TB_FAULT_NONE. It has TB_HEADER_SIZE + header.length
- * bytes; more may follow. Else it answers the fault, and the reply is all 0. No byte behind the length is read. */
+/* Reads the reply whose frame is at the beginning of the bytes, and answers TB_FAULT_NONE. It has
+ * TB_HEADER_SIZE + header.length bytes; more may follow. Else it answers the fault, and the reply
+ * is all 0. No byte behind the length is read. */
 static inline uint32_t tb_read_reply(const uint8_t *bytes, size_t length, tb_reply *reply) {
     tb_reply_header header;
     uint32_t fault;
@@ -632,12 +676,14 @@ static inline uint32_t tb_read_reply(const uint8_t *bytes, size_t length, tb_rep
     return TB_FAULT_NONE;
 }
 
-/* The item of a reply at a place from 0 on: 1, or 0 where the reply has no such item, or items of another kind. */
+/* The item of a reply at a place from 0 on: 1, or 0 where the reply has no such item, or items of
+ * another kind. */
 
 /* Of the reply to create_accounts or create_transfers. The codes are those of the operation. */
 static inline int tb_reply_result(const tb_reply *reply, size_t place, tb_event_result *result) {
     uint8_t operation = reply->header.operation;
-    if (operation != TB_OPERATION_CREATE_ACCOUNTS && operation != TB_OPERATION_CREATE_TRANSFERS) return 0;
+    if (operation != TB_OPERATION_CREATE_ACCOUNTS && operation != TB_OPERATION_CREATE_TRANSFERS)
+        return 0;
     return tb_item(reply->body, reply->count, place, result, TB_RESULT_SIZE);
 }
 
@@ -730,9 +776,12 @@ static inline const char *tb_create_account_result_name(uint32_t number) {
     case TB_CREATE_ACCOUNT_LEDGER_MUST_NOT_BE_ZERO: return "ledger_must_not_be_zero";
     case TB_CREATE_ACCOUNT_CODE_MUST_NOT_BE_ZERO: return "code_must_not_be_zero";
     case TB_CREATE_ACCOUNT_EXISTS_WITH_DIFFERENT_FLAGS: return "exists_with_different_flags";
-    case TB_CREATE_ACCOUNT_EXISTS_WITH_DIFFERENT_USER_DATA_128: return "exists_with_different_user_data_128";
-    case TB_CREATE_ACCOUNT_EXISTS_WITH_DIFFERENT_USER_DATA_64: return "exists_with_different_user_data_64";
-    case TB_CREATE_ACCOUNT_EXISTS_WITH_DIFFERENT_USER_DATA_32: return "exists_with_different_user_data_32";
+    case TB_CREATE_ACCOUNT_EXISTS_WITH_DIFFERENT_USER_DATA_128:
+        return "exists_with_different_user_data_128";
+    case TB_CREATE_ACCOUNT_EXISTS_WITH_DIFFERENT_USER_DATA_64:
+        return "exists_with_different_user_data_64";
+    case TB_CREATE_ACCOUNT_EXISTS_WITH_DIFFERENT_USER_DATA_32:
+        return "exists_with_different_user_data_32";
     case TB_CREATE_ACCOUNT_EXISTS_WITH_DIFFERENT_LEDGER: return "exists_with_different_ledger";
     case TB_CREATE_ACCOUNT_EXISTS_WITH_DIFFERENT_CODE: return "exists_with_different_code";
     case TB_CREATE_ACCOUNT_EXISTS: return "exists";
@@ -750,41 +799,62 @@ static inline const char *tb_create_transfer_result_name(uint32_t number) {
     case TB_CREATE_TRANSFER_ID_MUST_NOT_BE_ZERO: return "id_must_not_be_zero";
     case TB_CREATE_TRANSFER_ID_MUST_NOT_BE_INT_MAX: return "id_must_not_be_int_max";
     case TB_CREATE_TRANSFER_FLAGS_ARE_MUTUALLY_EXCLUSIVE: return "flags_are_mutually_exclusive";
-    case TB_CREATE_TRANSFER_DEBIT_ACCOUNT_ID_MUST_NOT_BE_ZERO: return "debit_account_id_must_not_be_zero";
-    case TB_CREATE_TRANSFER_DEBIT_ACCOUNT_ID_MUST_NOT_BE_INT_MAX: return "debit_account_id_must_not_be_int_max";
-    case TB_CREATE_TRANSFER_CREDIT_ACCOUNT_ID_MUST_NOT_BE_ZERO: return "credit_account_id_must_not_be_zero";
-    case TB_CREATE_TRANSFER_CREDIT_ACCOUNT_ID_MUST_NOT_BE_INT_MAX: return "credit_account_id_must_not_be_int_max";
+    case TB_CREATE_TRANSFER_DEBIT_ACCOUNT_ID_MUST_NOT_BE_ZERO:
+        return "debit_account_id_must_not_be_zero";
+    case TB_CREATE_TRANSFER_DEBIT_ACCOUNT_ID_MUST_NOT_BE_INT_MAX:
+        return "debit_account_id_must_not_be_int_max";
+    case TB_CREATE_TRANSFER_CREDIT_ACCOUNT_ID_MUST_NOT_BE_ZERO:
+        return "credit_account_id_must_not_be_zero";
+    case TB_CREATE_TRANSFER_CREDIT_ACCOUNT_ID_MUST_NOT_BE_INT_MAX:
+        return "credit_account_id_must_not_be_int_max";
     case TB_CREATE_TRANSFER_ACCOUNTS_MUST_BE_DIFFERENT: return "accounts_must_be_different";
     case TB_CREATE_TRANSFER_PENDING_ID_MUST_BE_ZERO: return "pending_id_must_be_zero";
     case TB_CREATE_TRANSFER_PENDING_ID_MUST_NOT_BE_ZERO: return "pending_id_must_not_be_zero";
     case TB_CREATE_TRANSFER_PENDING_ID_MUST_NOT_BE_INT_MAX: return "pending_id_must_not_be_int_max";
     case TB_CREATE_TRANSFER_PENDING_ID_MUST_BE_DIFFERENT: return "pending_id_must_be_different";
-    case TB_CREATE_TRANSFER_TIMEOUT_RESERVED_FOR_PENDING_TRANSFER: return "timeout_reserved_for_pending_transfer";
+    case TB_CREATE_TRANSFER_TIMEOUT_RESERVED_FOR_PENDING_TRANSFER:
+        return "timeout_reserved_for_pending_transfer";
     case TB_CREATE_TRANSFER_LEDGER_MUST_NOT_BE_ZERO: return "ledger_must_not_be_zero";
     case TB_CREATE_TRANSFER_CODE_MUST_NOT_BE_ZERO: return "code_must_not_be_zero";
     case TB_CREATE_TRANSFER_DEBIT_ACCOUNT_NOT_FOUND: return "debit_account_not_found";
     case TB_CREATE_TRANSFER_CREDIT_ACCOUNT_NOT_FOUND: return "credit_account_not_found";
-    case TB_CREATE_TRANSFER_ACCOUNTS_MUST_HAVE_THE_SAME_LEDGER: return "accounts_must_have_the_same_ledger";
-    case TB_CREATE_TRANSFER_TRANSFER_MUST_HAVE_THE_SAME_LEDGER_AS_ACCOUNTS: return "transfer_must_have_the_same_ledger_as_accounts";
+    case TB_CREATE_TRANSFER_ACCOUNTS_MUST_HAVE_THE_SAME_LEDGER:
+        return "accounts_must_have_the_same_ledger";
+    case TB_CREATE_TRANSFER_TRANSFER_MUST_HAVE_THE_SAME_LEDGER_AS_ACCOUNTS:
+        return "transfer_must_have_the_same_ledger_as_accounts";
     case TB_CREATE_TRANSFER_PENDING_TRANSFER_NOT_FOUND: return "pending_transfer_not_found";
     case TB_CREATE_TRANSFER_PENDING_TRANSFER_NOT_PENDING: return "pending_transfer_not_pending";
-    case TB_CREATE_TRANSFER_PENDING_TRANSFER_HAS_DIFFERENT_DEBIT_ACCOUNT_ID: return "pending_transfer_has_different_debit_account_id";
-    case TB_CREATE_TRANSFER_PENDING_TRANSFER_HAS_DIFFERENT_CREDIT_ACCOUNT_ID: return "pending_transfer_has_different_credit_account_id";
-    case TB_CREATE_TRANSFER_PENDING_TRANSFER_HAS_DIFFERENT_LEDGER: return "pending_transfer_has_different_ledger";
-    case TB_CREATE_TRANSFER_PENDING_TRANSFER_HAS_DIFFERENT_CODE: return "pending_transfer_has_different_code";
-    case TB_CREATE_TRANSFER_EXCEEDS_PENDING_TRANSFER_AMOUNT: return "exceeds_pending_transfer_amount";
-    case TB_CREATE_TRANSFER_PENDING_TRANSFER_HAS_DIFFERENT_AMOUNT: return "pending_transfer_has_different_amount";
-    case TB_CREATE_TRANSFER_PENDING_TRANSFER_ALREADY_POSTED: return "pending_transfer_already_posted";
-    case TB_CREATE_TRANSFER_PENDING_TRANSFER_ALREADY_VOIDED: return "pending_transfer_already_voided";
+    case TB_CREATE_TRANSFER_PENDING_TRANSFER_HAS_DIFFERENT_DEBIT_ACCOUNT_ID:
+        return "pending_transfer_has_different_debit_account_id";
+    case TB_CREATE_TRANSFER_PENDING_TRANSFER_HAS_DIFFERENT_CREDIT_ACCOUNT_ID:
+        return "pending_transfer_has_different_credit_account_id";
+    case TB_CREATE_TRANSFER_PENDING_TRANSFER_HAS_DIFFERENT_LEDGER:
+        return "pending_transfer_has_different_ledger";
+    case TB_CREATE_TRANSFER_PENDING_TRANSFER_HAS_DIFFERENT_CODE:
+        return "pending_transfer_has_different_code";
+    case TB_CREATE_TRANSFER_EXCEEDS_PENDING_TRANSFER_AMOUNT:
+        return "exceeds_pending_transfer_amount";
+    case TB_CREATE_TRANSFER_PENDING_TRANSFER_HAS_DIFFERENT_AMOUNT:
+        return "pending_transfer_has_different_amount";
+    case TB_CREATE_TRANSFER_PENDING_TRANSFER_ALREADY_POSTED:
+        return "pending_transfer_already_posted";
+    case TB_CREATE_TRANSFER_PENDING_TRANSFER_ALREADY_VOIDED:
+        return "pending_transfer_already_voided";
     case TB_CREATE_TRANSFER_PENDING_TRANSFER_EXPIRED: return "pending_transfer_expired";
     case TB_CREATE_TRANSFER_EXISTS_WITH_DIFFERENT_FLAGS: return "exists_with_different_flags";
-    case TB_CREATE_TRANSFER_EXISTS_WITH_DIFFERENT_DEBIT_ACCOUNT_ID: return "exists_with_different_debit_account_id";
-    case TB_CREATE_TRANSFER_EXISTS_WITH_DIFFERENT_CREDIT_ACCOUNT_ID: return "exists_with_different_credit_account_id";
+    case TB_CREATE_TRANSFER_EXISTS_WITH_DIFFERENT_DEBIT_ACCOUNT_ID:
+        return "exists_with_different_debit_account_id";
+    case TB_CREATE_TRANSFER_EXISTS_WITH_DIFFERENT_CREDIT_ACCOUNT_ID:
+        return "exists_with_different_credit_account_id";
     case TB_CREATE_TRANSFER_EXISTS_WITH_DIFFERENT_AMOUNT: return "exists_with_different_amount";
-    case TB_CREATE_TRANSFER_EXISTS_WITH_DIFFERENT_PENDING_ID: return "exists_with_different_pending_id";
-    case TB_CREATE_TRANSFER_EXISTS_WITH_DIFFERENT_USER_DATA_128: return "exists_with_different_user_data_128";
-    case TB_CREATE_TRANSFER_EXISTS_WITH_DIFFERENT_USER_DATA_64: return "exists_with_different_user_data_64";
-    case TB_CREATE_TRANSFER_EXISTS_WITH_DIFFERENT_USER_DATA_32: return "exists_with_different_user_data_32";
+    case TB_CREATE_TRANSFER_EXISTS_WITH_DIFFERENT_PENDING_ID:
+        return "exists_with_different_pending_id";
+    case TB_CREATE_TRANSFER_EXISTS_WITH_DIFFERENT_USER_DATA_128:
+        return "exists_with_different_user_data_128";
+    case TB_CREATE_TRANSFER_EXISTS_WITH_DIFFERENT_USER_DATA_64:
+        return "exists_with_different_user_data_64";
+    case TB_CREATE_TRANSFER_EXISTS_WITH_DIFFERENT_USER_DATA_32:
+        return "exists_with_different_user_data_32";
     case TB_CREATE_TRANSFER_EXISTS_WITH_DIFFERENT_TIMEOUT: return "exists_with_different_timeout";
     case TB_CREATE_TRANSFER_EXISTS_WITH_DIFFERENT_CODE: return "exists_with_different_code";
     case TB_CREATE_TRANSFER_EXISTS: return "exists";
@@ -797,7 +867,8 @@ static inline const char *tb_create_transfer_result_name(uint32_t number) {
     case TB_CREATE_TRANSFER_OVERFLOWS_TIMEOUT: return "overflows_timeout";
     case TB_CREATE_TRANSFER_EXCEEDS_CREDITS: return "exceeds_credits";
     case TB_CREATE_TRANSFER_EXCEEDS_DEBITS: return "exceeds_debits";
-    case TB_CREATE_TRANSFER_CLOSING_TRANSFER_MUST_BE_PENDING: return "closing_transfer_must_be_pending";
+    case TB_CREATE_TRANSFER_CLOSING_TRANSFER_MUST_BE_PENDING:
+        return "closing_transfer_must_be_pending";
     case TB_CREATE_TRANSFER_DEBIT_ACCOUNT_ALREADY_CLOSED: return "debit_account_already_closed";
     case TB_CREATE_TRANSFER_CREDIT_ACCOUNT_ALREADY_CLOSED: return "credit_account_already_closed";
     case TB_CREATE_TRANSFER_EXISTS_WITH_DIFFERENT_LEDGER: return "exists_with_different_ledger";

@@ -225,8 +225,8 @@ WRONG = {
     ),
     "bytes of another session are loaded": (
         "Session",
-        "                || Frames.session(frame) != session\n",
-        "",
+        " || Frames.session(frame) != session\n",
+        "\n",
     ),
     "any reply will do": (
         "Frames",
@@ -335,15 +335,14 @@ WRONG = {
     ),
     "a file is written over": (
         "SavedFile",
-        "            Files.move(\n                    beside,\n                    path,\n"
-        "                    StandardCopyOption.ATOMIC_MOVE,\n"
+        "            Files.move(beside, path, StandardCopyOption.ATOMIC_MOVE,\n"
         "                    StandardCopyOption.REPLACE_EXISTING);\n",
         "            Files.write(path, data);\n            Files.delete(beside);\n",
     ),
     "a file forgets the request in doubt": (
         "SavedFile",
-        '                        + saved.pending() + "\\"}";\n',
-        '                        + "\\"}";\n',
+        ' + saved.pending() + "\\"}";\n',
+        ' + "\\"}";\n',
     ),
     "two fields of one name: the last one counts": (
         "Json",

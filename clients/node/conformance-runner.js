@@ -1,4 +1,5 @@
 #!/usr/bin/env node
+
 "use strict";
 
 // The runner of this client for the conformance kit: a JSON line in, a JSON line out.
@@ -324,7 +325,8 @@ class Runner {
   #said(session, said, line, operation) {
     if (line.require_ok) tb.requireOk(said);
     if (said === undefined) return { session: String(session.session) };
-    return CREATES.has(operation) ? { results: shownResults(said) } : { records: said.map(shownRecord) };
+    if (CREATES.has(operation)) return { results: shownResults(said) };
+    return { records: said.map(shownRecord) };
   }
 
   do_saved(line) {

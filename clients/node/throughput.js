@@ -1,4 +1,5 @@
 #!/usr/bin/env node
+
 "use strict";
 
 // Requests and transfers in a second, by this client and by the one in Python.

@@ -1,4 +1,5 @@
 #!/usr/bin/env node
+
 "use strict";
 
 // Sees that the kit catches wrong clients: this client with one thing wrong, each in turn.

@@ -1,4 +1,5 @@
-/* Memory for the library from an allocator of the program's own, linked in place of the kit's liblibc_c.a. */
+/* Memory for the library from an allocator of the program's own, linked in place of the kit's
+ * liblibc_c.a. */
 #include <stddef.h>
 #include <stdint.h>
 #include <string.h>
@@ -11,7 +12,8 @@ typedef struct rattle_tried {
 static _Alignas(16) uint8_t heap[1 << 24];
 static size_t used;
 
-/* Memory of so many bytes, and with ok 0 none. The pointer is never null; the alignment divides 16. */
+/* Memory of so many bytes, and with ok 0 none. The pointer is never null; the alignment divides 16.
+ */
 rattle_tried rattle_alloc(size_t size, size_t alignment) {
     size_t taken = size / 16 * 16 + 16;
     rattle_tried tried = {taken <= sizeof heap - used, heap + used};
@@ -28,6 +30,4 @@ rattle_tried rattle_realloc(void *at, size_t kept, size_t size, size_t alignment
 }
 
 /* What is freed is not used again. */
-void rattle_dealloc(void *at) {
-    (void)at;
-}
+void rattle_dealloc(void *at) { (void)at; }

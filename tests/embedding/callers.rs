@@ -12,7 +12,9 @@ fn returns(server: &mut Server, caller: &mut Caller, request: &[u8]) {
     server.serve(MOMENT, &frame, &mut room).unwrap(); // its reply is lost
     let stored = (caller.numbers(), caller.frame().to_vec());
     *caller = Caller::from_stored(stored.0, stored.1).unwrap();
-    let reply = server.serve(MOMENT, caller.again().unwrap(), &mut room).unwrap();
+    let reply = server
+        .serve(MOMENT, caller.again().unwrap(), &mut room)
+        .unwrap();
     assert_eq!(caller.received(&reply[..47]), Err(CallerFault::Malformed));
     assert_eq!(caller.received(reply), Ok((Heard::Returned, reply.len())));
     assert_eq!(caller.received(reply), Ok((Heard::Other, reply.len())));
@@ -30,14 +32,22 @@ fn ends(server: &mut Server, caller: &mut Caller, request: &[u8]) {
     assert_eq!(caller.received(reply), Ok((Heard::Ended, 48)));
     assert_eq!(caller.call(request), Err(CallerFault::Ended));
     assert_eq!(caller.frame(), frame);
-    let other = Numbers { session: 99, ..caller.numbers() };
-    assert_eq!(Caller::from_stored(other, frame).err(), Some(CallerFault::OtherSession));
+    let other = Numbers {
+        session: 99,
+        ..caller.numbers()
+    };
+    assert_eq!(
+        Caller::from_stored(other, frame).err(),
+        Some(CallerFault::OtherSession)
+    );
 }
 
 fn main() {
     let mut server = Server::open(1, 2).unwrap();
     let mut caller = Caller::new(1 << 64 | 7);
-    let lookup = Request::lookup_accounts(1, 1, 1, vec![5]).to_bytes().unwrap();
+    let lookup = Request::lookup_accounts(1, 1, 1, vec![5])
+        .to_bytes()
+        .unwrap();
     let register = Request::register(1).to_bytes().unwrap();
     assert_eq!(caller.call(&lookup), Err(CallerFault::NotRegistered));
     returns(&mut server, &mut caller, &register);

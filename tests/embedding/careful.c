@@ -1,7 +1,10 @@
-/* Serves a script with trouble at each step, and compares its replies with those of a file: careful MODE SCRIPT REPLIES.
+/* Serves a script with trouble at each step, and compares its replies with those of a file: careful
+ * MODE SCRIPT REPLIES.
  *
- *     memory    the k-th allocation fails, for each k until none does; what was refused is sent again
- *     small     each reply is first asked for in a room that is too small by one byte, which then has its first bytes
+ *     memory    the k-th allocation fails, for each k until none does; what was refused is sent
+ *               again
+ *     small     each reply is first asked for in a room that is too small by one byte, which then
+ *               has its first bytes
  *     time      no trouble: prints how many requests a second were served, the least of five runs
  *
  * Linked with -Wl,--wrap=malloc,--wrap=realloc. */
@@ -17,17 +20,11 @@ void *__real_realloc(void *at, size_t size);
 
 static long allocations, failing, refused;
 
-static int fails(void) {
-    return ++allocations == failing;
-}
+static int fails(void) { return ++allocations == failing; }
 
-void *__wrap_malloc(size_t size) {
-    return fails() ? NULL : __real_malloc(size);
-}
+void *__wrap_malloc(size_t size) { return fails() ? NULL : __real_malloc(size); }
 
-void *__wrap_realloc(void *at, size_t size) {
-    return fails() ? NULL : __real_realloc(at, size);
-}
+void *__wrap_realloc(void *at, size_t size) { return fails() ? NULL : __real_realloc(at, size); }
 
 static uint8_t *script, *replies, room[TB_REPLY_MAX];
 static size_t script_length, replies_length;
@@ -71,7 +68,8 @@ static void serve_all(int too_small_first) {
             uint8_t behind = room[wanted - 1] = (uint8_t)~replies[told + wanted - 1];
             status = tb_embed_serve(&server, moment, frame, length, room, wanted - 1, &written);
             if (status != TB_TOO_SMALL || written != wanted) fail("a small room was not told", at);
-            if (memcmp(room, replies + told, wanted - 1)) fail("a small room has other bytes than the reply's first", at);
+            if (memcmp(room, replies + told, wanted - 1))
+                fail("a small room has other bytes than the reply's first", at);
             if (room[wanted - 1] != behind) fail("a byte behind a small room was written", at);
         }
         status = tb_embed_serve(&server, moment, frame, length, room, sizeof room, &written);
@@ -79,7 +77,8 @@ static void serve_all(int too_small_first) {
             refused++;
             status = tb_embed_serve(&server, moment, frame, length, room, sizeof room, &written);
         }
-        if (status != TB_DONE || written != wanted || memcmp(room, replies + told, wanted)) fail("another reply", at);
+        if (status != TB_DONE || written != wanted || memcmp(room, replies + told, wanted))
+            fail("another reply", at);
         at += 8 + length, told += wanted;
     }
     if (told != replies_length) fail("another number of replies", at);
@@ -104,7 +103,8 @@ int main(int count, char **words) {
             failing++, allocations = 0;
             serve_all(0);
         } while (failing <= allocations);
-        printf("%ld allocations failed in turn, %ld calls were refused and made again\n", failing - 1, refused);
+        printf("%ld allocations failed in turn, %ld calls were refused and made again\n",
+            failing - 1, refused);
         if (refused == 0) return 1;
     } else {
         double least = 1e9;

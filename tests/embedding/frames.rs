@@ -168,11 +168,9 @@ fn print_items(reply: &Reply) {
         Status::Reply => Error::AnotherKind(reply.operation),
         status => Error::Refused(status),
     };
-    assert!(
-        kinds
-            .iter()
-            .all(|kind| *kind == Ok(()) || *kind == Err(wrong))
-    );
+    assert!(kinds
+        .iter()
+        .all(|kind| *kind == Ok(()) || *kind == Err(wrong)));
     assert_eq!(
         kinds.iter().filter(|kind| kind.is_ok()).count(),
         usize::from(reply.body != ReplyBody::Empty)

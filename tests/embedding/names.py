@@ -167,7 +167,7 @@ def enums_in_c(header):
 
 def texts_in_c(header):
     return {
-        tag: dict(re.findall(r'case TB_(\w+): return "([^"]+)";', body))
+        tag: dict(re.findall(r'case TB_(\w+):\s+return "([^"]+)";', body))
         for tag, body in re.findall(
             r"^static inline const char \*(\w+)_name\(.*?\{\n(.*?)^\}", header, re.M | re.S
         )

@@ -1,4 +1,5 @@
-/* Memory for the library from an allocator that refuses one allocation, linked in place of the kit's liblibc_c.a. */
+/* Memory for the library from an allocator that refuses one allocation, linked in place of the
+ * kit's liblibc_c.a. */
 #include <stddef.h>
 #include <stdint.h>
 #include <stdlib.h>
@@ -18,14 +19,10 @@ void refuse(int count) {
     was_refused = 0;
 }
 
-int refused(void) {
-    return was_refused;
-}
+int refused(void) { return was_refused; }
 
 /* The blocks that were not freed. */
-long left(void) {
-    return blocks;
-}
+long left(void) { return blocks; }
 
 static int is_refused(void) {
     if (until < 0 || until-- > 0) return 0;

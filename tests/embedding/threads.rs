@@ -3,7 +3,7 @@
 use std::sync::Mutex;
 use std::{env, fs, thread};
 
-use tb_embed::{Account, REPLY_MAX, Reply, ReplyBody, Request, Server, Transfer};
+use tb_embed::{Account, Reply, ReplyBody, Request, Server, Transfer, REPLY_MAX};
 
 fn length_of(frame: &[u8]) -> usize {
     48 + u32::from_le_bytes(frame[32..36].try_into().unwrap()) as usize

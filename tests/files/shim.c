@@ -1,9 +1,10 @@
-/* Stands between a program and the system: writes down what the program does to one file and to its output, and lets one call
-   fail, or lie. tests/files/test_keep.py loads it by LD_PRELOAD.
+/* Stands between a program and the system: writes down what the program does to one file and to its
+   output, and lets one call fail, or lie. tests/files/test_keep.py loads it by LD_PRELOAD.
 
    KEEP_FILE  the file. Where it is not set, nothing is done.
-   KEEP_LOG   where the calls are written down: a letter, two numbers of 8 bytes, and the bytes of a write. W at, length; T length, 0;
-              S 0, 0 after a sync that was done; F inode, 0 after that of a folder; O 0, length before a write to standard output.
+   KEEP_LOG   where the calls are written down: a letter, two numbers of 8 bytes, and the bytes of a
+              write. W at, length; T length, 0; S 0, 0 after a sync that was done; F inode, 0 after
+              that of a folder; O 0, length before a write to standard output.
    KEEP_FAULT one of
               write N E      the Nth write or cut of the file fails with errno E, and does nothing
               torn N K E     the Nth write takes K bytes, and the write behind it fails with E
@@ -13,10 +14,13 @@
               read N E       the Nth read of the file fails with errno E
               few K          each read of the file gives K bytes at most
               out L          standard output takes L bytes: what does not fit fails with ENOSPC
-              full L         no write makes the file longer than L bytes: what does not fit fails with ENOSPC
+              full L         no write makes the file longer than L bytes: what does not fit fails
+                             with ENOSPC
               nosync         syncs answer, and do nothing
-              early MS       writes that make the file no longer, and syncs after them, answer at once, and are done MS milliseconds after
-                             the next write to standard output. So is a latch that is opened; a file whose length is wrong would be noticed
+              early MS       writes that make the file no longer, and syncs after them, answer at
+                             once, and are done MS milliseconds after the next write to standard
+                             output. So is a latch that is opened; a file whose length is wrong
+                             would be noticed
 */
 #define _GNU_SOURCE
 #include <errno.h>
@@ -38,7 +42,13 @@ static char fault[16];
 static int failing, log_fd = -1, ready;
 
 /* writes that `early` holds back */
-struct held { int fd; off_t at; size_t len; char *bytes; struct held *next; };
+struct held {
+    int fd;
+    off_t at;
+    size_t len;
+    char *bytes;
+    struct held *next;
+};
 static struct held *held_first, **held_last = &held_first;
 
 static int is(const char *name) { return strcmp(fault, name) == 0; }
@@ -48,14 +58,17 @@ static void begin(void) {
     ready = 1;
     const char *text = getenv("KEEP_FAULT"), *log = getenv("KEEP_LOG");
     if (text) sscanf(text, "%15s %ld %ld %ld", fault, &first, &second, &third);
-    if (log) log_fd = syscall(SYS_openat, AT_FDCWD, log, O_WRONLY | O_CREAT | O_APPEND | O_CLOEXEC, 0600);
+    if (log)
+        log_fd =
+            syscall(SYS_openat, AT_FDCWD, log, O_WRONLY | O_CREAT | O_APPEND | O_CLOEXEC, 0600);
 }
 
 static int is_file(int fd) {
     const char *path = getenv("KEEP_FILE");
     struct stat a, b;
     begin();
-    return path && fd > 2 && fstat(fd, &a) == 0 && stat(path, &b) == 0 && a.st_ino == b.st_ino && a.st_dev == b.st_dev;
+    return path && fd > 2 && fstat(fd, &a) == 0 && stat(path, &b) == 0 && a.st_ino == b.st_ino &&
+        a.st_dev == b.st_dev;
 }
 
 static void note(char letter, uint64_t at, uint64_t len, const void *bytes) {
@@ -69,7 +82,10 @@ static void note(char letter, uint64_t at, uint64_t len, const void *bytes) {
     if (syscall(SYS_writev, log_fd, parts, 2) < 0) abort();
 }
 
-static int fail(long why) { errno = why; return -1; }
+static int fail(long why) {
+    errno = why;
+    return -1;
+}
 
 static ssize_t put(int fd, const void *bytes, size_t len, off_t at) {
     note('W', at, len, bytes);
@@ -85,7 +101,10 @@ static void hold(int fd, const void *bytes, size_t len, off_t at) {
     struct held *it = malloc(sizeof *it);
     if (!it || !(it->bytes = malloc(len + 1))) abort();
     if (len) memcpy(it->bytes, bytes, len);
-    it->fd = fd; it->len = len; it->at = at; it->next = 0;
+    it->fd = fd;
+    it->len = len;
+    it->at = at;
+    it->next = 0;
     *held_last = it;
     held_last = &it->next;
 }
@@ -111,7 +130,10 @@ static ssize_t write_file(int fd, const void *bytes, size_t len, off_t at) {
         if (at >= first) return fail(ENOSPC);
         return put(fd, bytes, first - at, at);
     }
-    if (is("early") && is_within(fd, at + len)) { hold(fd, bytes, len, at); return len; }
+    if (is("early") && is_within(fd, at + len)) {
+        hold(fd, bytes, len, at);
+        return len;
+    }
     if (n != first || !(is("torn") || is("short") || is("die"))) return put(fd, bytes, len, at);
     if (second < (long)len) len = second;
     if (is("torn")) failing = 1;
@@ -143,16 +165,26 @@ static int sync_file(int fd, long call) {
     if (is("nosync") || (is("early") && held_first)) return 0;
     int answer = syscall(call, fd);
     struct stat found;
-    if (answer == 0 && is_file(fd)) note('S', 0, 0, 0);
-    else if (answer == 0 && fstat(fd, &found) == 0 && S_ISDIR(found.st_mode)) note('F', found.st_ino, 0, 0);
+    if (answer == 0 && is_file(fd))
+        note('S', 0, 0, 0);
+    else if (answer == 0 && fstat(fd, &found) == 0 && S_ISDIR(found.st_mode))
+        note('F', found.st_ino, 0, 0);
     return answer;
 }
 
-ssize_t pwrite64(int fd, const void *bytes, size_t len, off_t at) { return is_file(fd) ? write_file(fd, bytes, len, at) : syscall(SYS_pwrite64, fd, bytes, len, at); }
-ssize_t pwrite(int fd, const void *bytes, size_t len, off_t at) { return pwrite64(fd, bytes, len, at); }
-ssize_t pread64(int fd, void *into, size_t len, off_t at) { return is_file(fd) ? read_file(fd, into, len, at) : syscall(SYS_pread64, fd, into, len, at); }
+ssize_t pwrite64(int fd, const void *bytes, size_t len, off_t at) {
+    return is_file(fd) ? write_file(fd, bytes, len, at) : syscall(SYS_pwrite64, fd, bytes, len, at);
+}
+ssize_t pwrite(int fd, const void *bytes, size_t len, off_t at) {
+    return pwrite64(fd, bytes, len, at);
+}
+ssize_t pread64(int fd, void *into, size_t len, off_t at) {
+    return is_file(fd) ? read_file(fd, into, len, at) : syscall(SYS_pread64, fd, into, len, at);
+}
 ssize_t pread(int fd, void *into, size_t len, off_t at) { return pread64(fd, into, len, at); }
-int ftruncate64(int fd, off_t len) { return is_file(fd) ? cut_file(fd, len) : syscall(SYS_ftruncate, fd, len); }
+int ftruncate64(int fd, off_t len) {
+    return is_file(fd) ? cut_file(fd, len) : syscall(SYS_ftruncate, fd, len);
+}
 int ftruncate(int fd, off_t len) { return ftruncate64(fd, len); }
 int fsync(int fd) { return sync_file(fd, SYS_fsync); }
 int fdatasync(int fd) { return sync_file(fd, SYS_fdatasync); }

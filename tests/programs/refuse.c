@@ -1,13 +1,16 @@
-/* Refuses one call of a program: the N-th growth, read or write that its own code asks for. Loaded before the C library:
+/* Refuses one call of a program: the N-th growth, read or write that its own code asks for. Loaded
+ * before the C library:
  *
  *     cc -shared -fPIC -O2 refuse.c -o refuse.so
  *     LD_PRELOAD=refuse.so REFUSE=growth REFUSE_AT=3 REFUSE_REPORT=report program ...
  *
- * REFUSE is growth (malloc and realloc answer that there is no memory), read or write (EIO), or stall (a write of bytes takes
- * none). With REFUSE_ON all later calls of that kind are refused too. A read of standard input moves REFUSE_READ bytes at the
- * most, a write to standard output REFUSE_WRITE bytes. The file REFUSE_REPORT has three numbers of 8 bytes then: the calls of
- * that kind that were asked for, those that were refused, and the blocks taken and not given back; they are kept in the file,
- * however the program ends. What the C library asks for itself, as for a thread, is let through. */
+ * REFUSE is growth (malloc and realloc answer that there is no memory), read or write (EIO), or
+ * stall (a write of bytes takes none). With REFUSE_ON all later calls of that kind are refused too.
+ * A read of standard input moves REFUSE_READ bytes at the most, a write to standard output
+ * REFUSE_WRITE bytes. The file REFUSE_REPORT has three numbers of 8 bytes then: the calls of that
+ * kind that were asked for, those that were refused, and the blocks taken and not given back; they
+ * are kept in the file, however the program ends. What the C library asks for itself, as for a
+ * thread, is let through. */
 #define _GNU_SOURCE
 #include <dlfcn.h>
 #include <errno.h>
@@ -86,7 +89,11 @@ __attribute__((constructor)) static void start(void) {
     refuses_on = getenv("REFUSE_ON") != NULL;
     most_read = in ? atol(in) : 0;
     most_written = out ? atol(out) : 0;
-    if (kind) refusing = !strcmp(kind, "growth") ? GROWTH : !strcmp(kind, "read") ? READ : !strcmp(kind, "write") ? WRITE : STALL;
+    if (kind)
+        refusing = !strcmp(kind, "growth") ? GROWTH
+            : !strcmp(kind, "read")        ? READ
+            : !strcmp(kind, "write")       ? WRITE
+                                           : STALL;
 }
 
 static int is_program(const void *caller) {

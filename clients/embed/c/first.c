@@ -1,5 +1,5 @@
-/* The first requests of a client: it registers, creates two accounts, and moves 100 from one to the other. It never sees that
- * reply, and sends the same bytes again: the money moves once. */
+/* The first requests of a client: it registers, creates two accounts, and moves 100 from one to the
+ * other. It never sees that reply, and sends the same bytes again: the money moves once. */
 #include "../tb_embed.h"
 
 #include <inttypes.h>
@@ -9,7 +9,8 @@
 enum { CASH = 1, SALES = 2, LEDGER = 700, CODE = 10 };
 
 /* Room for two records, in requests and in replies. */
-static uint8_t request[TB_HEADER_SIZE + 2 * TB_RECORD_SIZE], room[TB_HEADER_SIZE + 2 * TB_RECORD_SIZE];
+static uint8_t request[TB_HEADER_SIZE + 2 * TB_RECORD_SIZE],
+    room[TB_HEADER_SIZE + 2 * TB_RECORD_SIZE];
 
 static tb_server server;
 
@@ -35,7 +36,8 @@ static tb_transfer transfer(uint64_t id, uint64_t from, uint64_t to, uint64_t am
     return it;
 }
 
-/* Sends so many bytes of the request, and reads the reply: 1 where the request was executed, now or before. */
+/* Sends so many bytes of the request, and reads the reply: 1 where the request was executed, now or
+ * before. */
 static int executed(size_t length, tb_reply *reply) {
     uint64_t moment = 10; /* in nanoseconds: a true program asks its clock */
     size_t written;
@@ -55,12 +57,15 @@ static void print_transfers(const char *what, const tb_reply *reply) {
     tb_event_result result;
     printf("%s: entry %" PRIu64 ", %zu failed\n", what, tb_commit(&reply->header), reply->count);
     for (size_t i = 0; tb_reply_result(reply, i, &result); i++)
-        printf("  transfer %" PRIu32 " of the request: %s\n", result.index, tb_create_transfer_result_name(result.result));
+        printf("  transfer %" PRIu32 " of the request: %s\n", result.index,
+            tb_create_transfer_result_name(result.result));
 }
 
 static int first_requests(void) {
     tb_u128 client = tb_u128_of(7), ids[] = {tb_u128_of(CASH), tb_u128_of(SALES)};
-    tb_account accounts[] = {account(CASH, 0), account(SALES, TB_ACCOUNT_DEBITS_MUST_NOT_EXCEED_CREDITS)}, shown;
+    tb_account accounts[] = {account(CASH, 0),
+        account(SALES, TB_ACCOUNT_DEBITS_MUST_NOT_EXCEED_CREDITS)},
+               shown;
     tb_transfer sale = transfer(11, CASH, SALES, 100), refund = transfer(12, SALES, CASH, 250);
     tb_reply reply;
     uint64_t session;
@@ -72,12 +77,14 @@ static int first_requests(void) {
 
     length = tb_write_create_accounts(request, sizeof request, client, session, 1, accounts, 2);
     if (!executed(length, &reply)) return 0;
-    printf("create_accounts: entry %" PRIu64 ", %zu failed\n", tb_commit(&reply.header), reply.count);
+    printf(
+        "create_accounts: entry %" PRIu64 ", %zu failed\n", tb_commit(&reply.header), reply.count);
 
     length = tb_write_create_transfers(request, sizeof request, client, session, 2, &sale, 1);
     if (!executed(length, &reply)) return 0;
     printf("create_transfers: the reply is lost\n");
-    if (!executed(length, &reply)) return 0; /* the same bytes again: the first reply, and nothing is executed */
+    /* the same bytes again: the first reply, and nothing is executed */
+    if (!executed(length, &reply)) return 0;
     print_transfers("create_transfers, sent again", &reply);
 
     length = tb_write_create_transfers(request, sizeof request, client, session, 3, &refund, 1);
@@ -86,10 +93,11 @@ static int first_requests(void) {
 
     length = tb_write_lookup_accounts(request, sizeof request, client, session, 4, ids, 2);
     if (!executed(length, &reply)) return 0;
-    printf("lookup_accounts: entry %" PRIu64 ", %zu found\n", tb_commit(&reply.header), reply.count);
+    printf(
+        "lookup_accounts: entry %" PRIu64 ", %zu found\n", tb_commit(&reply.header), reply.count);
     for (size_t i = 0; tb_reply_account(&reply, i, &shown); i++)
-        printf("  account %" PRIu64 ": debits_posted %" PRIu64 ", credits_posted %" PRIu64 "\n", shown.id.low,
-               shown.debits_posted.low, shown.credits_posted.low);
+        printf("  account %" PRIu64 ": debits_posted %" PRIu64 ", credits_posted %" PRIu64 "\n",
+            shown.id.low, shown.debits_posted.low, shown.credits_posted.low);
     return 1;
 }
 

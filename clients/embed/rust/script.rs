@@ -2,7 +2,7 @@
 //! output: what `tbs run CLIENTS_MAX [PROFILE]` does, in Rust.
 use std::io::{self, BufReader, BufWriter, Read, Write};
 
-use tb_embed::{HEADER_SIZE, REPLY_MAX, REQUEST_MAX, RequestHeader, Server};
+use tb_embed::{RequestHeader, Server, HEADER_SIZE, REPLY_MAX, REQUEST_MAX};
 
 /// The next pair: the request's frame goes into the buffer. None at the end of the script.
 fn read_pair(script: &mut impl Read, frame: &mut Vec<u8>) -> io::Result<Option<u64>> {

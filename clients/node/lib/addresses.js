@@ -7,14 +7,12 @@ const { kindOf, listed, narrow } = require("./values.js");
 
 const HOST = "127.0.0.1"; // of a port alone
 const PORT = 3001; // of a host alone
+// a number in brackets with or without a port, a port alone, a name with or without a port
+const FORMS = [/^\[([^\]]+)\](?::(\d+))?$/, /^()(\d+)$/, /^([^:]*)(?::(\d+))?$/];
 
 function addressOf(text) {
   if (text.includes("/")) return text;
-  const [, host, port] =
-    /^\[([^\]]+)\](?::(\d+))?$/.exec(text) ??
-    /^()(\d+)$/.exec(text) ??
-    /^([^:]*)(?::(\d+))?$/.exec(text) ??
-    [];
+  const [, host, port] = FORMS.map((it) => it.exec(text)).find((it) => it !== null) ?? [];
   if (text === "" || host === undefined || (host === "" && port === undefined)) {
     const problem = "write a port, HOST, HOST:PORT, or a path with a slash";
     throw new InvalidValue("replica_addresses", `has "${text.slice(0, 60)}": ${problem}`);

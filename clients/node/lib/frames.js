@@ -38,9 +38,8 @@ const REPLY = placesOf("reply_header");
 const REQUEST_GAPS = gapsOf("request_header");
 const REPLY_GAPS = gapsOf("reply_header");
 // what a reply repeats of its request; the session of a register is new
-const REPEATED = LAYOUTS.reply_header.filter((it) =>
-  ["client", "session", "request", "operation"].includes(it.name),
-);
+const COPIED = ["client", "session", "request", "operation"];
+const REPEATED = LAYOUTS.reply_header.filter((it) => COPIED.includes(it.name));
 const RESULT = placesOf("result");
 const STATUS_MAX = Math.max(...Object.values(Status));
 const NAMES = new Map(Object.entries(Operation).map(([name, number]) => [number, name]));
@@ -180,7 +179,8 @@ function requestOf(frame) {
 // Replies
 
 function isZero(data, at, count) {
-  for (let place = at; place < at + count; place += 1) if (data[place] !== 0) return false;
+  for (let place = at; place < at + count; place += 1)
+    if (data[place] !== 0) return false;
   return true;
 }
 
@@ -238,7 +238,7 @@ function testAsked(frame, header) {
   const request = frame.readUInt32LE(REQUEST.request);
   throw new BadReply(
     `a reply to request ${header.readUInt32LE(REPLY.request)} of client ` +
-      `${shown(wideAt(header, REPLY.client))} came for request ${request}`,
+    `${shown(wideAt(header, REPLY.client))} came for request ${request}`,
   );
 }
 

@@ -91,8 +91,8 @@ async function settled(operation, frame, results, lookUp) {
   const names = new Map(results.map((it) => [it.index, it.result]));
   const doubtful = [...chains(frame)].filter(
     ([first, end]) =>
-      names.get(first) === "exists" &&
-      eventsOf(first + 1, end).every((it) => names.get(it) === "linked_event_failed"),
+    names.get(first) === "exists" &&
+    eventsOf(first + 1, end).every((it) => names.get(it) === "linked_event_failed"),
   );
   if (doubtful.length === 0) return results;
   const exists = results.find((it) => it.result === "exists");

@@ -221,7 +221,8 @@ class Worker {
       if (mayCome(why)) {
         this.#pool.giveBack(batch);
         await this.#pool.rest(this.#absence.next(why), why);
-      } else for (const it of batch) it.reject(why);
+      } else
+        for (const it of batch) it.reject(why);
     }
   }
 

@@ -54,7 +54,7 @@ function transportOf(transport) {
 /** The milliseconds that go by before each sending where the server said to come later. */
 function* pauses(first) {
   const most = Math.max(first, PAUSE_MAX);
-  for (let pause = first; ; pause = Math.min(2 * pause, most)) yield pause;
+  for (let pause = first;; pause = Math.min(2 * pause, most)) yield pause;
 }
 
 /** The bytes in doubt of what was saved, or none. */
@@ -145,8 +145,8 @@ class Session {
     askFrame = (session, operation, frame) =>
       session.#inTurn(undefined, () =>
         session.#pending === undefined
-          ? session.#askOnce(operation, frame)
-          : session.#send(undefined),
+        ? session.#askOnce(operation, frame)
+        : session.#send(undefined),
       );
   }
 
@@ -343,7 +343,7 @@ class Session {
     if (this.#pending === undefined) throw new NothingInDoubt("no request is in doubt");
     const later = pauses(this.#pause);
     let last; // what became of the last sending of this call
-    for (let left = this.#attempts; ; left -= 1) {
+    for (let left = this.#attempts;; left -= 1) {
       try {
         return await this.#once(signal, last !== undefined);
       } catch (why) {

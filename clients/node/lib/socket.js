@@ -25,7 +25,8 @@ const LAST_PAUSE = 500;
 const FIRST_WORD = 2; // milliseconds in which a server that takes no more says so
 const TICKET_MAX = 100; // milliseconds: not all servers send one
 const TICKET_PART = 4; // of the time that is left a ticket is waited for a fourth at most
-const PATH_MAX = { linux: 107, win32: 255 }[process.platform] ?? 103; // bytes of a socket's path
+const PATHS_MAX = { linux: 107, win32: 255 };
+const PATH_MAX = PATHS_MAX[process.platform] ?? 103; // bytes of a socket's path
 const CLOSED = "this Socket was closed";
 // begins what a server says before it closes a connection: fewer bytes than a frame has
 const TOLD = "tb_listen: ";
@@ -371,7 +372,7 @@ class Socket {
       const deadline = performance.now() + this.#timeout;
       const refusing = new Set();
       this.#cause = undefined;
-      for (let pause = FIRST_PAUSE; ; pause = Math.min(2 * pause, LAST_PAUSE)) {
+      for (let pause = FIRST_PAUSE;; pause = Math.min(2 * pause, LAST_PAUSE)) {
         const connection = await this.#connected(deadline, signal);
         this.#testOpen(); // a close may have come since the connection was made
         try {
@@ -414,7 +415,7 @@ class Socket {
     this.#testOpen();
     testLimit(signal, false);
     if (this.#connection?.isLeft) this.#lose();
-    for (let pause = FIRST_PAUSE; this.#connection === undefined; ) {
+    for (let pause = FIRST_PAUSE; this.#connection === undefined;) {
       const faults = await this.#callEach(deadline, signal);
       if (faults.length === 0) break;
       const left = deadline - performance.now();

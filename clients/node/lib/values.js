@@ -19,7 +19,8 @@ function kindOf(value) {
 /** A number as an error shows it: none that fills the page. */
 function shown(number) {
   if (typeof number === "bigint" && (number > U128 || number < -U128)) return "a larger number";
-  for (const bits of [128n, 64n]) if (number === 2n ** bits - 1n) return `2^${bits} - 1`;
+  for (const bits of [128n, 64n])
+    if (number === 2n ** bits - 1n) return `2^${bits} - 1`;
   return String(number);
 }
 

@@ -57,7 +57,8 @@ const clientOf = (place, more) =>
 test("calls that are made together go out as one request", async (t) => {
   const { place, requests } = await serving(t);
   const client = clientOf(place);
-  await Promise.all([1, 2, 3].map((it) => client.createTransfers(Array.from({ length: it }, sale))));
+  const lists = [1, 2, 3].map((it) => Array.from({ length: it }, sale));
+  await Promise.all(lists.map((it) => client.createTransfers(it)));
   assert.deepEqual(requests, [6]);
   await client.close();
   await assert.rejects(client.createTransfers([sale()]), tb.Closed);

@@ -64,7 +64,8 @@ test("the types, by tsc", { skip: isThere("tsc") ? false : "tsc is not there" },
 async function listener() {
   const server = ["python3", "-SE", STAND_IN];
   const words = ["-B", LISTENER, "--unix", "real.sock", "--", ...server];
-  const it = spawn("python3", [...words, "run", "ledger.journal", String(SESSIONS)], { cwd: folder });
+  words.push("run", "ledger.journal", String(SESSIONS));
+  const it = spawn("python3", words, { cwd: folder });
   await new Promise((resolve, reject) => {
     it.stderr.on("data", (said) => String(said).includes("listens on") && resolve());
     it.on("exit", () => reject(new Error("the listener ended")));
@@ -125,7 +126,8 @@ test("the README's program, a kill amid a sale, and one in doubt that is refused
   skip: needs,
 }, async () => {
   const readme = readFileSync(path.join(TOP, "README.md"), "utf8");
-  writeFileSync(path.join(folder, "money.mjs"), /```js\n(import { existsSync[^]*?)```/.exec(readme)[1]);
+  const [, money] = /```js\n(import { existsSync[^]*?)```/.exec(readme);
+  writeFileSync(path.join(folder, "money.mjs"), money);
   const process = await listener();
   const hooks = {};
   const server = await between(path.join(folder, "ledger.sock"), hooks);

@@ -89,7 +89,7 @@ test("nobody listens: CannotConnect, with the system's error", async () => {
   });
 });
 
-test("why no connection can be made is told, also where no time is left for the last call", async () => {
+test("why no connection can be made is told, also with no time left for a last call", async () => {
   const server = net.createServer((it) => setTimeout(() => it.destroy(), 50)); // it speaks no TLS
   servers.push(server);
   await new Promise((resolve) => server.listen(0, "127.0.0.1", resolve));

@@ -13,10 +13,13 @@ const SALE = { id: 11n, debit_account_id: 1n, credit_account_id: 2n, amount: 100
 
 /** A transport that answers by a function of the request's frame. */
 function direct(serve) {
-  return { sent: [], async exchange(frame, options) {
-    this.sent.push(Buffer.from(frame).toString("hex"));
-    return serve(Buffer.from(frame), options);
-  } };
+  return {
+    sent: [],
+    async exchange(frame, options) {
+      this.sent.push(Buffer.from(frame).toString("hex"));
+      return serve(Buffer.from(frame), options);
+    }
+  };
 }
 
 /** The reply to a request, with this status, body and session. */

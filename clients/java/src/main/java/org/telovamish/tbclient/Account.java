@@ -193,20 +193,12 @@ public final class Account {
     @Override
     public String toString() {
         return "Account{"
-                + "id=" + id()
-                + ", debits_pending=" + debitsPending()
-                + ", debits_posted=" + debitsPosted()
-                + ", credits_pending=" + creditsPending()
-                + ", credits_posted=" + creditsPosted()
-                + ", user_data_128=" + userData128()
-                + ", user_data_64=" + userData64()
-                + ", user_data_32=" + userData32()
-                + ", reserved=" + reserved()
-                + ", ledger=" + ledger()
-                + ", code=" + code()
-                + ", flags=" + flagNames()
-                + ", timestamp=" + timestamp()
-                + "}";
+                + "id=" + id() + ", debits_pending=" + debitsPending()
+                + ", debits_posted=" + debitsPosted() + ", credits_pending=" + creditsPending()
+                + ", credits_posted=" + creditsPosted() + ", user_data_128=" + userData128()
+                + ", user_data_64=" + userData64() + ", user_data_32=" + userData32()
+                + ", reserved=" + reserved() + ", ledger=" + ledger() + ", code=" + code()
+                + ", flags=" + flagNames() + ", timestamp=" + timestamp() + "}";
     }
 
     /** Makes an account. One thread at a time may use it. */
@@ -391,7 +383,8 @@ public final class Account {
          * @throws InvalidValueException where it is no such value
          */
         public Builder userData128(UUID value) {
-            Values.id(data, Layout.ACCOUNT_USER_DATA_128, "Account.user_data_128", UInt128.asBytes(value));
+            Values.id(data, Layout.ACCOUNT_USER_DATA_128, "Account.user_data_128",
+                    UInt128.asBytes(value));
             return this;
         }
 

@@ -112,7 +112,8 @@ public final class AccountBatch extends Batch {
      * @param value u128
      */
     public void setDebitsPending(BigInteger value) {
-        Values.u128(data(), place() + Layout.ACCOUNT_DEBITS_PENDING, "Account.debits_pending", value);
+        Values.u128(
+                data(), place() + Layout.ACCOUNT_DEBITS_PENDING, "Account.debits_pending", value);
     }
 
     /**
@@ -121,7 +122,8 @@ public final class AccountBatch extends Batch {
      * @param value u128
      */
     public void setDebitsPending(long value) {
-        Values.u128(data(), place() + Layout.ACCOUNT_DEBITS_PENDING, "Account.debits_pending", value);
+        Values.u128(
+                data(), place() + Layout.ACCOUNT_DEBITS_PENDING, "Account.debits_pending", value);
     }
 
     /**
@@ -186,7 +188,8 @@ public final class AccountBatch extends Batch {
      * @param value u128
      */
     public void setCreditsPending(BigInteger value) {
-        Values.u128(data(), place() + Layout.ACCOUNT_CREDITS_PENDING, "Account.credits_pending", value);
+        Values.u128(
+                data(), place() + Layout.ACCOUNT_CREDITS_PENDING, "Account.credits_pending", value);
     }
 
     /**
@@ -195,7 +198,8 @@ public final class AccountBatch extends Batch {
      * @param value u128
      */
     public void setCreditsPending(long value) {
-        Values.u128(data(), place() + Layout.ACCOUNT_CREDITS_PENDING, "Account.credits_pending", value);
+        Values.u128(
+                data(), place() + Layout.ACCOUNT_CREDITS_PENDING, "Account.credits_pending", value);
     }
 
     /**
@@ -223,7 +227,8 @@ public final class AccountBatch extends Batch {
      * @param value u128
      */
     public void setCreditsPosted(BigInteger value) {
-        Values.u128(data(), place() + Layout.ACCOUNT_CREDITS_POSTED, "Account.credits_posted", value);
+        Values.u128(
+                data(), place() + Layout.ACCOUNT_CREDITS_POSTED, "Account.credits_posted", value);
     }
 
     /**
@@ -232,7 +237,8 @@ public final class AccountBatch extends Batch {
      * @param value u128
      */
     public void setCreditsPosted(long value) {
-        Values.u128(data(), place() + Layout.ACCOUNT_CREDITS_POSTED, "Account.credits_posted", value);
+        Values.u128(
+                data(), place() + Layout.ACCOUNT_CREDITS_POSTED, "Account.credits_posted", value);
     }
 
     /**
@@ -269,7 +275,8 @@ public final class AccountBatch extends Batch {
      * @param value u128
      */
     public void setUserData128(UUID value) {
-        Values.id(data(), place() + Layout.ACCOUNT_USER_DATA_128, "Account.user_data_128", UInt128.asBytes(value));
+        Values.id(data(), place() + Layout.ACCOUNT_USER_DATA_128, "Account.user_data_128",
+                UInt128.asBytes(value));
     }
 
     /**

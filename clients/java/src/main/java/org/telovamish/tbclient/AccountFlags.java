@@ -18,12 +18,12 @@ public final class AccountFlags {
     public static final int CLOSED = 32;
 
     private static final String[] NAMES = {
-        "linked",
-        "debits_must_not_exceed_credits",
-        "credits_must_not_exceed_debits",
-        "history",
-        "imported",
-        "closed",
+            "linked",
+            "debits_must_not_exceed_credits",
+            "credits_must_not_exceed_debits",
+            "history",
+            "imported",
+            "closed",
     };
 
     private AccountFlags() {}

@@ -20,9 +20,8 @@ public final class Address {
     private static final int PORT = 3001; // of a host alone
     private static final String HOST = "127.0.0.1"; // of a port alone
     private static final Pattern TEXT =
-            Pattern.compile(
-                    "(?<alone>\\d+)|(\\[(?<number>[^\\]]+)\\]|(?<host>[^:\\[\\]]+|(?=:)))"
-                            + "(:(?<port>\\d+))?");
+            Pattern.compile("(?<alone>\\d+)|(\\[(?<number>[^\\]]+)\\]|(?<host>[^:\\[\\]]+|(?=:)))"
+                    + "(:(?<port>\\d+))?");
 
     private final Path path;
     private final String host;
@@ -98,15 +97,15 @@ public final class Address {
         }
         Matcher it = TEXT.matcher(text);
         if (text.isEmpty() || !it.matches()) {
-            throw new InvalidValueException(
-                    "replicaAddresses",
+            throw new InvalidValueException("replicaAddresses",
                     "has \"" + text + "\": write a port, HOST, HOST:PORT, or a path with a slash");
         }
         String port = it.group("alone") != null ? it.group("alone") : it.group("port");
         String host = it.group("number") != null ? it.group("number") : it.group("host");
-        return tcp(
-                host == null || host.isEmpty() ? HOST : host,
-                port == null ? PORT : port.length() > 5 ? 0 : Integer.parseInt(port));
+        return tcp(host == null || host.isEmpty() ? HOST : host,
+                port == null                ? PORT
+                        : port.length() > 5 ? 0
+                                            : Integer.parseInt(port));
     }
 
     boolean isUnix() {
@@ -136,10 +135,8 @@ public final class Address {
 
     @Override
     public boolean equals(Object other) {
-        return other instanceof Address it
-                && Objects.equals(path, it.path)
-                && Objects.equals(host, it.host)
-                && port == it.port;
+        return other instanceof Address it && Objects.equals(path, it.path)
+                && Objects.equals(host, it.host) && port == it.port;
     }
 
     @Override

@@ -11,8 +11,8 @@ import java.util.function.Function;
 import java.util.function.Supplier;
 
 /**
- * A client that threads share, with the calls of TigerBeetle's own. Lists of calls that wait while a
- * request is in flight go out as the next request, and each call gets its own results.
+ * A client that threads share, with the calls of TigerBeetle's own. Lists of calls that wait while
+ * a request is in flight go out as the next request, and each call gets its own results.
  *
  * <p>A call waits until its reply is there, whatever is lost and whoever ends meanwhile. One with a
  * {@code within} ends then as {@link CancelledException}, and so does one whose thread is
@@ -252,14 +252,13 @@ public final class Client implements AutoCloseable {
         CompletableFuture<T> own = new CompletableFuture<>();
         own.whenComplete((said, why) -> pool.leave(call)); // which may be the caller's cancel
         pool.ask(call);
-        call.future.whenComplete(
-                (said, why) -> {
-                    if (why != null) {
-                        own.completeExceptionally(why);
-                    } else {
-                        own.complete(shown.apply(said));
-                    }
-                });
+        call.future.whenComplete((said, why) -> {
+            if (why != null) {
+                own.completeExceptionally(why);
+            } else {
+                own.complete(shown.apply(said));
+            }
+        });
         return own;
     }
 

@@ -51,15 +51,18 @@ public enum CreateTransferResult implements ResultCode {
     /** The two accounts are of two ledgers. */
     ACCOUNTS_MUST_HAVE_THE_SAME_LEDGER(23, "accounts_must_have_the_same_ledger"),
     /** Its ledger is not that of the accounts. */
-    TRANSFER_MUST_HAVE_THE_SAME_LEDGER_AS_ACCOUNTS(24, "transfer_must_have_the_same_ledger_as_accounts"),
+    TRANSFER_MUST_HAVE_THE_SAME_LEDGER_AS_ACCOUNTS(
+            24, "transfer_must_have_the_same_ledger_as_accounts"),
     /** No transfer has its pending_id. */
     PENDING_TRANSFER_NOT_FOUND(25, "pending_transfer_not_found"),
     /** The transfer of its pending_id was not pending. */
     PENDING_TRANSFER_NOT_PENDING(26, "pending_transfer_not_pending"),
     /** It gives another debit account than the pending transfer. */
-    PENDING_TRANSFER_HAS_DIFFERENT_DEBIT_ACCOUNT_ID(27, "pending_transfer_has_different_debit_account_id"),
+    PENDING_TRANSFER_HAS_DIFFERENT_DEBIT_ACCOUNT_ID(
+            27, "pending_transfer_has_different_debit_account_id"),
     /** It gives another credit account than the pending transfer. */
-    PENDING_TRANSFER_HAS_DIFFERENT_CREDIT_ACCOUNT_ID(28, "pending_transfer_has_different_credit_account_id"),
+    PENDING_TRANSFER_HAS_DIFFERENT_CREDIT_ACCOUNT_ID(
+            28, "pending_transfer_has_different_credit_account_id"),
     /** It gives another ledger than the pending transfer. */
     PENDING_TRANSFER_HAS_DIFFERENT_LEDGER(29, "pending_transfer_has_different_ledger"),
     /** It gives another code than the pending transfer. */

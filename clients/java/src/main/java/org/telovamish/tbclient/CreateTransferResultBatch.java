@@ -11,7 +11,8 @@ public final class CreateTransferResultBatch extends ResultBatch<CreateTransferR
     /**
      * The results without those of a code.
      *
-     * @param code as {@link CreateTransferResult#EXISTS}, where the same transfers are created again
+     * @param code as {@link CreateTransferResult#EXISTS}, where the same transfers are created
+     *         again
      * @return the others, before the first of them
      */
     public CreateTransferResultBatch except(CreateTransferResult code) {

@@ -254,17 +254,15 @@ final class Frames {
 
     /** Tests that a reply's header, which has no fault, is of this request. */
     static void testAsked(byte[] frame, byte[] reply) {
-        boolean isOfIt =
-                Arrays.equals(frame, 0, 16, reply, 0, 16)
-                        && Arrays.equals(frame, 24, 29, reply, 24, 29)
-                        && (frame[Layout.REQUEST_HEADER_OPERATION] == REGISTER && isReply(reply)
-                                || session(frame) == session(reply));
+        boolean isOfIt = Arrays.equals(frame, 0, 16, reply, 0, 16)
+                && Arrays.equals(frame, 24, 29, reply, 24, 29)
+                && (frame[Layout.REQUEST_HEADER_OPERATION] == REGISTER && isReply(reply)
+                        || session(frame) == session(reply));
         if (!isOfIt) {
-            throw new BadReplyException(
-                    "a reply to request " + number(reply) + " of session "
-                            + Long.toUnsignedString(session(reply)) + ", of client " + client(reply)
-                            + ", came for request " + number(frame) + " of session "
-                            + Long.toUnsignedString(session(frame)));
+            throw new BadReplyException("a reply to request " + number(reply) + " of session "
+                    + Long.toUnsignedString(session(reply)) + ", of client " + client(reply)
+                    + ", came for request " + number(frame) + " of session "
+                    + Long.toUnsignedString(session(frame)));
         }
     }
 
@@ -314,9 +312,9 @@ final class Frames {
                 throw new BadReplyException("event " + index + " came with result " + code);
             }
             if (index >= count || index <= before) {
-                throw new BadReplyException(
-                        "a result of event " + index + " came for " + count + " events, behind that"
-                                + " of event " + before);
+                throw new BadReplyException("a result of event " + index + " came for " + count
+                        + " events, behind that"
+                        + " of event " + before);
             }
             found.add(new EventResult<>((int) index, result));
             before = index;
@@ -334,9 +332,8 @@ final class Frames {
                 id += Layout.ID_SIZE;
             }
             if (id >= frame.length) {
-                throw new BadReplyException(
-                        "a record with id " + Values.u128(reply, at)
-                                + " came, which was not looked up there");
+                throw new BadReplyException("a record with id " + Values.u128(reply, at)
+                        + " came, which was not looked up there");
             }
             id += Layout.ID_SIZE;
         }

@@ -15,8 +15,8 @@ import java.util.stream.Collectors;
 import java.util.stream.IntStream;
 
 /**
- * Lists that go out as one request: what its reply says for each, and what a chain did that was made
- * before.
+ * Lists that go out as one request: what its reply says for each, and what a chain did that was
+ * made before.
  */
 final class Joint {
     private static final int RESOLVING =
@@ -64,10 +64,8 @@ final class Joint {
         return records(bodies, found, Transfer::data, Answer.Transfers::new);
     }
 
-    private static <R extends ResultCode> List<Answer> results(
-            List<byte[]> bodies,
-            List<EventResult<R>> all,
-            Function<List<EventResult<R>>, Answer> make) {
+    private static <R extends ResultCode> List<Answer> results(List<byte[]> bodies,
+            List<EventResult<R>> all, Function<List<EventResult<R>>, Answer> make) {
         List<Answer> answers = new ArrayList<>();
         int first = 0;
         int at = 0;
@@ -84,11 +82,8 @@ final class Joint {
     }
 
     /** Records come in the order of the ids, and an id that is not there has none. */
-    private static <T> List<Answer> records(
-            List<byte[]> bodies,
-            List<T> all,
-            Function<T, byte[]> data,
-            Function<List<T>, Answer> make) {
+    private static <T> List<Answer> records(List<byte[]> bodies, List<T> all,
+            Function<T, byte[]> data, Function<List<T>, Answer> make) {
         List<Answer> answers = new ArrayList<>();
         int at = 0;
         for (byte[] ids : bodies) {
@@ -138,28 +133,28 @@ final class Joint {
      */
     static Answer settled(byte[] body, Answer said, BiFunction<Operation, byte[], Answer> lookUp) {
         if (said instanceof Answer.AccountResults it) {
-            Function<byte[], List<byte[]>> found =
-                    ids ->
-                            ((Answer.Accounts) lookUp.apply(Operation.LOOKUP_ACCOUNTS, ids))
-                                    .accounts().stream().map(Account::data).toList();
+            Function<byte[], List<byte[]>> found = ids
+                    -> ((Answer.Accounts) lookUp.apply(Operation.LOOKUP_ACCOUNTS, ids))
+                               .accounts()
+                               .stream()
+                               .map(Account::data)
+                               .toList();
             return new Answer.AccountResults(
                     settled(body, it.results(), found, CreateAccountResult.EXISTS, true));
         }
-        List<EventResult<CreateTransferResult>> results =
-                ((Answer.TransferResults) said).results();
-        Function<byte[], List<byte[]>> found =
-                ids ->
-                        ((Answer.Transfers) lookUp.apply(Operation.LOOKUP_TRANSFERS, ids))
-                                .transfers().stream().map(Transfer::data).toList();
+        List<EventResult<CreateTransferResult>> results = ((Answer.TransferResults) said).results();
+        Function<byte[], List<byte[]>> found = ids
+                -> ((Answer.Transfers) lookUp.apply(Operation.LOOKUP_TRANSFERS, ids))
+                           .transfers()
+                           .stream()
+                           .map(Transfer::data)
+                           .toList();
         return new Answer.TransferResults(
                 settled(body, results, found, CreateTransferResult.EXISTS, false));
     }
 
-    private static <R extends ResultCode> List<EventResult<R>> settled(
-            byte[] body,
-            List<EventResult<R>> results,
-            Function<byte[], List<byte[]>> lookUp,
-            R exists,
+    private static <R extends ResultCode> List<EventResult<R>> settled(byte[] body,
+            List<EventResult<R>> results, Function<byte[], List<byte[]>> lookUp, R exists,
             boolean areAccounts) {
         Map<Integer, String> names = new HashMap<>();
         results.forEach(it -> names.put(it.index(), it.result().label()));
@@ -172,7 +167,8 @@ final class Joint {
                 .flatMapToInt(Chain::events)
                 .forEach(it -> ids.write(body, it * Layout.RECORD_SIZE, Layout.ID_SIZE));
         Map<BigInteger, byte[]> there =
-                lookUp.apply(ids.toByteArray()).stream()
+                lookUp.apply(ids.toByteArray())
+                        .stream()
                         .collect(Collectors.toMap(it -> Values.u128(it, 0), it -> it, (a, b) -> a));
         Set<Integer> done = new HashSet<>();
         for (Chain it : doubtful) {
@@ -187,9 +183,8 @@ final class Joint {
 
     private static boolean isDoubtful(Chain chain, Map<Integer, String> names) {
         return "exists".equals(names.get(chain.first()))
-                && chain.events()
-                        .skip(1)
-                        .allMatch(it -> "linked_event_failed".equals(names.get(it)));
+                && chain.events().skip(1).allMatch(
+                        it -> "linked_event_failed".equals(names.get(it)));
     }
 
     private static byte[] record(byte[] body, int event) {
@@ -203,9 +198,8 @@ final class Joint {
         if (found == null) {
             return false;
         }
-        return areAccounts
-                ? isAccountAsAsked(asked, found.clone())
-                : isTransferAsAsked(asked, found);
+        return areAccounts ? isAccountAsAsked(asked, found.clone())
+                           : isTransferAsAsked(asked, found);
     }
 
     /** An account's sums have grown since, and it may have been closed or opened. */

@@ -9,8 +9,8 @@ import java.nio.ByteBuffer;
  */
 interface Link {
     /**
-     * Whether the server closed it, or said something while it was not asked. So it is where that is
-     * not known by the deadline.
+     * Whether the server closed it, or said something while it was not asked. So it is where that
+     * is not known by the deadline.
      */
     boolean isLeft(Deadline until);
 

@@ -15,8 +15,8 @@ import java.util.regex.Pattern;
 
 /**
  * Looks hosts' names up, and waits no longer than it may: Java's own lookup has no limit. One that
- * takes longer goes on in a daemon thread. Who asks for its name meanwhile waits for it too, so that
- * there is one thread for a name at most.
+ * takes longer goes on in a daemon thread. Who asks for its name meanwhile waits for it too, so
+ * that there is one thread for a name at most.
  */
 final class Lookup {
     static final Lookup SYSTEM = new Lookup(InetAddress::getAllByName);
@@ -63,15 +63,13 @@ final class Lookup {
     }
 
     private Future<InetAddress[]> begin(String host) {
-        FutureTask<InetAddress[]> task =
-                new FutureTask<>(
-                        () -> {
-                            try {
-                                return resolver.resolve(host);
-                            } finally {
-                                end(host);
-                            }
-                        });
+        FutureTask<InetAddress[]> task = new FutureTask<>(() -> {
+            try {
+                return resolver.resolve(host);
+            } finally {
+                end(host);
+            }
+        });
         Thread thread = new Thread(task, "tbclient lookup of " + host);
         thread.setDaemon(true);
         thread.start();

@@ -14,7 +14,8 @@ import java.util.function.Supplier;
  * its next request, in one.
  */
 final class Pool {
-    private static final String NOT_SENT = "the client was closed, and nothing of this call was sent";
+    private static final String NOT_SENT =
+            "the client was closed, and nothing of this call was sent";
 
     private final Supplier<Transport> connect;
     private final Supplier<BigInteger> ids;

@@ -15,15 +15,8 @@ import java.util.List;
  * @param transfers the transfers to create
  * @param ids the ids to look up
  */
-public record Request(
-        BigInteger client,
-        BigInteger session,
-        long number,
-        Operation operation,
-        List<Account> accounts,
-        List<Transfer> transfers,
-        List<BigInteger> ids) {
-
+public record Request(BigInteger client, BigInteger session, long number, Operation operation,
+        List<Account> accounts, List<Transfer> transfers, List<BigInteger> ids) {
     /**
      * What it asks for, as {@link Session#prepare} takes it.
      *

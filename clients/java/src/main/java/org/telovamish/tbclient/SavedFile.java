@@ -28,8 +28,7 @@ final class SavedFile {
     private static final int LINKS_MAX = 40; // that the system follows
     private static final AtomicLong COUNT = new AtomicLong();
     private static final FileAttribute<?>[] OWNERS = {
-        PosixFilePermissions.asFileAttribute(PosixFilePermissions.fromString("rw-------"))
-    };
+            PosixFilePermissions.asFileAttribute(PosixFilePermissions.fromString("rw-------"))};
 
     private SavedFile() {}
 
@@ -104,8 +103,8 @@ final class SavedFile {
 
     /**
      * Puts a file at this path, or where a link there leads, with the old one's permissions, or
-     * 0600. Where that fails the old file is left, and nothing next to it. Only a kill may leave the new one
-     * next to it, which nobody reads.
+     * 0600. Where that fails the old file is left, and nothing next to it. Only a kill may leave
+     * the new one next to it, which nobody reads.
      */
     static void write(Path path, Saved saved) {
         try {
@@ -115,13 +114,10 @@ final class SavedFile {
         } catch (IOException why) {
             throw new FileException(path + " cannot be written: " + why, why);
         }
-        String text =
-                "{\"client\": " + saved.client() + ", \"session\": " + saved.session()
-                        + ", \"number\": " + saved.number() + ", \"pending\": \""
-                        + saved.pending() + "\"}";
+        String text = "{\"client\": " + saved.client() + ", \"session\": " + saved.session()
+                + ", \"number\": " + saved.number() + ", \"pending\": \"" + saved.pending() + "\"}";
         try {
-            replaceWhole(
-                    linked(path.toAbsolutePath()), text.getBytes(StandardCharsets.US_ASCII));
+            replaceWhole(linked(path.toAbsolutePath()), text.getBytes(StandardCharsets.US_ASCII));
         } catch (IOException why) {
             throw new FileException(path + " cannot be written: " + why, why);
         }
@@ -136,7 +132,9 @@ final class SavedFile {
         return found;
     }
 
-    /** Replaces a file. An interrupt, which closes a file that is written, is kept for the caller. */
+    /**
+     * Replaces a file. An interrupt, which closes a file that is written, is kept for the caller.
+     */
     private static void replaceWhole(Path path, byte[] data) throws IOException {
         boolean isInterrupted = false;
         try {
@@ -162,10 +160,7 @@ final class SavedFile {
         }
         Path beside = written(path, name.toString(), data);
         try {
-            Files.move(
-                    beside,
-                    path,
-                    StandardCopyOption.ATOMIC_MOVE,
+            Files.move(beside, path, StandardCopyOption.ATOMIC_MOVE,
                     StandardCopyOption.REPLACE_EXISTING);
         } catch (IOException | RuntimeException why) {
             Files.deleteIfExists(beside);
@@ -187,11 +182,9 @@ final class SavedFile {
         while (true) {
             String own = ProcessHandle.current().pid() + "-" + COUNT.incrementAndGet();
             Path beside = path.resolveSibling(name + "." + own + ".new");
-            try (FileChannel file =
-                    FileChannel.open(
-                            beside,
-                            Set.of(StandardOpenOption.CREATE_NEW, StandardOpenOption.WRITE),
-                            isPosix(path) ? OWNERS : new FileAttribute<?>[0])) {
+            try (FileChannel file = FileChannel.open(beside,
+                         Set.of(StandardOpenOption.CREATE_NEW, StandardOpenOption.WRITE),
+                         isPosix(path) ? OWNERS : new FileAttribute<?>[ 0 ])) {
                 keepPermissions(path, beside);
                 fill(file, beside, data);
                 return beside;

@@ -98,8 +98,7 @@ public final class Session implements AutoCloseable {
      */
     public static Session resume(Transport transport, Saved saved, SessionOptions options) {
         Values.given("saved", saved);
-        Session it =
-                new Session(transport, Values.client("saved.client", saved.client()), options);
+        Session it = new Session(transport, Values.client("saved.client", saved.client()), options);
         it.session = Values.whole("saved.session", saved.session(), 64).longValue();
         it.number = Values.within("saved.number", saved.number(), 0, Values.U32);
         it.pending = it.pendingOf(Values.given("saved.pending", saved.pending()));
@@ -120,11 +119,9 @@ public final class Session implements AutoCloseable {
         }
         Frames.testRequest(field, frame);
         boolean isRegister = Frames.operation(frame) == Operation.REGISTER;
-        if (!Frames.client(frame).equals(client)
-                || Frames.session(frame) != session
+        if (!Frames.client(frame).equals(client) || Frames.session(frame) != session
                 || Frames.number(frame) != (isRegister ? 0 : number + 1)
-                || isRegister && number != 0
-                || !isRegister && session == 0) {
+                || isRegister && number != 0 || !isRegister && session == 0) {
             throw new InvalidValueException(field, "is not the next request of this session");
         }
         return frame;
@@ -422,10 +419,9 @@ public final class Session implements AutoCloseable {
         if (refused == null) {
             throw new InDoubtException("the last request has no reply yet: retry it");
         }
-        String why =
-                refused instanceof EvictedException
-                        ? "the session has ended (%s): register anew, and see inDoubt"
-                        : "the last request was refused (%s), and is in doubt: see inDoubt";
+        String why = refused instanceof EvictedException
+                ? "the session has ended (%s): register anew, and see inDoubt"
+                : "the last request was refused (%s), and is in doubt: see inDoubt";
         throw new InDoubtException(String.format(why, refused.status().label()));
     }
 
@@ -463,7 +459,7 @@ public final class Session implements AutoCloseable {
         ClientException last = null; // what became of the last attempt of this call
         long pause = options.pause().toNanos();
         long greatest = Math.max(pause, PAUSE_MAX);
-        for (int left = options.attempts() - 1; ; left--) {
+        for (int left = options.attempts() - 1;; left--) {
             try {
                 return take(exchange(limit));
             } catch (ReplyLostException | NotYetException why) {
@@ -522,9 +518,8 @@ public final class Session implements AutoCloseable {
         Frames.testWhole(pending, reply);
         Status status = Frames.status(reply);
         if (status != Status.REPLY) {
-            refused =
-                    RefusedException.of(
-                            status, Frames.number(pending), Long.toUnsignedString(session));
+            refused = RefusedException.of(
+                    status, Frames.number(pending), Long.toUnsignedString(session));
             throw refused;
         }
         Answer said = Frames.said(pending, reply);

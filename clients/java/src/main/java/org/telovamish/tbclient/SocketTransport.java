@@ -7,8 +7,8 @@ import java.net.SocketTimeoutException;
 import java.net.UnknownHostException;
 import java.nio.ByteBuffer;
 import java.nio.charset.StandardCharsets;
-import java.security.cert.CertificateException;
 import java.security.cert.CertPathValidatorException;
+import java.security.cert.CertificateException;
 import java.time.Duration;
 import java.util.HashSet;
 import java.util.List;
@@ -41,9 +41,8 @@ public final class SocketTransport implements Transport {
     // alerts by which a server refuses this client, whose request it does not read. The last one
     // says so in TLS 1.2, where the server wants a certificate
     private static final Pattern REFUSAL =
-            Pattern.compile(
-                    "Received fatal alert: (\\w*certificate\\w*|unknown_ca|access_denied"
-                            + "|handshake_failure)$");
+            Pattern.compile("Received fatal alert: (\\w*certificate\\w*|unknown_ca|access_denied"
+                    + "|handshake_failure)$");
 
     private final List<Address> addresses;
     private final Duration timeout;
@@ -129,7 +128,7 @@ public final class SocketTransport implements Transport {
      */
     private byte[] answered(byte[] frame, Deadline until, Deadline limit) {
         Set<Address> refusing = new HashSet<>();
-        for (long pause = FIRST_PAUSE; ; pause = Math.min(2 * pause, LAST_PAUSE)) {
+        for (long pause = FIRST_PAUSE;; pause = Math.min(2 * pause, LAST_PAUSE)) {
             connect(until, limit);
             try {
                 return exchanged(frame, until, limit);
@@ -270,7 +269,7 @@ public final class SocketTransport implements Transport {
     /** Calls the places of an address in order. Each has a share of the time. */
     Link called(Address address, List<SocketAddress> places, Deadline until) throws IOException {
         IOException fault = null; // the last one, but the end of the time says less than another
-        for (int left = places.size(); ; left--) {
+        for (int left = places.size();; left--) {
             SocketAddress place = places.get(places.size() - left);
             Deadline share = until.sooner(until.left() / left);
             try {
@@ -388,9 +387,8 @@ public final class SocketTransport implements Transport {
             return new ReplyLostException("the server closed the connection", "", cause);
         }
         String text = "the server closed the connection: " + told;
-        return LATER.contains(told)
-                ? new BusyException(text, told)
-                : new ReplyLostException(text, told, cause);
+        return LATER.contains(told) ? new BusyException(text, told)
+                                    : new ReplyLostException(text, told, cause);
     }
 
     /**

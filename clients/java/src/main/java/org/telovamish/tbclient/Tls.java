@@ -119,8 +119,8 @@ public final class Tls {
             byte[] data = Base64.getMimeDecoder().decode(inside);
             return KeyFactory.getInstance(algorithm).generatePrivate(new PKCS8EncodedKeySpec(data));
         } catch (InvalidKeySpecException | IllegalArgumentException why) {
-            throw new InvalidValueException(
-                    "key", "is no " + algorithm + " key, as the certificate's: " + why.getMessage());
+            throw new InvalidValueException("key",
+                    "is no " + algorithm + " key, as the certificate's: " + why.getMessage());
         }
     }
 

@@ -69,7 +69,7 @@ final class TlsLink implements Link {
                 gather(until);
                 return true;
             case NEED_TASK:
-                for (Runnable it = engine.getDelegatedTask(); it != null; ) {
+                for (Runnable it = engine.getDelegatedTask(); it != null;) {
                     it.run();
                     it = engine.getDelegatedTask();
                 }
@@ -117,7 +117,9 @@ final class TlsLink implements Link {
         }
     }
 
-    /** Throws the alert that the server sent before it closed the connection, where there is one. */
+    /**
+     * Throws the alert that the server sent before it closed the connection, where there is one.
+     */
     private void hear(Deadline until) throws SSLException {
         try {
             while (unwrap() != SSLEngineResult.Status.CLOSED && link.read(in, until)) {

@@ -193,20 +193,12 @@ public final class Transfer {
     @Override
     public String toString() {
         return "Transfer{"
-                + "id=" + id()
-                + ", debit_account_id=" + debitAccountId()
-                + ", credit_account_id=" + creditAccountId()
-                + ", amount=" + amount()
-                + ", pending_id=" + pendingId()
-                + ", user_data_128=" + userData128()
-                + ", user_data_64=" + userData64()
-                + ", user_data_32=" + userData32()
-                + ", timeout=" + timeout()
-                + ", ledger=" + ledger()
-                + ", code=" + code()
-                + ", flags=" + flagNames()
-                + ", timestamp=" + timestamp()
-                + "}";
+                + "id=" + id() + ", debit_account_id=" + debitAccountId()
+                + ", credit_account_id=" + creditAccountId() + ", amount=" + amount()
+                + ", pending_id=" + pendingId() + ", user_data_128=" + userData128()
+                + ", user_data_64=" + userData64() + ", user_data_32=" + userData32()
+                + ", timeout=" + timeout() + ", ledger=" + ledger() + ", code=" + code()
+                + ", flags=" + flagNames() + ", timestamp=" + timestamp() + "}";
     }
 
     /** Makes a transfer. One thread at a time may use it. */
@@ -295,7 +287,8 @@ public final class Transfer {
          * @throws InvalidValueException where it is no such value
          */
         public Builder debitAccountId(UUID value) {
-            Values.id(data, Layout.TRANSFER_DEBIT_ACCOUNT_ID, "Transfer.debit_account_id", UInt128.asBytes(value));
+            Values.id(data, Layout.TRANSFER_DEBIT_ACCOUNT_ID, "Transfer.debit_account_id",
+                    UInt128.asBytes(value));
             return this;
         }
 
@@ -319,7 +312,8 @@ public final class Transfer {
          * @throws InvalidValueException where it is no such value
          */
         public Builder creditAccountId(BigInteger value) {
-            Values.u128(data, Layout.TRANSFER_CREDIT_ACCOUNT_ID, "Transfer.credit_account_id", value);
+            Values.u128(
+                    data, Layout.TRANSFER_CREDIT_ACCOUNT_ID, "Transfer.credit_account_id", value);
             return this;
         }
 
@@ -331,7 +325,8 @@ public final class Transfer {
          * @throws InvalidValueException where it is no such value
          */
         public Builder creditAccountId(long value) {
-            Values.u128(data, Layout.TRANSFER_CREDIT_ACCOUNT_ID, "Transfer.credit_account_id", value);
+            Values.u128(
+                    data, Layout.TRANSFER_CREDIT_ACCOUNT_ID, "Transfer.credit_account_id", value);
             return this;
         }
 
@@ -343,7 +338,8 @@ public final class Transfer {
          * @throws InvalidValueException where it is no such value
          */
         public Builder creditAccountId(UUID value) {
-            Values.id(data, Layout.TRANSFER_CREDIT_ACCOUNT_ID, "Transfer.credit_account_id", UInt128.asBytes(value));
+            Values.id(data, Layout.TRANSFER_CREDIT_ACCOUNT_ID, "Transfer.credit_account_id",
+                    UInt128.asBytes(value));
             return this;
         }
 
@@ -415,7 +411,8 @@ public final class Transfer {
          * @throws InvalidValueException where it is no such value
          */
         public Builder pendingId(UUID value) {
-            Values.id(data, Layout.TRANSFER_PENDING_ID, "Transfer.pending_id", UInt128.asBytes(value));
+            Values.id(data, Layout.TRANSFER_PENDING_ID, "Transfer.pending_id",
+                    UInt128.asBytes(value));
             return this;
         }
 
@@ -463,7 +460,8 @@ public final class Transfer {
          * @throws InvalidValueException where it is no such value
          */
         public Builder userData128(UUID value) {
-            Values.id(data, Layout.TRANSFER_USER_DATA_128, "Transfer.user_data_128", UInt128.asBytes(value));
+            Values.id(data, Layout.TRANSFER_USER_DATA_128, "Transfer.user_data_128",
+                    UInt128.asBytes(value));
             return this;
         }
 

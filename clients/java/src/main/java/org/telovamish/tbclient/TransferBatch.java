@@ -112,7 +112,8 @@ public final class TransferBatch extends Batch {
      * @param value u128
      */
     public void setDebitAccountId(byte[] value) {
-        Values.id(data(), place() + Layout.TRANSFER_DEBIT_ACCOUNT_ID, "Transfer.debit_account_id", value);
+        Values.id(data(), place() + Layout.TRANSFER_DEBIT_ACCOUNT_ID, "Transfer.debit_account_id",
+                value);
     }
 
     /**
@@ -121,7 +122,8 @@ public final class TransferBatch extends Batch {
      * @param value u128
      */
     public void setDebitAccountId(UUID value) {
-        Values.id(data(), place() + Layout.TRANSFER_DEBIT_ACCOUNT_ID, "Transfer.debit_account_id", UInt128.asBytes(value));
+        Values.id(data(), place() + Layout.TRANSFER_DEBIT_ACCOUNT_ID, "Transfer.debit_account_id",
+                UInt128.asBytes(value));
     }
 
     /**
@@ -130,7 +132,8 @@ public final class TransferBatch extends Batch {
      * @param value u128
      */
     public void setDebitAccountId(BigInteger value) {
-        Values.u128(data(), place() + Layout.TRANSFER_DEBIT_ACCOUNT_ID, "Transfer.debit_account_id", value);
+        Values.u128(data(), place() + Layout.TRANSFER_DEBIT_ACCOUNT_ID, "Transfer.debit_account_id",
+                value);
     }
 
     /**
@@ -139,7 +142,8 @@ public final class TransferBatch extends Batch {
      * @param value u128
      */
     public void setDebitAccountId(long value) {
-        Values.u128(data(), place() + Layout.TRANSFER_DEBIT_ACCOUNT_ID, "Transfer.debit_account_id", value);
+        Values.u128(data(), place() + Layout.TRANSFER_DEBIT_ACCOUNT_ID, "Transfer.debit_account_id",
+                value);
     }
 
     /**
@@ -167,7 +171,8 @@ public final class TransferBatch extends Batch {
      * @param value u128
      */
     public void setCreditAccountId(byte[] value) {
-        Values.id(data(), place() + Layout.TRANSFER_CREDIT_ACCOUNT_ID, "Transfer.credit_account_id", value);
+        Values.id(data(), place() + Layout.TRANSFER_CREDIT_ACCOUNT_ID, "Transfer.credit_account_id",
+                value);
     }
 
     /**
@@ -176,7 +181,8 @@ public final class TransferBatch extends Batch {
      * @param value u128
      */
     public void setCreditAccountId(UUID value) {
-        Values.id(data(), place() + Layout.TRANSFER_CREDIT_ACCOUNT_ID, "Transfer.credit_account_id", UInt128.asBytes(value));
+        Values.id(data(), place() + Layout.TRANSFER_CREDIT_ACCOUNT_ID, "Transfer.credit_account_id",
+                UInt128.asBytes(value));
     }
 
     /**
@@ -185,7 +191,8 @@ public final class TransferBatch extends Batch {
      * @param value u128
      */
     public void setCreditAccountId(BigInteger value) {
-        Values.u128(data(), place() + Layout.TRANSFER_CREDIT_ACCOUNT_ID, "Transfer.credit_account_id", value);
+        Values.u128(data(), place() + Layout.TRANSFER_CREDIT_ACCOUNT_ID,
+                "Transfer.credit_account_id", value);
     }
 
     /**
@@ -194,7 +201,8 @@ public final class TransferBatch extends Batch {
      * @param value u128
      */
     public void setCreditAccountId(long value) {
-        Values.u128(data(), place() + Layout.TRANSFER_CREDIT_ACCOUNT_ID, "Transfer.credit_account_id", value);
+        Values.u128(data(), place() + Layout.TRANSFER_CREDIT_ACCOUNT_ID,
+                "Transfer.credit_account_id", value);
     }
 
     /**
@@ -268,7 +276,8 @@ public final class TransferBatch extends Batch {
      * @param value u128
      */
     public void setPendingId(UUID value) {
-        Values.id(data(), place() + Layout.TRANSFER_PENDING_ID, "Transfer.pending_id", UInt128.asBytes(value));
+        Values.id(data(), place() + Layout.TRANSFER_PENDING_ID, "Transfer.pending_id",
+                UInt128.asBytes(value));
     }
 
     /**
@@ -323,7 +332,8 @@ public final class TransferBatch extends Batch {
      * @param value u128
      */
     public void setUserData128(UUID value) {
-        Values.id(data(), place() + Layout.TRANSFER_USER_DATA_128, "Transfer.user_data_128", UInt128.asBytes(value));
+        Values.id(data(), place() + Layout.TRANSFER_USER_DATA_128, "Transfer.user_data_128",
+                UInt128.asBytes(value));
     }
 
     /**
@@ -332,7 +342,8 @@ public final class TransferBatch extends Batch {
      * @param value u128
      */
     public void setUserData128(BigInteger value) {
-        Values.u128(data(), place() + Layout.TRANSFER_USER_DATA_128, "Transfer.user_data_128", value);
+        Values.u128(
+                data(), place() + Layout.TRANSFER_USER_DATA_128, "Transfer.user_data_128", value);
     }
 
     /**
@@ -341,7 +352,8 @@ public final class TransferBatch extends Batch {
      * @param value u128
      */
     public void setUserData128(long value) {
-        Values.u128(data(), place() + Layout.TRANSFER_USER_DATA_128, "Transfer.user_data_128", value);
+        Values.u128(
+                data(), place() + Layout.TRANSFER_USER_DATA_128, "Transfer.user_data_128", value);
     }
 
     /**

@@ -24,15 +24,15 @@ public final class TransferFlags {
     public static final int IMPORTED = 256;
 
     private static final String[] NAMES = {
-        "linked",
-        "pending",
-        "post_pending_transfer",
-        "void_pending_transfer",
-        "balancing_debit",
-        "balancing_credit",
-        "closing_debit",
-        "closing_credit",
-        "imported",
+            "linked",
+            "pending",
+            "post_pending_transfer",
+            "void_pending_transfer",
+            "balancing_debit",
+            "balancing_credit",
+            "closing_debit",
+            "closing_credit",
+            "imported",
     };
 
     private TransferFlags() {}

@@ -23,10 +23,12 @@ public final class ClientTest {
     /** Texts that are addresses, and texts that are none. */
     @Test
     public void addresses() {
-        for (String it : new String[] {"3000", "a", "a:1", "[::1]:3000", "[::1]", "./s", "a,b:2", ":1"}) {
+        for (String it :
+                new String[] {"3000", "a", "a:1", "[::1]:3000", "[::1]", "./s", "a,b:2", ":1"}) {
             client(it).close();
         }
-        for (String it : new String[] {"", ":", "a:b", "a:1:2", "70000", "a:0", "3000,", "123456"}) {
+        for (String it :
+                new String[] {"", ":", "a:b", "a:1:2", "70000", "a:0", "3000,", "123456"}) {
             assertThrows(it, InvalidValueException.class, () -> client(it));
         }
         assertThrows(InvalidValueException.class, () -> client());
@@ -39,7 +41,8 @@ public final class ClientTest {
         assertThrows(InvalidValueException.class, () -> it.withSessions(0));
         assertThrows(InvalidValueException.class, () -> it.withSessions(65));
         assertThrows(InvalidValueException.class, () -> it.withTimeout(Duration.ZERO));
-        assertThrows(InvalidValueException.class, () -> new Client(new byte[15], new String[] {"1"}));
+        assertThrows(
+                InvalidValueException.class, () -> new Client(new byte[15], new String[] {"1"}));
     }
 
     /** A batch is read and set one record at a time. */
@@ -69,15 +72,15 @@ public final class ClientTest {
         assertEquals(0xffffffffL, batch.get().timeout());
         assertFalse(batch.next());
         assertThrows(InvalidValueException.class, () -> UInt128.asBytes(-1));
-        assertArrayEquals(UInt128.asBytes(wide), new byte[] {1, 0, 0, 0, 0, 0, 0, 0, 2, 0, 0, 0, 0, 0, 0, 0});
+        assertArrayEquals(
+                UInt128.asBytes(wide), new byte[] {1, 0, 0, 0, 0, 0, 0, 0, 2, 0, 0, 0, 0, 0, 0, 0});
     }
 
     /** Results are read one at a time, and those of a code may be passed over. */
     @Test
     public void results() {
         List<EventResult<CreateTransferResult>> all =
-                List.of(
-                        new EventResult<>(1, CreateTransferResult.EXISTS),
+                List.of(new EventResult<>(1, CreateTransferResult.EXISTS),
                         new EventResult<>(4, CreateTransferResult.EXCEEDS_CREDITS));
         CreateTransferResultBatch batch = new CreateTransferResultBatch(all);
         assertThrows(IllegalStateException.class, batch::getIndex);

@@ -133,9 +133,9 @@ public final class ConformanceRunner {
             case "begin":
                 Operation kind = operation(line.get("operation"));
                 List<?> given = items(kind, line.get("items"), line);
-                begun.put(
-                        (String) line.get("call"),
-                        SharedRunner.begin(client(line, "shared"), kind, given, time(line, "within")));
+                begun.put((String) line.get("call"),
+                        SharedRunner.begin(
+                                client(line, "shared"), kind, given, time(line, "within")));
                 return null;
             case "end":
                 return said(line, begun(line).end());
@@ -143,10 +143,10 @@ public final class ConformanceRunner {
                 begun(line).future().cancel(true);
                 return null;
             case "parallel":
-                return together(
-                        list(line.get("calls")).stream()
-                                .<Callable<Object>>map(it -> () -> answer(fields(it)))
-                                .toList());
+                return together(list(line.get("calls"))
+                                        .stream()
+                                        .<Callable<Object>>map(it -> () -> answer(fields(it)))
+                                        .toList());
             default:
                 throw new Unsupported("no call " + name);
         }
@@ -178,8 +178,7 @@ public final class ConformanceRunner {
         List<String> addresses = new ArrayList<>();
         for (Object it : list(line.get("addresses"))) {
             Map<String, Object> address = fields(it);
-            addresses.add(
-                    address.containsKey("unix")
+            addresses.add(address.containsKey("unix")
                             ? (String) address.get("unix")
                             : address.get("host") + ":" + count(address, "port"));
         }
@@ -191,8 +190,7 @@ public final class ConformanceRunner {
             options = options.withSessions(count(line, "sessions"));
         }
         String[] places = addresses.toArray(new String[0]);
-        clients.put(
-                (String) line.get("shared"), new Client(UInt128.asBytes(0), places, options));
+        clients.put((String) line.get("shared"), new Client(UInt128.asBytes(0), places, options));
         return null;
     }
 
@@ -216,8 +214,7 @@ public final class ConformanceRunner {
         List<Address> addresses = new ArrayList<>();
         for (Object it : list(line.get("addresses"))) {
             Map<String, Object> address = fields(it);
-            addresses.add(
-                    address.containsKey("unix")
+            addresses.add(address.containsKey("unix")
                             ? Address.unix((String) address.get("unix"))
                             : Address.tcp((String) address.get("host"), count(address, "port")));
         }
@@ -290,11 +287,8 @@ public final class ConformanceRunner {
         if (pending != null && !(pending instanceof String)) {
             throw new Unrepresentable(pending);
         }
-        return new Saved(
-                wide(given.get("client")),
-                wide(given.get("session")),
-                narrow(given.get("number")),
-                (String) pending);
+        return new Saved(wide(given.get("client")), wide(given.get("session")),
+                narrow(given.get("number")), (String) pending);
     }
 
     private Object asked(Map<String, Object> line) {
@@ -311,16 +305,13 @@ public final class ConformanceRunner {
                 session.prepare(operation, items);
                 return said(line, session.retry(within));
             case CREATE_ACCOUNTS:
-                return said(
-                        line,
+                return said(line,
                         new Answer.AccountResults(session.createAccounts(cast(items), within)));
             case CREATE_TRANSFERS:
-                return said(
-                        line,
+                return said(line,
                         new Answer.TransferResults(session.createTransfers(cast(items), within)));
             case LOOKUP_ACCOUNTS:
-                return said(
-                        line, new Answer.Accounts(session.lookupAccounts(cast(items), within)));
+                return said(line, new Answer.Accounts(session.lookupAccounts(cast(items), within)));
             default:
                 return said(
                         line, new Answer.Transfers(session.lookupTransfers(cast(items), within)));
@@ -356,10 +347,10 @@ public final class ConformanceRunner {
         List<Object> times = list(line.get("times"));
         Iterator<Object> moments = times.iterator();
         Iterator<Object> drawn = list(line.get("random")).iterator();
-        Ids ids =
-                new Ids(
-                        () -> new BigDecimal(((Json.Number) moments.next()).text()).longValue(),
-                        () -> HexFormat.of().parseHex((String) drawn.next()));
+        Ids ids = new Ids(
+                ()
+                        -> new BigDecimal(((Json.Number) moments.next()).text()).longValue(),
+                () -> HexFormat.of().parseHex((String) drawn.next()));
         return times.stream().map(it -> ids.next().toString()).toList();
     }
 
@@ -368,7 +359,8 @@ public final class ConformanceRunner {
         int count = line.containsKey("count") ? count(line, "count") : 1;
         Callable<Object> some =
                 () -> Stream.generate(Ids::id).limit(count / threads).map(String::valueOf).toList();
-        return together(Collections.nCopies(threads, some)).stream()
+        return together(Collections.nCopies(threads, some))
+                .stream()
                 .flatMap(it -> list(it).stream())
                 .toList();
     }

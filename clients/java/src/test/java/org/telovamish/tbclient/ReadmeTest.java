@@ -23,7 +23,8 @@ import org.junit.rules.TemporaryFolder;
 /** The program of README.md, as it stands there, over a listener and its server. */
 public class ReadmeTest {
     private static final Path TOP = Path.of("../..").toAbsolutePath().normalize();
-    private static final Pattern BLOCK = Pattern.compile("```java\n(import .*?)```", Pattern.DOTALL);
+    private static final Pattern BLOCK =
+            Pattern.compile("```java\n(import .*?)```", Pattern.DOTALL);
     private static final int SESSIONS = 8;
     private static final int[] KILLS = {150, 350, 250}; // ms after the file is there
 
@@ -45,8 +46,7 @@ public class ReadmeTest {
         URL place = Session.class.getProtectionDomain().getCodeSource().getLocation();
         String client = new File(place.getPath()).getAbsolutePath();
         Process javac =
-                new ProcessBuilder(
-                                "javac", "-Xlint:all", "-Werror", "-cp", client, "Sale.java")
+                new ProcessBuilder("javac", "-Xlint:all", "-Werror", "-cp", client, "Sale.java")
                         .directory(folder.getRoot())
                         .inheritIO()
                         .start();
@@ -55,28 +55,15 @@ public class ReadmeTest {
     }
 
     private Process listener() throws IOException {
-        List<String> words =
-                List.of(
-                        "python3",
-                        "-B",
-                        TOP + "/apps/host/tb-listen",
-                        "--unix",
-                        "ledger.sock",
-                        "--",
-                        "python3",
-                        "-B",
-                        TOP + "/clients/python/tests/stand_in_tbd.py",
-                        "run",
-                        "ledger.journal",
-                        String.valueOf(SESSIONS));
-        Process it =
-                new ProcessBuilder(words)
-                        .directory(folder.getRoot())
-                        .redirectErrorStream(true)
-                        .start();
-        BufferedReader said =
-                new BufferedReader(
-                        new InputStreamReader(it.getInputStream(), StandardCharsets.UTF_8));
+        List<String> words = List.of("python3", "-B", TOP + "/apps/host/tb-listen", "--unix",
+                "ledger.sock", "--", "python3", "-B", TOP + "/clients/python/tests/stand_in_tbd.py",
+                "run", "ledger.journal", String.valueOf(SESSIONS));
+        Process it = new ProcessBuilder(words)
+                             .directory(folder.getRoot())
+                             .redirectErrorStream(true)
+                             .start();
+        BufferedReader said = new BufferedReader(
+                new InputStreamReader(it.getInputStream(), StandardCharsets.UTF_8));
         String line = said.readLine();
         while (line != null && line.contains("tbd: made")) { // the server may be the first
             line = said.readLine();

@@ -15,20 +15,19 @@ public class RecordsTest {
     private static final BigInteger WIDE = BigInteger.TWO.pow(128);
 
     /** Worked out by hand from the table of the page: each place, little-endian. */
-    private static final String TRANSFER =
-            "0b000000000000000000000000000000" // id 11
-                    + "01000000000000000000000000000000" // debit_account_id 1
-                    + "02000000000000000000000000000000" // credit_account_id 2
-                    + "ffffffffffffffffffffffffffffffff" // amount 2^128 - 1
-                    + "00000000000000000100000000000000" // pending_id 2^64
-                    + "00000000000000000000000000000000" // user_data_128
-                    + "0000000000000080" // user_data_64 2^63
-                    + "ffffffff" // user_data_32 2^32 - 1
-                    + "3c000000" // timeout 60
-                    + "bc020000" // ledger 700
-                    + "0a00" // code 10
-                    + "0300" // linked and pending
-                    + "0000000000000000"; // timestamp
+    private static final String TRANSFER = "0b000000000000000000000000000000" // id 11
+            + "01000000000000000000000000000000" // debit_account_id 1
+            + "02000000000000000000000000000000" // credit_account_id 2
+            + "ffffffffffffffffffffffffffffffff" // amount 2^128 - 1
+            + "00000000000000000100000000000000" // pending_id 2^64
+            + "00000000000000000000000000000000" // user_data_128
+            + "0000000000000080" // user_data_64 2^63
+            + "ffffffff" // user_data_32 2^32 - 1
+            + "3c000000" // timeout 60
+            + "bc020000" // ledger 700
+            + "0a00" // code 10
+            + "0300" // linked and pending
+            + "0000000000000000"; // timestamp
 
     private static Transfer transfer() {
         return Transfer.builder()

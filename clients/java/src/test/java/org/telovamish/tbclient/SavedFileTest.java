@@ -69,24 +69,12 @@ public class SavedFileTest {
 
     @Test
     public void whatIsNoSessionIsRefused() throws IOException {
-        List<String> wrong =
-                List.of(
-                        "[]",
-                        "null",
-                        TEXT + TEXT,
-                        TEXT.replace("7", "7.0"),
-                        TEXT.replace("7", "7e0"),
-                        TEXT.replace("7", "07"),
-                        TEXT.replace("7", "\"7\""),
-                        TEXT.replace("7", "9".repeat(1_000_000)),
-                        TEXT.replace("3", "-1"),
-                        TEXT.replace("3", "4294967296"),
-                        TEXT.replace("number", "client"),
-                        TEXT.replace("number", "nummer"),
-                        TEXT.replace("\"00ff\"", "null"),
-                        TEXT.replace("00ff", "\n"),
-                        TEXT.replace("00ff", "\u00e9"),
-                        "[".repeat(100_000));
+        List<String> wrong = List.of("[]", "null", TEXT + TEXT, TEXT.replace("7", "7.0"),
+                TEXT.replace("7", "7e0"), TEXT.replace("7", "07"), TEXT.replace("7", "\"7\""),
+                TEXT.replace("7", "9".repeat(1_000_000)), TEXT.replace("3", "-1"),
+                TEXT.replace("3", "4294967296"), TEXT.replace("number", "client"),
+                TEXT.replace("number", "nummer"), TEXT.replace("\"00ff\"", "null"),
+                TEXT.replace("00ff", "\n"), TEXT.replace("00ff", "\u00e9"), "[".repeat(100_000));
         for (String it : wrong) {
             Files.writeString(path, it);
             assertThrows(it, InvalidValueException.class, () -> SavedFile.read(path));
@@ -115,15 +103,13 @@ public class SavedFileTest {
     public void anInterruptWhileAFileIsWrittenIsNoFault() throws Exception {
         Thread writer = Thread.currentThread();
         AtomicBoolean ended = new AtomicBoolean();
-        Thread interrupts =
-                new Thread(
-                        () -> {
-                            for (int count = 0; count < 100; count++) {
-                                LockSupport.parkNanos(100_000);
-                                writer.interrupt();
-                            }
-                            ended.set(true);
-                        });
+        Thread interrupts = new Thread(() -> {
+            for (int count = 0; count < 100; count++) {
+                LockSupport.parkNanos(100_000);
+                writer.interrupt();
+            }
+            ended.set(true);
+        });
         interrupts.start();
         try {
             while (!ended.get()) {

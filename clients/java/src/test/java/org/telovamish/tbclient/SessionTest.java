@@ -28,14 +28,14 @@ public class SessionTest {
     private static final BigInteger CLIENT = BigInteger.valueOf(7);
     private static final SessionOptions TWICE = new SessionOptions(2, Duration.ofMillis(1));
     private static final String SEVEN = "07000000000000000000000000000000";
-    private static final String REGISTERED =
-            SEVEN + "01000000000000000000000002000000" + "00000000010000000000000000000000";
-    private static final String DONE =
-            SEVEN + "01000000000000000100000082000000" + "00000000020000000000000000000000";
-    private static final String COLLISION =
-            SEVEN + "01000000000000000100000082050000" + "00000000000000000000000000000000";
-    private static final String NO_SESSION =
-            SEVEN + "01000000000000000100000082010000" + "00000000000000000000000000000000";
+    private static final String REGISTERED = SEVEN + "01000000000000000000000002000000"
+            + "00000000010000000000000000000000";
+    private static final String DONE = SEVEN + "01000000000000000100000082000000"
+            + "00000000020000000000000000000000";
+    private static final String COLLISION = SEVEN + "01000000000000000100000082050000"
+            + "00000000000000000000000000000000";
+    private static final String NO_SESSION = SEVEN + "01000000000000000100000082010000"
+            + "00000000000000000000000000000000";
     private static final Transfer SALE =
             Transfer.builder().id(11).debitAccountId(1).creditAccountId(2).amount(5).build();
 
@@ -56,10 +56,7 @@ public class SessionTest {
         }
 
         Played fails(RuntimeException why) {
-            next.add(
-                    frame -> {
-                        throw why;
-                    });
+            next.add(frame -> { throw why; });
             return this;
         }
     }
@@ -75,7 +72,8 @@ public class SessionTest {
 
     @Test
     public void aRegisterHasTheFrameOfThePage() {
-        String frame = SEVEN + "00000000000000000000000002000000" + "0".repeat(32);
+        String frame = SEVEN + "00000000000000000000000002000000"
+                + "0".repeat(32);
         assertEquals(frame, HexFormat.of().formatHex(played.sent.get(0)));
         assertEquals(BigInteger.ONE, session.session());
     }
@@ -126,9 +124,8 @@ public class SessionTest {
     @Test
     public void aSendingThatCannotBeRepeatedIsLost() {
         played.fails(lost()).fails(new CannotConnectException("nobody on purpose", null));
-        ReplyLostException why =
-                assertThrows(
-                        ReplyLostException.class, () -> session.createTransfers(List.of(SALE)));
+        ReplyLostException why = assertThrows(
+                ReplyLostException.class, () -> session.createTransfers(List.of(SALE)));
         assertTrue(why.mayHaveSent());
         assertTrue(session.inDoubt().isPresent());
     }
@@ -137,8 +134,7 @@ public class SessionTest {
     public void aFaultOfATransportOfTheCallersKeepsTheRequest() {
         IllegalStateException fault = new IllegalStateException("on purpose");
         played.fails(fault);
-        assertSame(
-                fault,
+        assertSame(fault,
                 assertThrows(
                         IllegalStateException.class, () -> session.createTransfers(List.of(SALE))));
         assertTrue(session.inDoubt().isPresent());
@@ -147,9 +143,8 @@ public class SessionTest {
     @Test
     public void aRefusalIsNoAnswer() {
         played.says(COLLISION);
-        RefusedException why =
-                assertThrows(
-                        CollisionException.class, () -> session.createTransfers(List.of(SALE)));
+        RefusedException why = assertThrows(
+                CollisionException.class, () -> session.createTransfers(List.of(SALE)));
         assertEquals(Status.COLLISION, why.status());
         assertEquals(0, session.number());
         assertTrue(session.inDoubt().isPresent());
@@ -161,16 +156,11 @@ public class SessionTest {
     @Test
     public void whatIsNoReplyIsBad() {
         session.prepare(Operation.CREATE_TRANSFERS, List.of(SALE));
-        List<String> wrong =
-                List.of(
-                        "",
-                        DONE.substring(2),
-                        REGISTERED,
-                        DONE.replaceFirst("^07", "08"),
-                        DONE.replace("0100000082", "0200000082"),
-                        DONE.substring(0, 64) + "08" + DONE.substring(66) + "0100000007000000",
-                        DONE.substring(0, 64) + "08" + DONE.substring(66) + "0000000000000000",
-                        DONE.substring(0, 64) + "08" + DONE.substring(66) + "00000000ff000000");
+        List<String> wrong = List.of("", DONE.substring(2), REGISTERED,
+                DONE.replaceFirst("^07", "08"), DONE.replace("0100000082", "0200000082"),
+                DONE.substring(0, 64) + "08" + DONE.substring(66) + "0100000007000000",
+                DONE.substring(0, 64) + "08" + DONE.substring(66) + "0000000000000000",
+                DONE.substring(0, 64) + "08" + DONE.substring(66) + "00000000ff000000");
         for (String it : wrong) {
             played.says(it);
             assertThrows(it, BadReplyException.class, session::retry);
@@ -179,8 +169,7 @@ public class SessionTest {
         assertThrows(BadReplyException.class, session::retry);
         played.says(DONE.substring(0, 64) + "08" + DONE.substring(66) + "0000000007000000");
         EventsFailedException why =
-                assertThrows(
-                        EventsFailedException.class, () -> session.retry().requireOk());
+                assertThrows(EventsFailedException.class, () -> session.retry().requireOk());
         assertEquals("event 0: flags_are_mutually_exclusive", why.getMessage());
     }
 
@@ -188,12 +177,11 @@ public class SessionTest {
     public void whatItIsIsToldWhileARequestIsOnItsWay() throws Exception {
         CountDownLatch asked = new CountDownLatch(1);
         CountDownLatch answers = new CountDownLatch(1);
-        played.next.add(
-                frame -> {
-                    asked.countDown();
-                    assertTrue(isThere(answers));
-                    return HexFormat.of().parseHex(DONE);
-                });
+        played.next.add(frame -> {
+            asked.countDown();
+            assertTrue(isThere(answers));
+            return HexFormat.of().parseHex(DONE);
+        });
         FutureTask<?> call = new FutureTask<>(() -> session.createTransfers(List.of(SALE)));
         new Thread(call).start();
         asked.await();
@@ -221,10 +209,8 @@ public class SessionTest {
         SessionOptions slow = new SessionOptions(5, Duration.ofSeconds(50));
         Session other = Session.resume(played, session.saved(), slow);
         played.fails(new BusyException("busy on purpose"));
-        CancelledException why =
-                assertThrows(
-                        CancelledException.class,
-                        () -> other.createTransfers(List.of(SALE), Duration.ofMillis(20)));
+        CancelledException why = assertThrows(CancelledException.class,
+                () -> other.createTransfers(List.of(SALE), Duration.ofMillis(20)));
         assertTrue(why.mayHaveSent());
         assertTrue(other.inDoubt().isPresent());
     }
@@ -232,9 +218,8 @@ public class SessionTest {
     @Test
     public void anInterruptEndsACallAndIsKept() {
         Thread.currentThread().interrupt();
-        CancelledException why =
-                assertThrows(
-                        CancelledException.class, () -> session.createTransfers(List.of(SALE)));
+        CancelledException why = assertThrows(
+                CancelledException.class, () -> session.createTransfers(List.of(SALE)));
         assertTrue(Thread.interrupted());
         assertFalse(why.mayHaveSent());
         assertTrue(session.inDoubt().isEmpty());

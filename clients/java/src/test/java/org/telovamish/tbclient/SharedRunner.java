@@ -43,14 +43,15 @@ final class SharedRunner {
                 if (said instanceof CreateTransferResultBatch it) {
                     return results(it);
                 }
-                return said instanceof AccountBatch it ? records(it) : records((TransferBatch) said);
+                return said instanceof AccountBatch it ? records(it)
+                                                       : records((TransferBatch) said);
             } catch (CancellationException why) {
                 throw new Left();
             } catch (ExecutionException why) {
                 if (why.getCause() instanceof TimeoutException) {
                     throw new Left();
                 }
-                throw (RuntimeException) why.getCause();
+                throw(RuntimeException) why.getCause();
             } catch (InterruptedException why) {
                 throw new IllegalStateException(why);
             }

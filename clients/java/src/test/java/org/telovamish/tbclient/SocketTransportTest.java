@@ -59,26 +59,23 @@ public class SocketTransportTest {
     @Before
     public void listen() throws IOException {
         server = new ServerSocket(0, 50, InetAddress.getLoopbackAddress());
-        start(
-                () -> {
-                    while (true) {
-                        Socket it = server.accept();
-                        connections.incrementAndGet();
-                        start(() -> serve(it));
-                    }
-                });
+        start(() -> {
+            while (true) {
+                Socket it = server.accept();
+                connections.incrementAndGet();
+                start(() -> serve(it));
+            }
+        });
     }
 
     private static void start(Callable<Void> work) {
-        Thread it =
-                new Thread(
-                        () -> {
-                            try {
-                                work.call();
-                            } catch (Exception ended) {
-                                // the client closed it, or the test is over
-                            }
-                        });
+        Thread it = new Thread(() -> {
+            try {
+                work.call();
+            } catch (Exception ended) {
+                // the client closed it, or the test is over
+            }
+        });
         it.setDaemon(true);
         it.start();
     }
@@ -131,8 +128,7 @@ public class SocketTransportTest {
     public void aReplyThatDoesNotComeIsLostAndTheConnectionLeft() {
         try (Session session = registered(transport(SHORT))) {
             silent.set(1);
-            assertThrows(
-                    ReplyLostException.class,
+            assertThrows(ReplyLostException.class,
                     () -> session.lookupAccounts(List.of(BigInteger.ONE)));
             session.retry();
             assertEquals(2, connections.get());
@@ -144,10 +140,8 @@ public class SocketTransportTest {
     public void aLimitOfTheCallersEndsAWait() {
         try (Session session = registered(transport(Duration.ofSeconds(20)))) {
             silent.set(1);
-            CancelledException why =
-                    assertThrows(
-                            CancelledException.class,
-                            () -> session.lookupAccounts(List.of(BigInteger.ONE), SHORT));
+            CancelledException why = assertThrows(CancelledException.class,
+                    () -> session.lookupAccounts(List.of(BigInteger.ONE), SHORT));
             assertTrue(why.mayHaveSent());
             session.retry(Duration.ofSeconds(20));
         }
@@ -158,10 +152,8 @@ public class SocketTransportTest {
         try (Session session = registered(transport(Duration.ofSeconds(20)))) {
             for (long seconds : new long[] {0, -1, Long.MIN_VALUE}) {
                 Duration over = Duration.ofSeconds(seconds);
-                CancelledException why =
-                        assertThrows(
-                                CancelledException.class,
-                                () -> session.lookupAccounts(List.of(BigInteger.ONE), over));
+                CancelledException why = assertThrows(CancelledException.class,
+                        () -> session.lookupAccounts(List.of(BigInteger.ONE), over));
                 assertFalse(why.mayHaveSent());
                 assertTrue(session.inDoubt().isEmpty());
             }
@@ -176,16 +168,13 @@ public class SocketTransportTest {
         try (Session session = registered(transport(Duration.ofSeconds(20)))) {
             silent.set(1);
             Thread caller = Thread.currentThread();
-            start(
-                    () -> {
-                        Thread.sleep(100);
-                        caller.interrupt();
-                        return null;
-                    });
-            CancelledException why =
-                    assertThrows(
-                            CancelledException.class,
-                            () -> session.lookupAccounts(List.of(BigInteger.ONE)));
+            start(() -> {
+                Thread.sleep(100);
+                caller.interrupt();
+                return null;
+            });
+            CancelledException why = assertThrows(CancelledException.class,
+                    () -> session.lookupAccounts(List.of(BigInteger.ONE)));
             assertTrue(why.mayHaveSent());
             assertTrue(Thread.interrupted());
             session.retry();
@@ -218,8 +207,7 @@ public class SocketTransportTest {
                     List.of(full.getLocalSocketAddress(), atOnce.getLocalAddress());
             Deadline until = Deadline.in(Duration.ofSeconds(20));
             Thread.currentThread().interrupt();
-            assertThrows(
-                    InterruptedIOException.class,
+            assertThrows(InterruptedIOException.class,
                     () -> transport.called(Address.tcp("localhost", 1), places, until));
             assertTrue(Thread.interrupted());
         } finally {
@@ -240,12 +228,8 @@ public class SocketTransportTest {
         List<Address> addresses = List.of(Address.tcp("127.0.0.1", port));
         try (SocketTransport transport = new SocketTransport(addresses, SHORT, null)) {
             assertThrows(CannotConnectException.class, () -> registered(transport));
-            CancelledException why =
-                    assertThrows(
-                            CancelledException.class,
-                            () ->
-                                    Session.register(
-                                            transport, Ids.id(), ONCE, Duration.ofMillis(50)));
+            CancelledException why = assertThrows(CancelledException.class,
+                    () -> Session.register(transport, Ids.id(), ONCE, Duration.ofMillis(50)));
             assertFalse(why.mayHaveSent());
             String told = why.getMessage();
             assertTrue(told, told.endsWith(": " + addresses.get(0) + ": Connection refused"));
@@ -255,13 +239,12 @@ public class SocketTransportTest {
     @Test(timeout = 30_000)
     public void aSilentServerThatWasStartingIsToldAsThat() throws IOException {
         try (ServerSocket starting = new ServerSocket(0, 50, InetAddress.getLoopbackAddress())) {
-            start(
-                    () -> {
-                        try (Socket client = starting.accept()) {
-                            client.getOutputStream().write("tb_listen: Starting\n".getBytes(US_ASCII));
-                        }
-                        return null;
-                    });
+            start(() -> {
+                try (Socket client = starting.accept()) {
+                    client.getOutputStream().write("tb_listen: Starting\n".getBytes(US_ASCII));
+                }
+                return null;
+            });
             Address address = Address.tcp("127.0.0.1", starting.getLocalPort());
             Duration timeout = Duration.ofSeconds(1);
             try (SocketTransport it = new SocketTransport(List.of(address), timeout, null)) {
@@ -275,15 +258,14 @@ public class SocketTransportTest {
     /** A server that tells this in place of each reply, and closes the connection. */
     private static ServerSocket telling(String line) throws IOException {
         ServerSocket it = new ServerSocket(0, 50, InetAddress.getLoopbackAddress());
-        start(
-                () -> {
-                    while (true) {
-                        try (Socket client = it.accept()) {
-                            client.getInputStream().readNBytes(Layout.HEADER_SIZE);
-                            client.getOutputStream().write(line.getBytes(US_ASCII));
-                        }
-                    }
-                });
+        start(() -> {
+            while (true) {
+                try (Socket client = it.accept()) {
+                    client.getInputStream().readNBytes(Layout.HEADER_SIZE);
+                    client.getOutputStream().write(line.getBytes(US_ASCII));
+                }
+            }
+        });
         return it;
     }
 
@@ -291,9 +273,8 @@ public class SocketTransportTest {
     public void whatIsToldHasNoCodesOfATerminal() throws IOException {
         try (ServerSocket wrong = telling("tb_listen: \033[2J\033]0;x\007\n")) {
             Address place = Address.tcp("127.0.0.1", wrong.getLocalPort());
-            ReplyLostException why =
-                    assertThrows(
-                            ReplyLostException.class, () -> registered(new SocketTransport(place)));
+            ReplyLostException why = assertThrows(
+                    ReplyLostException.class, () -> registered(new SocketTransport(place)));
             assertEquals("?[2J?]0;x?", why.told());
             assertTrue(why.getMessage(), why.getMessage().endsWith(": " + why.told()));
         }
@@ -303,12 +284,8 @@ public class SocketTransportTest {
     public void theAddressIsNamedWhoseFaultIsTold() throws IOException {
         Address none = Address.unix("/nowhere/ledger.sock");
         Address other = Address.unix("/nowhere/other.sock");
-        CannotConnectException why =
-                assertThrows(
-                        CannotConnectException.class,
-                        () ->
-                                registered(
-                                        new SocketTransport(List.of(other, none), SHORT, null)));
+        CannotConnectException why = assertThrows(CannotConnectException.class,
+                () -> registered(new SocketTransport(List.of(other, none), SHORT, null)));
         assertTrue(why.getMessage(), why.getMessage().startsWith(none + ": "));
         try (ServerSocket starts = telling("tb_listen: Starting\n")) {
             Address place = Address.tcp("127.0.0.1", starts.getLocalPort());
@@ -340,26 +317,23 @@ public class SocketTransportTest {
     public void aNameServerThatDoesNotAnswerHoldsNoCall() throws Exception {
         CountDownLatch answers = new CountDownLatch(1);
         AtomicInteger lookups = new AtomicInteger();
-        Lookup.Resolver late =
-                host -> {
-                    lookups.incrementAndGet();
-                    try {
-                        answers.await();
-                    } catch (InterruptedException why) {
-                        throw new InterruptedIOException();
-                    }
-                    return new InetAddress[] {InetAddress.getLoopbackAddress()};
-                };
+        Lookup.Resolver late = host -> {
+            lookups.incrementAndGet();
+            try {
+                answers.await();
+            } catch (InterruptedException why) {
+                throw new InterruptedIOException();
+            }
+            return new InetAddress[] {InetAddress.getLoopbackAddress()};
+        };
         SocketTransport it = looking(late, SHORT);
         for (int time = 0; time < 5; time++) {
             String told =
                     assertThrows(CannotConnectException.class, () -> registered(it)).getMessage();
             assertTrue(told, told.endsWith(": the host's name was not looked up in time"));
         }
-        CancelledException why =
-                assertThrows(
-                        CancelledException.class,
-                        () -> Session.register(it, Ids.id(), ONCE, Duration.ofMillis(50)));
+        CancelledException why = assertThrows(CancelledException.class,
+                () -> Session.register(it, Ids.id(), ONCE, Duration.ofMillis(50)));
         assertFalse(why.mayHaveSent());
         Thread.currentThread().interrupt();
         assertThrows(CancelledException.class, () -> registered(it));
@@ -379,12 +353,10 @@ public class SocketTransportTest {
     @Test(timeout = 30_000)
     public void aNumberOfAHostIsReadWithoutAThread() throws IOException {
         Map<String, Thread> threads = new ConcurrentHashMap<>();
-        Lookup lookup =
-                new Lookup(
-                        host -> {
-                            threads.put(host, Thread.currentThread());
-                            return new InetAddress[0];
-                        });
+        Lookup lookup = new Lookup(host -> {
+            threads.put(host, Thread.currentThread());
+            return new InetAddress[0];
+        });
         List<String> numbers = List.of("127.0.0.1", "255.249.199.9", "::1", "fe80::1%lo", "a:b");
         List<String> names = List.of("256.0.0.1", "127.1", "1.2.3.4.5", "cafe", "ledger", "x:1");
         for (String it : Stream.of(numbers, names).flatMap(List::stream).toList()) {
@@ -397,15 +369,12 @@ public class SocketTransportTest {
     @Test(timeout = 30_000)
     public void aNameThatWasNotFoundIsLookedUpAgain() {
         AtomicInteger lookups = new AtomicInteger();
-        SocketTransport it =
-                looking(
-                        host -> {
-                            if (lookups.incrementAndGet() == 1) {
-                                throw new UnknownHostException(host);
-                            }
-                            return new InetAddress[] {InetAddress.getLoopbackAddress()};
-                        },
-                        Duration.ofSeconds(20));
+        SocketTransport it = looking(host -> {
+            if (lookups.incrementAndGet() == 1) {
+                throw new UnknownHostException(host);
+            }
+            return new InetAddress[] {InetAddress.getLoopbackAddress()};
+        }, Duration.ofSeconds(20));
         registered(it).close();
         assertEquals(2, lookups.get());
     }
@@ -460,11 +429,11 @@ public class SocketTransportTest {
 
     @Test(timeout = 60_000)
     public void aThreadKeepsLittleMemoryOffTheHeap() throws IOException {
-        BufferPoolMXBean direct =
-                ManagementFactory.getPlatformMXBeans(BufferPoolMXBean.class).stream()
-                        .filter(it -> it.getName().equals("direct"))
-                        .findFirst()
-                        .orElseThrow();
+        BufferPoolMXBean direct = ManagementFactory.getPlatformMXBeans(BufferPoolMXBean.class)
+                                          .stream()
+                                          .filter(it -> it.getName().equals("direct"))
+                                          .findFirst()
+                                          .orElseThrow();
         long before = direct.getMemoryUsed();
         Path folder = Files.createTempDirectory("tbclient");
         try (Session session = registered(transport(Duration.ofSeconds(20)))) {

@@ -56,12 +56,10 @@ public class OwnTransportTest {
 
     @Test
     public void whatElseIsThrownGoesToTheCaller() {
-        for (ClientException it :
-                List.of(
-                        new BadReplyException("a wrong number"),
-                        new CancelledException("it took too long", true),
-                        new CannotConnectException("no wire", null),
-                        new ClosedException("the wire was taken down"))) {
+        for (ClientException it : List.of(new BadReplyException("a wrong number"),
+                     new CancelledException("it took too long", true),
+                     new CannotConnectException("no wire", null),
+                     new ClosedException("the wire was taken down"))) {
             faults.add(it);
             assertEquals(it, assertThrows(it.getClass(), this::registered));
         }
