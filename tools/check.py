@@ -93,6 +93,7 @@ DRAWN = "200"  # schedules for each client
 CALLERS = ["conformance_runner.py", "examples/program.py", "examples/sockets.py"]
 CALLERS += ["../embed/python/tb_embed.py", "../embed/python/tb_caller.py"]
 TYPES = ["env", "MYPYPATH=src:../../apps/host/src", "mypy", "--follow-imports=silent", *CALLERS]
+FORMATS, LANGUAGES = [PYTHON, "tools/formats.py"], ["C", "Java", "JavaScript", "Rust"]
 PACKAGES = ["clients/python", "apps/telovamish", "apps/host", "apps/books"]
 WORDS = [f"tests/test_{it}.py" for it in ("run", "page", "sending", "recorded_texts")]
 HOST = [f"tests/test_{it}.py" for it in ("shares", "early", "pipes", "host")]
@@ -103,6 +104,7 @@ PARTS = [
     Part("lint of Python", ".", ["flake8"], by_status),
     *(Part(f"types of {it}", it, ["mypy"], by_status) for it in PACKAGES),
     Part("types of callers of the clients", "clients/python", TYPES, by_status),
+    *(Part(f"format of {it}", ".", [*FORMATS, it], by_status) for it in LANGUAGES),
     Part("quick tests", ".", [*PYTEST, "-n", "4", "-m", "quick", "tests"], pytest_counts),
     Part("packages", ".", [*PYTEST, "-n", "2", "-m", "quick", "packaging/tests"], pytest_counts),
     Part("telovamish", "apps/telovamish", [*PYTEST, *WORDS], pytest_counts),
