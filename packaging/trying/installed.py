@@ -18,6 +18,7 @@ from .root import Root
 DOC = "/usr/share/doc/telovamish"
 SECONDS = 10.0  # from apt's start to a first reply
 PATIENCE = 60
+ONE_LINE = ("tbs", "tb_script")  # TBS.md fixes what they print for every other word
 
 
 def check(is_right: bool, what: object) -> None:
@@ -43,12 +44,14 @@ def first_reply(root: Root, deb: str) -> str:
 
 
 def record(root: Root) -> str:
-    """The installed programs are those of the record."""
+    """The installed programs are those of the record, and need libc alone."""
     made = json.loads(root.inside(f"{DOC}/BUILD.json").read_text())
     for name, wanted in made["sha256"].items():
         if not name.endswith(".a"):
             check(sha256(root.inside(f"/usr/bin/{name}")) == wanted, f"{name} is another one")
-    return f"commit {made['commit']}, programs {made['programs']}"
+    needed = root.run("dpkg-query", "-W", "-f", "${Depends}", "telovamish")
+    check(re.fullmatch(r"libc6 \(>= [\d.]+\)", needed) is not None, f"needs {needed}")
+    return f"commit {made['commit']}, programs {made['programs']}, needs {needed}"
 
 
 def demonstration(root: Root, readme: str) -> None:
@@ -117,8 +120,19 @@ def bash_completion(root: Root, programs: dict[str, Program]) -> str:
     return f"{count} words"
 
 
-def zsh_completion(root: Root) -> None:
-    """The tab key of a real zsh completes a form of tbd and an option of it."""
+def completed(program: Program) -> tuple[str, str]:
+    """What is typed for a program's last form, or its last option, and what the tab key makes of
+    it."""
+    forms = [it.name() for it in program.forms if it.name()]
+    others = forms or completion.flags(program.options)
+    last = others[-1]
+    few = next(n for n in range(1, len(last)) if sum(it[:n] == last[:n] for it in others) == 1)
+    return f"{program.name} {last[: max(few, 3)]}", f"{program.name} {last}"
+
+
+def zsh_completion(root: Root, programs: dict[str, Program]) -> str:
+    """The tab key of a real zsh completes a form or an option of each program, and an option of a
+    form."""
     words = root.words(["zsh", "-f", "-i"])
     shell = pexpect.spawn(words[0], words[1:], encoding="utf-8", timeout=PATIENCE)
     shell.setecho(False)
@@ -126,12 +140,14 @@ def zsh_completion(root: Root) -> None:
         shell.sendline(line)
     shell.sendline("echo begin$((1 + 1))")
     shell.expect("begin2")
-    for typed, wanted in (("tbd sal", "tbd salvage"), ("tbd dump --aft", "tbd dump --after")):
+    rows = [completed(it) for it in programs.values()] + [("tbd dump --aft", "tbd dump --after")]
+    for typed, wanted in rows:
         shell.send(typed + "\t")
         shell.sendcontrol("a")  # prints the line that the tab key made
         shell.send("print -r -- is: \r")
         shell.expect_exact(f"\nis: {wanted}")
     shell.close(force=True)
+    return f"{len(rows)} lines"
 
 
 def terminal(root: Root) -> None:
@@ -193,27 +209,25 @@ def library(root: Root, example: Path, printed: str, room: Path) -> None:
     check(said == printed, said)
 
 
-def versions_and_help(root: Root, programs: dict[str, Program]) -> str:
-    """`--help` and `--version` end with status 0, as does `--help` after each form that has it.
-    Programs whose options have neither print one usage line for every other word, with status 2."""
-    right, usage, wrong = 0, [], []
+def versions_and_help(root: Root, programs: dict[str, Program], version: str) -> str:
+    """`--help` of each program and form, and `--version`, which is that of the packages, end with
+    status 0. Those of ONE_LINE print one usage line for each such word, with status 2."""
+    right, wrong = 0, []
     for it in programs.values():
-        own = {"--help", "--version"} & set(completion.flags(it.options))
-        forms = [form.name() for form in it.forms if "--help" in completion.flags(form.options)]
-        lines = [f"{it.name} {word}" for word in sorted(own)]
-        lines += [f"{it.name} {name} --help" for name in forms if name]
-        for line in lines or [f"{it.name} --help"]:
-            said = root.shell(f"{line} < /dev/null || echo status $?")
-            if not lines:
-                usage.append(it.name)
-                wanted = rf"{it.same_as or it.name}: Usage[^\n]*\nstatus 2\n"
-                wrong += [] if re.fullmatch(wanted, said) else [line]
-            elif not said.strip() or re.fullmatch(r"status \d+", said.splitlines()[-1]):
-                wrong.append(line)
+        forms = [f"{form.name()} --help" for form in it.forms if form.name()]
+        for words in ("--help", "--version", *forms):
+            line = f"{it.name} {words}"
+            said = root.shell(f"{line} < /dev/null 2>&1 || echo status $?")
+            if it.name in ONE_LINE:
+                is_right = bool(re.fullmatch(r"tb\w+: Usage[^\n]*\nstatus 2\n", said))
+            elif words == "--version":
+                is_right = said == f"{it.name} {version}\n"
             else:
-                right += 1
+                is_right = len(said) > len(line) and not re.search(r"^status \d+$", said, re.M)
+            right += is_right
+            wrong += [] if is_right else [f"{line}: {said[:100]}"]
     check(not wrong, "not as owed: " + "; ".join(wrong))
-    return f"{right} with status 0; one usage line: {' '.join(usage)}"
+    return f"{right} lines"
 
 
 def lintian(debs: list[Path]) -> None:

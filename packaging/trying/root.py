@@ -78,11 +78,16 @@ def made(top: Path, base: Path | None) -> Root:
     return Root(top)
 
 
+def mounts_below(top: Path) -> list[str]:
+    """What is mounted there. `is_mount` knows no folder that is bound to one of the same disk."""
+    rows, at = Path("/proc/self/mountinfo").read_text().splitlines(), f"{top.resolve()}/"
+    return [it for it in (row.split()[4] for row in rows) if it.startswith(at)]
+
+
 def unmounted(top: Path) -> None:
     """Takes all mounts off the root: what removes its files must find no other file system."""
-    for _, name in reversed(MOUNTS):
-        if (top / name).is_mount():
-            run(["umount", "--lazy", str(top / name)])
-    left = [name for _, name in MOUNTS if (top / name).is_mount()]
+    for it in reversed(mounts_below(top)):
+        run(["umount", "--lazy", it])
+    left = mounts_below(top)
     if left:
         raise Failed(f"still mounted: {left}")
