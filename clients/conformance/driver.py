@@ -13,6 +13,7 @@ from runner import Ended
 from server import Connections, Failed, Server
 
 CALL = 60.0  # seconds that a call may take
+LAST_WORD = 5.0  # seconds that a call may go on when the scenario has failed
 HASTE = 5.0  # seconds: a client's limit below that is one that its scenario means to be reached
 TIMES = ("timeout", "within", "pause", "at_least", "at_most", "not_before", "wait")
 
@@ -72,7 +73,8 @@ class Run:
                 name: Server(name, folder, over, server_context(self.certificates, kind.get("tls")))
                 for name, kind in kinds.items()
             }
-            self.connections = Connections(servers, self.scenario.get("frames", {}), self.kill)
+            frames = self.scenario.get("frames", {})
+            self.connections = Connections(servers, frames, self.kill, self.runner.waited)
             self.connections.ignored = self.scenario.get("ignored", ())
             for name in kinds:
                 if kinds[name].get("listens") is False:
@@ -105,7 +107,7 @@ class Run:
     # Calls
 
     def call(self, step):
-        fault = []
+        fault, is_answered = [], threading.Event()
 
         def serve():
             try:
@@ -116,6 +118,8 @@ class Run:
                 fault.append(f"{type(why).__name__}: {why}")
             if fault:
                 self.connections.close()  # so that the call ends
+                if not is_answered.wait(LAST_WORD):
+                    self.runner.strike()
 
         server, began = threading.Thread(target=serve), time.monotonic()
         self.runner.send(self.filled(step["call"]))
@@ -126,6 +130,7 @@ class Run:
         except Ended as why:
             if not self.was_killed:
                 fault.append(str(why))
+        is_answered.set()
         took = time.monotonic() - began
         server.join()
         if fault:
@@ -135,7 +140,7 @@ class Run:
             self.runner.start()
             return
         self.test(step.get("wants", {"ok": None}), answer)
-        least, most = step.get("at_least", 0), step.get("at_most", CALL)
+        least, most = step.get("at_least", 0), step.get("at_most", took)
         if not least <= took <= most:
             raise Failed(f"the call took {took:.3f} s: {least:g} to {most:g} are wanted")
 

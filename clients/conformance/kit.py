@@ -18,9 +18,10 @@ Prints a line for each scenario that fails, what was passed over, and 'N passed,
 over'. Status 0 where none failed, 1 where one did, 2 where the runner does not start or the words
 are wrong.
 
-If a scenario whose client has to keep a short limit fails, it is tried again with times 10 times as
-long, and then 40 times: on a busy computer a right client may miss a short limit, and a wrong one
-misses all. Those that were tried again are named at the end.
+Time in which the client waits for a processor is not counted. If a scenario whose client has to
+keep a short limit fails, it is tried again with times 10 times as long, then 40 times: on a busy
+computer a right client may miss a short limit, and a wrong one misses all. While the client waits
+for a processor there are up to 9 tries. Scenarios that were tried again are named at the end.
 """
 import argparse
 import fnmatch
@@ -40,6 +41,8 @@ HERE = os.path.dirname(os.path.abspath(__file__))
 SHORTENING = 60.0  # seconds
 STEPS = r"none|\d+(,\d+)*"
 FACTORS = (1, 10, 40)  # how many times as long the times of a timed scenario are at each try
+STARVED = 0.1  # seconds, so many times as long, without a processor after which a try says nothing
+TRIES = 9
 sys.path.insert(0, HERE)
 
 import certificates  # noqa: E402
@@ -108,9 +111,8 @@ class Kit:
         """Runs a scenario. Whether the runner may go on."""
         scenario = row["make"]() if "make" in row else row
         run = self.run_of(scenario, runner, hello)
-        factors = FACTORS if run.is_timed else FACTORS[:1]
         try:
-            count = self.tried(run, runner, factors)
+            count = self.tried(run, runner)
         except Skipped as feature:
             with self.lock:
                 self.skipped.setdefault(str(feature), []).append(scenario["name"])
@@ -146,15 +148,18 @@ class Kit:
         if why:
             print(f"    with fewer steps: {why}", flush=True)
 
-    def tried(self, run, runner, factors):
-        """Runs a scenario by one factor after another, until it passes. The last one's failure
-        counts."""
-        for factor in factors:
+    def tried(self, run, runner):
+        """Runs a scenario until it passes, a timed one by one factor after another. The last one's
+        failure counts."""
+        factors = FACTORS if run.is_timed else FACTORS[:1]
+        for at in range(TRIES):
+            factor, before = factors[min(at, len(factors) - 1)], runner.waited()
             try:
                 runner.call({"do": "reset"}, CALL)
                 return run.run(factor)
             except (Failed, Ended):
-                if factor == factors[-1] or self.is_over:
+                is_starved = run.is_timed and runner.waited() - before > STARVED * factor
+                if self.is_over or at + 1 >= (TRIES if is_starved else len(factors)):
                     raise
                 with self.lock:
                     self.repeated.append(run.scenario["name"])

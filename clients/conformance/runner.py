@@ -1,5 +1,6 @@
 """The runner of a client, as a process."""
 import contextlib
+import glob
 import json
 import os
 import select
@@ -9,10 +10,32 @@ import time
 
 
 START = 120.0  # seconds that a runner may take to start, and to end
+LOOK = 1.0  # seconds between two looks at whether a process makes progress
 
 
 class Ended(Exception):
     """The runner ended, or gave no answer."""
+
+
+class Patience:
+    """How long something may be waited for while the process that owes it is idle. Time in which it
+    waits for a processor does not count: on a busy computer a right client may take long."""
+
+    def __init__(self, seconds, waited):
+        self.left, self.waited = seconds, waited
+        self.at, self.before = time.monotonic(), None
+
+    def is_over(self):
+        """Counts the time since the last look."""
+        now, waited = time.monotonic(), self.waited()
+        starved = 0 if self.before is None else max(waited - self.before, 0)
+        self.left -= max(now - self.at - starved, 0)
+        self.at, self.before = now, waited
+        return self.left <= 0
+
+    def look(self):
+        """Seconds until the next look."""
+        return min(LOOK, max(self.left, 0))
 
 
 def last_line(said):
@@ -23,7 +46,7 @@ class Runner:
     def __init__(self, words, folder):
         self.words, self.folder = words, folder
         self.errors = os.path.join(folder, "runner.stderr")
-        self.process, self.buffer = None, b""
+        self.process, self.buffer, self.past = None, b"", 0.0
 
     def start(self):
         self.kill()
@@ -45,13 +68,23 @@ class Runner:
         except OSError:
             raise Ended(f"the runner ended before a line: {last_line(self.said())}") from None
 
+    def waited(self):
+        """Seconds that its threads have waited for a processor, those of earlier processes too."""
+        process, total = self.process, 0
+        for path in glob.glob(f"/proc/{process.pid}/task/*/schedstat") if process else ():
+            with contextlib.suppress(OSError, IndexError):
+                with open(path, encoding="ascii") as it:
+                    total += int(it.read().split()[1])
+        return self.past + total / 1e9
+
     def answer(self, seconds):
         """The next line, as an object."""
-        deadline, output = time.monotonic() + seconds, self.process.stdout
+        patience, output = Patience(seconds, self.waited), self.process.stdout
         while b"\n" not in self.buffer:
-            left = deadline - time.monotonic()
-            if left <= 0 or not select.select([output], [], [], left)[0]:
-                raise Ended(f"no answer within {seconds:g} s")
+            if not select.select([output], [], [], patience.look())[0]:
+                if patience.is_over():
+                    raise Ended(f"no answer within {seconds:g} s")
+                continue
             more = os.read(output.fileno(), 1 << 16)
             if not more:
                 raise Ended(f"the runner ended: {last_line(self.said())}")
@@ -75,6 +108,7 @@ class Runner:
     def kill(self):
         """Ends it as a crash would."""
         if self.process is not None:
+            self.past = self.waited()
             self.strike()
             self.process.wait()
             self.process.stdin.close()

@@ -7,9 +7,11 @@ import ssl
 import struct
 import time
 
+from runner import Patience
+
 HEADER, ITEM = 48, 128  # bytes
 FIN_WAIT1 = 4  # the state of a TCP connection whose end the other side has not taken yet
-PATIENCE = 20.0  # seconds that the client may take for what is waited for
+PATIENCE = 20.0  # seconds that the client may be idle while something is waited for
 
 
 class Failed(Exception):
@@ -39,15 +41,23 @@ class Server:
         self.socket.listen(16)
 
     def unlisten(self):
+        """Ends it for everyone: a process that another thread starts has its descriptor for a
+        moment."""
         if self.socket is not None:
+            with contextlib.suppress(OSError):
+                self.socket.shutdown(socket.SHUT_RDWR)
             self.socket.close()
             self.socket = None
 
-    def accept(self, seconds):
-        """The next connection, or None where none comes in time."""
-        if self.socket is None or not readable(self.socket, seconds):
-            return None
-        return self.socket.accept()[0]
+    def accept(self, patience=None):
+        """The next connection, or None where none comes in time. Without patience it has to be
+        there."""
+        while self.socket is not None:
+            if readable(self.socket, patience.look() if patience else 0):
+                return self.socket.accept()[0]
+            if patience is None or patience.is_over():
+                break
+        return None
 
     @property
     def address(self):
@@ -79,15 +89,16 @@ class InFlights:
     server's turn comes in one piece."""
 
     def __init__(self, it, context):
-        self.socket, self.family = it, it.family
+        self.socket, self.family, self.pieces = it, it.family, 0
         self.came, self.goes = ssl.MemoryBIO(), ssl.MemoryBIO()
         self.tls = context.wrap_bio(self.came, self.goes, server_side=True)
-        pieces = 0
+
+    def do_handshake(self):
         while not self.is_agreed():
-            pieces += 1
             self.take()
-        if pieces > 2:  # its hello, and its key
-            raise Failed(f"the client agrees on TLS in {pieces} writes, not 2")
+            self.pieces += 1
+        if self.pieces > 2:  # its hello, and its key
+            raise Failed(f"the client agrees on TLS in {self.pieces} writes, not 2")
 
     def is_agreed(self):
         try:
@@ -114,9 +125,10 @@ class InFlights:
             except (ssl.SSLZeroReturnError, ssl.SSLEOFError):
                 return b""
 
-    def sendall(self, data):
+    def send(self, data):
         self.tls.write(data)
         self.flush()
+        return len(data)
 
     def __getattr__(self, name):
         return getattr(self.socket, name)
@@ -125,8 +137,8 @@ class InFlights:
 class Connections:
     """The connections of a scenario by name, and the actions over them."""
 
-    def __init__(self, servers, frames, kill):
-        self.servers, self.frames, self.kill = servers, frames, kill
+    def __init__(self, servers, frames, kill, waited=lambda: 0.0):
+        self.servers, self.frames, self.kill, self.waited = servers, frames, kill, waited
         self.open, self.last = {}, {}
         self.sent_at = time.monotonic()  # when the last `send` began
         # servers whose further connections are no fault: who is refused calls again
@@ -149,6 +161,25 @@ class Connections:
             return frame[5:].encode("ascii")
         return bytes.fromhex(frame)
 
+    def patiently(self, it, step):
+        """What a step over a connection gives that waits for the client."""
+        patience = Patience(PATIENCE, self.waited)
+        while True:
+            it.settimeout(patience.look())
+            try:
+                return step()
+            except socket.timeout:
+                if patience.is_over():
+                    raise
+
+    def taken(self, it, count):
+        return self.patiently(it, lambda: it.recv(count))
+
+    def gives(self, it, data):
+        while data:
+            count = self.patiently(it, lambda: it.send(data))
+            data = data[count:]
+
     def connection(self, action):
         name = action.get("on", "c")
         if name not in self.open:
@@ -159,14 +190,13 @@ class Connections:
 
     def do_accept(self, name, action):
         server = self.servers[action.get("server", "a")]
-        it = server.accept(action.get("within", PATIENCE))
+        it = server.accept(Patience(PATIENCE, self.waited))
         if it is None:
             raise Failed(f"no connection came to server {server.name} within {PATIENCE:g} s")
         early = action.get("not_before", 0) - (time.monotonic() - self.sent_at)
         if early > 0:
             it.close()
             raise Failed(f"a connection came {early:.3f} s too early")
-        it.settimeout(PATIENCE)
         if server.context is not None:
             it = self.agreed(it, server, action.get("handshake", "succeeds"))
         if it is not None:
@@ -176,8 +206,10 @@ class Connections:
         """The connection under TLS, or None where that was to fail, and failed."""
         try:
             if wanted == "in flights":
-                return InFlights(it, server.context)
-            it = server.context.wrap_socket(it, server_side=True)
+                it = InFlights(it, server.context)
+            else:
+                it = server.context.wrap_socket(it, server_side=True, do_handshake_on_connect=False)
+            self.patiently(it, it.do_handshake)
         except (ssl.SSLError, OSError) as error:
             it.close()
             if wanted == "succeeds":
@@ -209,7 +241,7 @@ class Connections:
         it = self.open.pop(name)
         with contextlib.suppress(ConnectionError, ssl.SSLError):
             try:
-                data = it.recv(1)
+                data = self.taken(it, 1)
             except socket.timeout:
                 raise Failed(f"the client leaves connection {name} open") from None
             if data:
@@ -220,7 +252,7 @@ class Connections:
         """Reads until the client closes its side: nothing, or the beginning of these bytes."""
         wanted, data, it = self.bytes_of(action["of"]), b"", self.open.pop(name)
         try:
-            while more := it.recv(1 << 16):
+            while more := self.taken(it, 1 << 16):
                 data += more
         except socket.timeout:
             raise Failed(f"the client leaves connection {name} open") from None
@@ -232,7 +264,7 @@ class Connections:
 
     def do_hello(self, name, _):
         """Reads the first bytes of TLS, and nothing else."""
-        data = self.open[name].recv(3)
+        data = self.taken(self.open[name], 3)
         if data[:2] != b"\x16\x03":
             raise Failed(f"the client sends {shown(data)}, which is no TLS")
 
@@ -260,7 +292,7 @@ class Connections:
         data = b""
         try:
             while len(data) < count:
-                more = it.recv(min(count - len(data), 1 << 16))
+                more = self.taken(it, min(count - len(data), 1 << 16))
                 if not more:
                     raise Failed(
                         f"the client closes the connection after {len(data)} of {count} bytes"
@@ -287,7 +319,7 @@ class Connections:
         places = [0, *action.get("cuts", ()), len(data)]
         with contextlib.suppress(ConnectionError):  # a client may have gone by then
             for begin, end in zip(places, places[1:]):
-                it.sendall(data[begin:end])
+                self.gives(it, data[begin:end])
                 if end < len(data):
                     time.sleep(0.01)
 
@@ -309,9 +341,8 @@ class Connections:
             numbers[client] = number
             if readable(self.open[name], 0.02):
                 raise Failed("the client sends a request before the reply to the one before it")
-            self.open[name].sendall(
-                client + struct.pack("<QIBB2xIQ4x", session, number, operation, 0, 0, commit)
-            )
+            numbers_of = struct.pack("<QIBB2xIQ4x", session, number, operation, 0, 0, commit)
+            self.gives(self.open[name], client + numbers_of)
 
     # Clients that callers share choose their ids, and the order of lists that came at once
 
@@ -383,13 +414,10 @@ class Connections:
                 more = b""
             except (OSError, ssl.SSLError):
                 more = b""
-            finally:
-                with contextlib.suppress(OSError):
-                    it.settimeout(PATIENCE)
             if more:
                 raise Failed(f"the client sends more on connection {name}: {shown(more)}")
         for server in self.servers.values():
-            it = server.accept(0)
+            it = server.accept()
             if it is not None:
                 it.close()
                 if server.name in self.ignored:

@@ -10,14 +10,18 @@ import sys
 import tempfile
 import time
 import unittest
+from unittest import mock
 
 HERE = os.path.dirname(os.path.abspath(__file__))
 TOP = os.path.dirname(os.path.dirname(HERE))
 sys.path.insert(0, HERE)
 
+import driver  # noqa: E402
+import kit  # noqa: E402
 import wrong_clients  # noqa: E402
 from made import sequences  # noqa: E402
-from server import Connections, readable  # noqa: E402
+from runner import Patience, Runner  # noqa: E402
+from server import Connections, Failed, Server, readable  # noqa: E402
 
 RUNNER = ["--", sys.executable, "-B", "clients/python/conformance_runner.py"]
 STAND_IN = "clients/python/tests/stand_in_tbd.py"
@@ -296,6 +300,85 @@ class Kit(unittest.TestCase):
         client.close()
         it.run([{"half": "c"}, {"ended": "c"}])
         self.assertEqual(it.open, {})
+
+    def test_a_server_that_listens_no_more(self):
+        """A process that is started meanwhile has a copy of its descriptor."""
+        for over, family in (("unix", socket.AF_UNIX), ("tcp", socket.AF_INET)):
+            with tempfile.TemporaryDirectory() as folder, socket.socket(family) as client:
+                server = Server("a", folder, over)
+                at = server.path if over == "unix" else ("127.0.0.1", server.port)
+                copy = os.dup(server.socket.fileno())
+                server.unlisten()
+                with self.assertRaises(ConnectionRefusedError, msg=over):
+                    client.connect(at)
+                os.close(copy)
+
+
+class Waiting(unittest.TestCase):
+    """How long the kit waits: seconds of an idle client, more for one without a processor."""
+
+    def test_an_idle_process(self):
+        patience = Patience(0.05, lambda: 0.0)
+        self.assertFalse(patience.is_over())
+        time.sleep(patience.look())
+        self.assertTrue(patience.is_over())
+
+    def test_a_process_that_waits_for_a_processor(self):
+        patience = Patience(0.05, time.monotonic)
+        for _ in range(4):
+            self.assertFalse(patience.is_over())
+            time.sleep(0.03)
+
+    def test_the_wait_for_a_processor_of_a_runner(self):
+        """Beside a process that does not stop. What an earlier process waited is not forgotten."""
+        spins = "import time\nwhile time.process_time() < %g: pass\n"
+        answers = spins % 0.3 + "import sys\nfor line in sys.stdin: print('{}', flush=True)"
+        usual = os.sched_getaffinity(0)
+        os.sched_setaffinity(0, {min(usual)})
+        try:
+            beside = subprocess.Popen([sys.executable, "-c", spins % 600])
+            with tempfile.TemporaryDirectory() as folder:
+                runner, before = Runner([sys.executable, "-c", answers], folder), 0
+                for _ in range(2):
+                    runner.start()
+                    self.assertGreater(runner.waited(), before + 0.1)
+                    before = runner.waited()
+                runner.kill()
+        finally:
+            os.sched_setaffinity(0, usual)
+            beside.kill()
+            beside.wait()
+
+    def test_a_call_after_a_failure(self):
+        """The client has some seconds more, and is killed then."""
+        silent = "import time\nprint(input() and '{}', flush=True)\ntime.sleep(600)"
+        steps = [{"call": {"do": "ask"}, "server": [{"read": "00", "on": "x"}]}]
+        with tempfile.TemporaryDirectory() as folder, mock.patch.object(driver, "LAST_WORD", 0.1):
+            runner, began = Runner([sys.executable, "-c", silent], folder), time.monotonic()
+            runner.start()
+            with self.assertRaisesRegex(Failed, r"step 1 \(ask\): no connection x is open"):
+                driver.Run({"steps": steps}, {}, runner, set(), "unix", {}).run()
+            runner.kill()
+        self.assertLess(time.monotonic() - began, 30)
+
+    def test_a_short_limit_is_tried_again(self):
+        """More often if the client waits for a processor."""
+        for is_timed, starved, wanted in (
+            (False, 100, [1]),
+            (True, 0, [1, 10, 40]),
+            (True, 100, [1, 10] + [40] * 7),
+        ):
+            tried, runner = [], mock.Mock()
+            runner.waited.side_effect = lambda: len(tried) * starved
+            run = mock.Mock(is_timed=is_timed, scenario={"name": "x"})
+            run.run.side_effect = lambda factor: tried.append(factor) or self.fails()
+            with self.assertRaises(Failed):
+                kit.Kit(None, {}, {}).tried(run, runner)
+            self.assertEqual(tried, wanted)
+
+    @staticmethod
+    def fails():
+        raise Failed("it is late")
 
 
 if __name__ == "__main__":

@@ -196,7 +196,7 @@ NOTHING = {
 # Steps
 
 
-LONG, SHORT = 20.0, 0.3  # seconds for one sending: never reached, and reached by its scenario
+LONG, SHORT = 600.0, 0.3  # seconds for one sending: never reached, and reached by its scenario
 
 
 def connect(name="t", servers=("a",), timeout=LONG, tls=None):

@@ -167,12 +167,12 @@ def tls():
         return one(
             name,
             says,
-            connect(tls=given),
+            connect(tls=given, timeout=20.0),
             {
                 "call": call,
                 "server": [{"accept": "c", "handshake": "fails"}],
                 "wants": error("CannotConnect", sent=False),
-                "at_most": LONG / 2,
+                "at_most": 10.0,
             },
             cert=cert,
             **kind,
