@@ -4,15 +4,17 @@
     clients/conformance/kit.py -- python3 -B clients/python/conformance_runner.py
     clients/conformance/kit.py --only 'reply-late*' -- COMMAND [WORD ..]
     clients/conformance/kit.py --list
+    clients/conformance/kit.py --show --only reply-late
     clients/conformance/kit.py --drawn 200 --seed 1 -- COMMAND [WORD ..]
     clients/conformance/kit.py --drawn 1 --seed 7 --steps 2,5 -- COMMAND [WORD ..]
 
-With --drawn it runs so many scenarios that are drawn, each by a seed of its own, in place of those
-of scenarios/ (made/sequences.py): what callers do, and what a server does at each sending. What the
-client has to send and to report is what the proved session does (made/oracle.py), by the program
-tb_oracle: that of the variable TB_ORACLE, then on PATH, then in crates/tb_oracle/out. A seed draws
-the same scenario again. The first one that fails is shortened, without --first: as long as it fails
-without one of its steps this is left out, for a minute at most.
+With --drawn it runs so many scenarios that are drawn (made/sequences.py), each by a seed of its
+own, in place of those of made/scenarios.py: what callers do, and what a server does at each
+sending. What the client has to send and to report is what the proved session does, by the program
+tb_oracle (made/oracle.py): that of the variable TB_ORACLE, then on PATH, then in
+crates/tb_oracle/out. A seed draws the same scenario again. The first one that fails is shortened,
+without --first: as long as it fails without one of its steps this is left out, for a minute at
+most.
 
 Prints a line for each scenario that fails, what was passed over, and 'N passed, M failed, K passed
 over'. Status 0 where none failed, 1 where one did, 2 where the runner does not start or the words
@@ -26,7 +28,6 @@ for a processor there are up to 9 tries. Scenarios that were tried again are nam
 import argparse
 import fnmatch
 import functools
-import glob
 import json
 import os
 import queue
@@ -48,22 +49,9 @@ sys.path.insert(0, HERE)
 import certificates  # noqa: E402
 from driver import CALL, Run, Skipped  # noqa: E402
 from made import oracle, sequences  # noqa: E402
+from made.scenarios import scenarios  # noqa: E402
 from runner import Ended, Runner  # noqa: E402
 from server import Failed  # noqa: E402
-
-
-def scenarios():
-    """All scenarios in the order of their files, and the steps that many begin with."""
-    found = []
-    for path in sorted(glob.glob(f"{HERE}/scenarios/*.json")):
-        with open(path, encoding="utf-8") as it:
-            group = json.load(it)
-        name = os.path.splitext(os.path.basename(path))[0]
-        if name == "begins":
-            begins = group
-        else:
-            found += [{**row, "group": name} for row in group]
-    return found, begins
 
 
 class Kit:
@@ -211,6 +199,7 @@ def words():
     parser.add_argument(
         "--list", action="store_true", help="print the scenarios, and what each says"
     )
+    parser.add_argument("--show", action="store_true", help="print the scenarios whole, as JSON")
     parser.add_argument("--drawn", metavar="N", type=int, help="run so many that are drawn")
     parser.add_argument("--seed", metavar="N", type=int, default=1, help="of the first of them (1)")
     parser.add_argument("--steps", metavar="LIST", help="only these steps of one that is drawn")
@@ -226,7 +215,7 @@ def words():
         "command", metavar="COMMAND", nargs="*", help="the runner and its words, behind --"
     )
     given = parser.parse_args()
-    if not given.list and not given.command:
+    if not given.list and not given.show and not given.command:
         parser.error("no COMMAND of a runner is given")
     if given.jobs < 1:
         parser.error("--jobs is 1 or more: with none no scenario would run")
@@ -264,6 +253,10 @@ def main():
     ]
     if not chosen:
         parser.error("no scenario has such a name")
+    if given.show:
+        for it in chosen:
+            print(json.dumps(it["make"]() if "make" in it else it, indent=1))
+        return 0
     if given.list:
         for it in chosen:
             print(f"{it['group']}/{it['name']}: {it['says']}")

@@ -1,5 +1,6 @@
 """The words of the kit and of the money: what they name, and what is wrong."""
 import glob
+import json
 import os
 import shlex
 import shutil
@@ -256,6 +257,16 @@ class Java(unittest.TestCase):
 
 
 class Kit(unittest.TestCase):
+    def test_each_scenario_has_a_name_of_its_own(self):
+        names = [it["name"] for it in kit.scenarios()[0]]
+        self.assertEqual(len(set(names)), len(names))
+
+    def test_a_scenario_whole(self):
+        status, said, faults = ran("kit.py", "--show", "--only", "reply-late")
+        self.assertEqual((status, faults), (0, ""))
+        shown = json.loads(said)
+        self.assertEqual([it for it in kit.scenarios()[0] if it["name"] == "reply-late"], [shown])
+
     def test_no_runner_at_once(self):
         """No scenario would run, and none would fail."""
         for jobs in ("0", "-1"):

@@ -93,11 +93,6 @@ def test_the_status_and_the_output_of_a_command(tmp_path):
 
 
 @pytest.mark.quick
-def test_stored_scenarios_are_those_that_are_made():
-    assert passes(script("make_scenarios.py"), ROOT)
-
-
-@pytest.mark.quick
 def test_wrong_clients_can_be_made():
     assert passes(script("wrong_clients.py", "--texts"), ROOT)
 
