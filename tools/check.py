@@ -74,17 +74,15 @@ def by_status(_: str) -> Counts:
     return 1, 0
 
 
-def kit(client: str, drawn: str = "") -> Part:
-    """The stored scenarios of the conformance kit over a client, built by its own tests or here; or
-    so many drawn ones, compared with the proved session."""
+def kit(client: str) -> Part:
+    """The scenarios of the conformance kit over a client, built by its own tests or here, and drawn
+    ones, compared with the proved session."""
     folder = f"clients/{client}"
     about = json.loads((ROOT / folder / "conformance.json").read_text())
-    more = ["--drawn", drawn] if drawn else []
-    words = [sys.executable, "-B", "../conformance/kit.py", *more, "--", *about["runner"]]
+    words = [sys.executable, "-B", "../conformance/kit.py", "--more", DRAWN, "--", *about["runner"]]
     if client == "go":
         words = ["sh", "-c", f"go build -o out/ ./... && {shlex.join(words)}"]
-    name = "drawn schedules" if drawn else "kit"
-    return Part(f"{name} over {about['language']}", folder, words, closing_line)
+    return Part(f"kit over {about['language']}", folder, words, closing_line)
 
 
 PYTEST = [PYTHON, "-m", "pytest", "-q"]
@@ -118,7 +116,6 @@ PARTS = [
     Part("Java", "clients/java", ["./build.sh", "test"], java_counts),
     Part("Node", "clients/node", ["node", "--test"], node_counts),
     *(kit(it) for it in CLIENTS),
-    *(kit(it, DRAWN) for it in CLIENTS),
 ]
 
 

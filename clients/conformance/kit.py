@@ -5,16 +5,17 @@
     clients/conformance/kit.py --only 'reply-late*' -- COMMAND [WORD ..]
     clients/conformance/kit.py --list
     clients/conformance/kit.py --show --only reply-late
+    clients/conformance/kit.py --more 200 -- COMMAND [WORD ..]
     clients/conformance/kit.py --drawn 200 --seed 1 -- COMMAND [WORD ..]
     clients/conformance/kit.py --drawn 1 --seed 7 --steps 2,5 -- COMMAND [WORD ..]
 
 With --drawn it runs so many scenarios that are drawn (made/sequences.py), each by a seed of its
-own, in place of those of made/scenarios.py: what callers do, and what a server does at each
-sending. What the client has to send and to report is what the proved session does, by the program
-tb_oracle (made/oracle.py): that of the variable TB_ORACLE, then on PATH, then in
-crates/tb_oracle/out. A seed draws the same scenario again. The first one that fails is shortened,
-without --first: as long as it fails without one of its steps this is left out, for a minute at
-most.
+own, in place of those of made/scenarios.py, with --more behind them: what callers do, and what a
+server does at each sending. What the client has to send and to report is what the proved session
+does, by the program tb_oracle (made/oracle.py): that of the variable TB_ORACLE, then on PATH, then
+in crates/tb_oracle/out. A seed draws the same scenario again. The first one that fails is made
+shorter, without --first: as long as it fails without one of its steps this is left out, for a
+minute at most.
 
 Prints a line for each scenario that fails, what was passed over, and 'N passed, M failed, K passed
 over'. Status 0 where none failed, 1 where one did, 2 where the runner does not start or the words
@@ -201,6 +202,7 @@ def words():
     )
     parser.add_argument("--show", action="store_true", help="print the scenarios whole, as JSON")
     parser.add_argument("--drawn", metavar="N", type=int, help="run so many that are drawn")
+    parser.add_argument("--more", metavar="N", type=int, help="and so many that are drawn")
     parser.add_argument("--seed", metavar="N", type=int, default=1, help="of the first of them (1)")
     parser.add_argument("--steps", metavar="LIST", help="only these steps of one that is drawn")
     parser.add_argument("--jobs", metavar="N", type=int, default=4, help="runners at once (4)")
@@ -219,8 +221,8 @@ def words():
         parser.error("no COMMAND of a runner is given")
     if given.jobs < 1:
         parser.error("--jobs is 1 or more: with none no scenario would run")
-    if given.seed < 0 or given.drawn is not None and given.drawn < 1:
-        parser.error("--drawn is 1 or more, and --seed is 0 or more")
+    if given.seed < 0 or any(it is not None and it < 1 for it in (given.drawn, given.more)):
+        parser.error("--drawn and --more are 1 or more, and --seed is 0 or more")
     if given.steps is not None and (given.drawn != 1 or not re.fullmatch(STEPS, given.steps)):
         parser.error("--steps is none, or places like 2,5, with --drawn 1")
     return parser, given
@@ -229,7 +231,7 @@ def words():
 def drawn(given):
     """A row for each scenario that is to be drawn. Each is made when its turn comes."""
     steps = None if given.steps is None else [int(it) for it in re.findall(r"\d+", given.steps)]
-    for seed in range(given.seed, given.seed + given.drawn):
+    for seed in range(given.seed, given.seed + (given.drawn or given.more)):
         make = functools.partial(sequences.drawn, seed, steps)
         yield {"name": f"drawn-{seed}", "group": "drawn", "says": f"--seed {seed}", "make": make}
 
@@ -237,12 +239,12 @@ def drawn(given):
 def main():
     parser, given = words()
     found, begins = scenarios()
-    if given.drawn:
+    if given.drawn or given.more:
         try:
             oracle.program()
         except OSError as why:
             parser.error(f"no program tb_oracle to compare with: {why}")
-        found = list(drawn(given))
+        found = [*(() if given.drawn else found), *drawn(given)]
     chosen = [
         it
         for it in found

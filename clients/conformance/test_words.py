@@ -166,10 +166,10 @@ class Drawn(unittest.TestCase):
             self.assertIn("--steps is none, or places like 2,5, with --drawn 1", faults)
 
     def test_no_seed_and_no_scenario(self):
-        for words in (["--drawn", "0"], ["--drawn", "-1"], ["--drawn", "1", "--seed", "-1"]):
+        for words in (["--drawn", "0"], ["--more", "-1"], ["--drawn", "1", "--seed", "-1"]):
             status, said, faults = ran("kit.py", *words, *RUNNER)
             self.assertEqual((status, said), (2, ""), words)
-            self.assertIn("--drawn is 1 or more, and --seed is 0 or more", faults)
+            self.assertIn("--drawn and --more are 1 or more, and --seed is 0 or more", faults)
 
     def test_no_crowd(self):
         for words in (["--count", "0"], ["--seed", "-1"]):

@@ -397,7 +397,7 @@ def caught(edits, jobs, scenarios="*", drawn=()):
             "--first",
             "--jobs",
             str(jobs),
-            *(drawn or ("--only", scenarios)),
+            *(drawn or ("--more", "200", "--only", scenarios)),
             "--",
             *runner,
         ]

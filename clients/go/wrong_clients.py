@@ -303,7 +303,18 @@ def built(folder, edits):
 def caught(edits, over, scenarios="*"):
     """The kit's status for an edited client, and the scenario that failed first."""
     with tempfile.TemporaryDirectory() as folder:
-        words = [sys.executable, "-B", KIT, "--first", "--jobs", "1", "--over", over]
+        words = [
+            sys.executable,
+            "-B",
+            KIT,
+            "--first",
+            "--more",
+            "200",
+            "--jobs",
+            "1",
+            "--over",
+            over,
+        ]
         words += ["--only", scenarios]
         ran = subprocess.run(
             [*words, "--", built(folder, edits)], capture_output=True, text=True, timeout=SECONDS

@@ -382,7 +382,7 @@ def caught(edit, scenarios="*"):
     """The kit's status for an edited client, and the scenario that failed first."""
     with tempfile.TemporaryDirectory() as folder:
         runner = [*JAVA, compiled(folder, edit), "org.telovamish.tbclient.ConformanceRunner"]
-        words = [sys.executable, "-B", KIT, "--first", "--jobs", "1"]
+        words = [sys.executable, "-B", KIT, "--first", "--more", "200", "--jobs", "1"]
         words += ["--only", scenarios, "--", *runner]
         ran = subprocess.run(words, capture_output=True, text=True, timeout=SECONDS)
     first = re.search(r"^FAILED: ([^:]+): (.*)", ran.stdout, re.M)

@@ -8,7 +8,6 @@ from .frames import (
     LATER,
     LONG,
     LOST,
-    NAMES,
     NOTHING,
     SHORT,
     TRANSFERS,
@@ -21,7 +20,6 @@ from .frames import (
     empty,
     error,
     frame_of,
-    prepare,
     read,
     refusal,
     registered,
@@ -29,7 +27,6 @@ from .frames import (
     reply,
     results,
     retry,
-    save,
     saved,
     scenario,
     send,
@@ -67,101 +64,11 @@ def again(name="d"):
 
 def lost():
     yield scenario(
-        "reply-lost",
-        "The reply is lost: the same bytes again.",
-        sale([read(ASKED), {"close": "c"}, *again()]),
-        saved(1),
-    )
-    yield scenario(
         "reply-lost-at-once",
         "A lost reply is asked for again at once: the pause is for where the server said so.",
         sale([read(ASKED), {"close": "c"}, *again()]),
         saved(1),
         begin="patient",
-    )
-    yield scenario(
-        "reply-lost-twice",
-        "Two replies are lost, and two sendings allowed: ReplyLost, and the request stays in "
-        "doubt.",
-        sale([read(ASKED), {"close": "c"}, accept("d"), read(ASKED, "d"), {"close": "d"}], LOST),
-        saved(0, ASKED),
-        retry([accept("e"), *served(ASKED, DONE, "e")], OK),
-        saved(1),
-    )
-    yield scenario(
-        "reply-lost-once-of-one",
-        "With one sending allowed a lost reply is ReplyLost at once.",
-        sale([read(ASKED), {"close": "c"}], LOST),
-        saved(0, ASKED),
-        retry(again(), OK),
-        begin="registered-once",
-    )
-    yield scenario(
-        "retry-lost-for-long",
-        "However often a reply is lost, the bytes stay the same.",
-        sale([read(ASKED), {"close": "c"}], LOST),
-        [retry([accept(it), read(ASKED, it), {"close": it}], LOST) for it in "defghi"],
-        retry([accept("z"), *served(ASKED, DONE, "z")], OK),
-        saved(1),
-        begin="registered-once",
-    )
-    for place in (1, 16, 24, 28, 47):
-        yield scenario(
-            f"reply-cut-at-{place}",
-            "The connection breaks in the reply's header: the same bytes again.",
-            sale([read(ASKED), send(DONE[:place]), {"close": "c"}, *again()]),
-            saved(1),
-        )
-    body = reply(1, TRANSFERS, results((0, 46)))
-    for place in (48, 52, 55):
-        yield scenario(
-            f"reply-cut-in-body-{place}",
-            "The connection breaks in the reply's body: the same bytes again.",
-            sale(
-                [
-                    read(ASKED),
-                    send(body[:place]),
-                    {"close": "c"},
-                    accept("d"),
-                    *served(ASKED, body, "d"),
-                ],
-                {"ok": {"results": [{"index": 0, "result": "exists"}]}},
-            ),
-            saved(1),
-        )
-    yield scenario(
-        "reply-half-closed",
-        "The server closes its side without a reply.",
-        sale([read(ASKED), {"half": "c"}, {"ended": "c"}, *again()]),
-        saved(1),
-    )
-    yield scenario(
-        "reply-reset",
-        "The connection is reset in place of a reply.",
-        sale([read(ASKED), {"reset": "c"}, *again()]),
-        saved(1),
-        over="tcp",
-        needs=["tcp"],
-    )
-    yield scenario(
-        "reply-reset-in-header",
-        "The connection is reset within the reply.",
-        sale([read(ASKED), send(DONE[:20]), {"wait": 0.05}, {"reset": "c"}, *again()]),
-        saved(1),
-        over="tcp",
-        needs=["tcp"],
-    )
-    yield scenario(
-        "request-cut",
-        "The connection breaks after a part of the request: all of it again.",
-        sale([read(ASKED, first=60), {"close": "c"}, *again()]),
-        saved(1),
-    )
-    yield scenario(
-        "request-cut-in-header",
-        "The connection breaks within the request's header.",
-        sale([read(ASKED, first=20), {"close": "c"}, *again()]),
-        saved(1),
     )
     large = frame_of(1, ACCOUNTS, [account(1)])[48:]
     header = frame_of(1, ACCOUNTS, [account(1)] * 8190)[:48]
@@ -184,41 +91,6 @@ def lost():
         frames={"many": many},
     )
     yield scenario(
-        "broken-before-request",
-        "The connection was closed while nothing was asked: a new one, and nobody is told.",
-        {"server": [{"close": "c"}]},
-        sale(again()),
-        saved(1),
-        begin="registered-once",
-    )
-    yield scenario(
-        "broken-before-request-reset",
-        "The same by a reset.",
-        {"server": [{"reset": "c"}, {"wait": 0.05}]},
-        sale(again()),
-        saved(1),
-        begin="registered-once",
-        over="tcp",
-        needs=["tcp"],
-    )
-    yield scenario(
-        "bytes-before-request",
-        "Bytes that came while nothing was asked are no reply to what is asked next.",
-        {"server": [send(DONE), {"wait": 0.05}]},
-        sale([*again(), {"drain": "c", "of": ""}]),
-        saved(1),
-        begin="registered-once",
-    )
-    yield scenario(
-        "idle-told",
-        "The server tells Idle and closes while nothing is asked: a new connection, and nobody "
-        "is told.",
-        {"server": [send(told("Idle")), {"close": "c"}]},
-        sale(again()),
-        saved(1),
-        begin="registered-once",
-    )
-    yield scenario(
         "request-not-read",
         "The server reads no large request: the limit ends the sending too.",
         ask(
@@ -231,7 +103,6 @@ def lost():
         begin="hurried-once",
         frames={"many": many},
     )
-    yield from conversation()
     yield from late()
     yield from unreachable()
 
@@ -253,21 +124,6 @@ def late():
         begin="hurried-once",
     )
     yield scenario(
-        "reply-late-in-header",
-        "A part of the header, then nothing: no reply in time.",
-        sale([read(ASKED), send(DONE[:30]), {"ended": "c"}, *again()], at_least=0.25),
-        saved(1),
-        begin="hurried",
-    )
-    found = reply(1, TRANSFERS, results((0, 46)))
-    yield scenario(
-        "reply-late-in-body",
-        "A reply's header and a part of its body, then nothing: no reply in time.",
-        sale([read(ASKED), send(found[:50]), {"ended": "c"}, *again()], at_least=0.25),
-        saved(1),
-        begin="hurried",
-    )
-    yield scenario(
         "reply-slow-in-pieces",
         "The limit is for the whole reply: single bytes do not put it off.",
         sale(
@@ -280,62 +136,6 @@ def late():
         ),
         saved(0, ASKED),
         begin="hurried-once",
-    )
-    yield scenario(
-        "reply-twice",
-        "A reply comes twice: the first is taken, and the second one's connection is left.",
-        sale([read(ASKED), send(DONE + DONE)]),
-        ask(
-            FIND_ACCOUNTS,
-            ["1"],
-            [
-                accept("d"),
-                *served(frame_of(2, FIND_ACCOUNTS, ["1"]), empty(2, FIND_ACCOUNTS, commit=9), "d"),
-                {"drain": "c", "of": ""},
-            ],
-        ),
-        saved(2),
-    )
-    asked, done = frame_of(2, FIND_ACCOUNTS, ["1"]), empty(2, FIND_ACCOUNTS, commit=9)
-    yield scenario(
-        "reply-twice-late",
-        "The second of two replies comes in place of the next request's reply: BadReply, and the "
-        "connection is closed.",
-        sale(served(ASKED, DONE)),
-        ask(
-            FIND_ACCOUNTS,
-            ["1"],
-            [read(asked), send(DONE), {"ended": "c"}],
-            error("BadReply", sent=True),
-        ),
-        saved(1, asked),
-        retry([accept("d"), *served(asked, done, "d")], {"ok": {"records": []}}),
-        saved(2),
-    )
-
-
-def conversation():
-    """Many requests, of which some are lost before or after they were executed."""
-    steps, name = [], "c"
-    for number in range(1, 25):
-        asked, done = frame_of(number, TRANSFERS), empty(number, TRANSFERS, commit=100 + number)
-        server = []
-        for ending in {0: ["cut"], 3: ["lost"], 5: ["lost", "cut", "told"]}.get(number % 7, ()):
-            if ending == "cut":
-                server += [read(asked, name, first=70)]
-            else:
-                server += [read(asked, name)] + [send(told("Slow"), name)] * (ending == "told")
-            server.append({"close": name})
-            name = f"c{number}{ending}"
-            server.append(accept(name))
-        steps.append(sale([*server, *served(asked, done, name)]))
-    yield scenario(
-        "conversation",
-        "24 requests, some of them lost up to three times: the numbers rise by one, and each "
-        "request is the same at each sending.",
-        steps,
-        saved(24),
-        begin="registered-four",
     )
 
 
@@ -356,21 +156,6 @@ def unreachable():
         begin="hurried",
     )
     yield scenario(
-        "nobody-listens-prepared",
-        "A prepared request stays in doubt where nobody listens.",
-        {"server": [{"close": "c"}, {"unlisten": "a"}]},
-        {
-            "call": {"do": "prepare", "session": "s", "operation": NAMES[TRANSFERS], "items": SALE},
-            "wants": {"ok": None},
-        },
-        retry((), error("CannotConnect", sent=False)),
-        saved(0, ASKED),
-        {"server": [{"listen": "a"}]},
-        retry(again(), OK),
-        saved(1),
-        begin="hurried",
-    )
-    yield scenario(
         "lost-then-nobody-listens",
         "The first sending was lost, and then nobody listens: ReplyLost, since it may have been "
         "executed.",
@@ -382,63 +167,11 @@ def unreachable():
         begin="hurried",
     )
     yield scenario(
-        "lost-then-retry-unreachable",
-        "The reply was lost, and nobody listens to a retry: it sent nothing, and the request stays "
-        "in doubt.",
-        sale([read(ASKED), {"unlisten": "a"}, {"close": "c"}], LOST),
-        retry((), error("CannotConnect", sent=False)),
-        saved(0, ASKED),
-        {"server": [{"listen": "a"}]},
-        retry(again(), OK),
-        saved(1),
-        begin="hurried-once",
-    )
-    yield scenario(
-        "lost-then-told-Starting",
-        "The first sending was lost, and then the server only starts: ReplyLost, since it may have "
-        "been executed.",
-        sale(
-            [
-                read(ASKED),
-                {"close": "c"},
-                accept("d"),
-                read(ASKED, "d"),
-                send(told("Starting"), "d"),
-                {"unlisten": "a"},
-                {"close": "d"},
-            ],
-            error("ReplyLost", sent=True),
-        ),
-        saved(0, ASKED),
-        {"server": [{"listen": "a"}]},
-        retry(again("e"), OK),
-        saved(1),
-        begin="hurried",
-    )
-    yield scenario(
         "listens-later",
         "Who calls before the server listens is connected as soon as it does.",
         {"server": [{"close": "c"}, {"unlisten": "a"}]},
         sale([{"wait": 0.3}, {"listen": "a"}, *again()]),
         saved(1),
-    )
-    yield scenario(
-        "closed-transport",
-        "A closed transport sends nothing.",
-        close(transport="t"),
-        {"server": [{"ended": "c"}]},
-        sale((), error("Closed", sent=False)),
-        saved(0),
-    )
-    yield scenario(
-        "closed-prepared",
-        "A prepared request stays in doubt where the transport is closed.",
-        prepare(TRANSFERS, SALE),
-        close(transport="t"),
-        {"server": [{"ended": "c"}]},
-        retry((), error("Closed", sent=False)),
-        saved(0, ASKED),
-        save(),
     )
     yield scenario(
         "closed-session",
@@ -477,13 +210,6 @@ FAULTS = {
     "length-7": reply(1, TRANSFERS, b"1234567"),
     "length-4-GiB": reply(1, TRANSFERS, length=2**32 - 8),
     "too-many": reply(1, TRANSFERS, length=8191 * 8),
-    "other-client": reply(1, TRANSFERS, client=8),
-    "other-client-high": reply(1, TRANSFERS, client=7 + 2**64),
-    "other-number": reply(2, TRANSFERS),
-    "other-number-refused": refusal(2, TRANSFERS, 1),
-    "other-operation": reply(1, ACCOUNTS),
-    "other-session": reply(1, TRANSFERS, session=2, commit=9),
-    "other-session-refused": refusal(1, TRANSFERS, 1, session=2),
     "register": registered(),
 }
 BODIES = {
@@ -539,22 +265,6 @@ def bad_replies():
             saved(1),
         )
     yield scenario(
-        "bad-reply-to-register",
-        "A register's reply of another client.",
-        {
-            "call": {
-                "do": "register",
-                "session": "s",
-                "transport": "t",
-                "client": "7",
-                "attempts": 1,
-            },
-            "server": [accept(), read(registers()), send(registered(client=8)), {"ended": "c"}],
-            "wants": error("BadReply", sent=True),
-        },
-        begin="connected",
-    )
-    yield scenario(
         "bad-reply-to-register-session",
         "A register's reply whose session is not its commit.",
         {
@@ -598,12 +308,6 @@ def what_is_told():
             saved(1),
             begin="registered-once",
         )
-    yield scenario(
-        "told-then-again",
-        "Told ProgramEnded, the client sends the same bytes again at once.",
-        sale([read(ASKED), send(told("ProgramEnded")), {"close": "c"}, *again()]),
-        saved(1),
-    )
     starting = [send(told("Starting")), {"close": "c"}]
     yield scenario(
         "told-Starting",
@@ -622,27 +326,7 @@ def what_is_told():
         saved(1),
         begin="registered-once",
     )
-    yield scenario(
-        "told-Starting-too-long",
-        "Told Starting until the time is over: CannotConnect, since nothing was executed.",
-        {"server": [{"close": "c"}]},
-        sale(
-            [accept(), send(told("Starting")), {"close": "c"}, {"unlisten": "a"}],
-            error("CannotConnect", sent=False),
-        ),
-        saved(0),
-        begin="hurried-once",
-    )
     busy = [send(told("Busy")), {"half": "c"}, {"drain": "c", "of": ASKED.hex()}]
-    yield scenario(
-        "told-Busy",
-        "Told Busy with one sending allowed.",
-        {"server": [{"close": "c"}]},
-        sale([accept(), *busy], error("Busy", sent=True, told="Busy")),
-        saved(0, ASKED),
-        retry(again(), OK),
-        begin="registered-once",
-    )
     yield scenario(
         "told-Busy-then-pause",
         "Told Busy, the client pauses, the second time twice as long, and sends the same bytes.",
@@ -681,17 +365,6 @@ def what_is_told():
             saved(1),
             begin="registered-thrice",
         )
-        yield scenario(
-            f"told-{name}-once",
-            "The same with one sending allowed: Busy with that name.",
-            sale(
-                [read(ASKED), send(told(name)), {"close": "c"}],
-                error("Busy", sent=True, told=name),
-            ),
-            saved(0, ASKED),
-            retry(again(), OK),
-            begin="registered-once",
-        )
     yield scenario(
         "told-Busy-before-request",
         "Told Busy and closed before the request was read.",
@@ -729,48 +402,9 @@ def what_is_told():
         over="tcp",
         needs=["tcp"],
     )
-    yield scenario(
-        "told-nothing",
-        "A connection that is closed with nothing told has no name.",
-        sale([read(ASKED), {"close": "c"}], LOST),
-        begin="registered-once",
-    )
-
-
-STATUSES = {
-    1: "NoSession",
-    2: "SessionTooLow",
-    3: "NewerSession",
-    4: "Older",
-    5: "Collision",
-    6: "NewerRequest",
-}
 
 
 def refusals():
-    for status, name in STATUSES.items():
-        refused = refusal(1, TRANSFERS, status)
-        yield scenario(
-            f"refused-{name}",
-            "A refusal is no answer: the request stays in doubt, the next one is InDoubt, and a"
-            " retry sends "
-            "the same bytes over the same connection.",
-            sale(served(ASKED, refused), error(name, sent=True)),
-            saved(0, ASKED),
-            ask(FIND_ACCOUNTS, ["1"], (), error("InDoubt", sent=False)),
-            saved(0, ASKED),
-            retry(served(ASKED, refused), error(name, sent=True)),
-            saved(0, ASKED),
-        )
-        yield scenario(
-            f"refused-{name}-after-loss",
-            "The reply was lost, then the request is refused: it may have been executed.",
-            sale(
-                [read(ASKED), {"close": "c"}, accept("d"), *served(ASKED, refused, "d")],
-                error(name, sent=True),
-            ),
-            saved(0, ASKED),
-        )
     not_yet = refusal(1, TRANSFERS, 7)
     yield scenario(
         "refused-NotYet",
@@ -794,44 +428,10 @@ def refusals():
         saved(1),
         begin="registered-slowly",
     )
-    yield scenario(
-        "refused-NotYet-to-the-end",
-        "NotYet at each sending.",
-        sale([*served(ASKED, not_yet), *served(ASKED, not_yet)], error("NotYet", sent=True)),
-        saved(0, ASKED),
-        retry(served(ASKED, DONE), OK),
-        saved(1),
-    )
-    yield scenario(
-        "refused-then-answered",
-        "A refusal may be followed by an answer: as from a server that has caught up.",
-        sale(served(ASKED, refusal(1, TRANSFERS, 6)), error("NewerRequest")),
-        retry(served(ASKED, DONE), OK),
-        saved(1),
-    )
-    fresh = frame_of(1, TRANSFERS, SALE, session=9, client=8)
-    yield scenario(
-        "evicted-and-registered-anew",
-        "After an eviction: a new client, the same records with the same ids, and exists says "
-        "that it was done.",
-        sale(served(ASKED, refusal(1, TRANSFERS, 1)), error("NoSession")),
-        {
-            "call": {"do": "register", "session": "u", "transport": "t", "client": "8"},
-            "server": served(registers(8), registered(9, 8)),
-            "wants": {"ok": {"client": "8", "session": "9"}},
-        },
-        sale(
-            served(fresh, reply(1, TRANSFERS, results((0, 46)), 9, 8)),
-            {"ok": {"results": [{"index": 0, "result": "exists"}]}},
-            session="u",
-        ),
-        saved(0, ASKED),
-    )
 
 
 def addresses():
     three = ("a", "b", "c")
-    needs = {"needs": ["addresses"], "servers": {it: {} for it in three}}
     register = {
         "do": "register",
         "session": "s",
@@ -851,15 +451,6 @@ def addresses():
             {"call": register, "server": server, "wants": answer, **more},
         ]
 
-    first = [at("c", "a"), *served(registers(), registered())]
-    yield scenario(
-        "addresses-first",
-        "The first address that answers is used, and kept.",
-        begun(first),
-        sale(served(ASKED, DONE)),
-        begin=None,
-        **needs,
-    )
     yield scenario(
         "addresses-second",
         "The first does not listen: the second.",
@@ -891,112 +482,4 @@ def addresses():
         begin=None,
         needs=["addresses"],
         servers={it: {"listens": False} for it in three},
-    )
-    yield scenario(
-        "addresses-lost",
-        "A connection that is lost after the request: the next address gets the same bytes.",
-        begun(first),
-        sale([read(ASKED), {"close": "c"}, at("d", "b"), *served(ASKED, DONE, "d")]),
-        saved(1),
-        ask(
-            FIND_ACCOUNTS,
-            ["1"],
-            served(frame_of(2, FIND_ACCOUNTS, ["1"]), empty(2, FIND_ACCOUNTS, commit=9), "d"),
-        ),
-        begin=None,
-        **needs,
-    )
-    yield scenario(
-        "addresses-around",
-        "Behind the last address comes the first.",
-        begun(first),
-        sale(
-            [
-                read(ASKED),
-                {"close": "c"},
-                at("d", "b"),
-                read(ASKED, "d"),
-                {"close": "d"},
-                at("e", "c"),
-                read(ASKED, "e"),
-                {"close": "e"},
-                at("f", "a"),
-                *served(ASKED, DONE, "f"),
-            ]
-        ),
-        saved(1),
-        begin=None,
-        **needs,
-    )
-    yield scenario(
-        "addresses-lost-and-closed",
-        "A connection is lost, and the next address does not listen: the one after it.",
-        begun(first),
-        sale([read(ASKED), {"close": "c"}, at("d", "c"), *served(ASKED, DONE, "d")]),
-        saved(1),
-        begin=None,
-        needs=["addresses"],
-        servers={"a": {}, "b": {"listens": False}, "c": {}},
-    )
-    yield scenario(
-        "addresses-late",
-        "No reply in time: the next address.",
-        begun(first, timeout=SHORT),
-        sale([read(ASKED), {"ended": "c"}, at("d", "b"), *served(ASKED, DONE, "d")]),
-        saved(1),
-        begin=None,
-        **needs,
-    )
-    yield scenario(
-        "addresses-busy",
-        "Busy at one address: the next one, after the pause.",
-        begun(first),
-        sale(
-            [
-                read(ASKED),
-                send(told("Busy")),
-                {"close": "c"},
-                at("d", "b"),
-                *served(ASKED, DONE, "d"),
-            ]
-        ),
-        saved(1),
-        begin=None,
-        **needs,
-    )
-    yield scenario(
-        "addresses-register-lost",
-        "A register that is lost goes to the next address, the same bytes.",
-        begun(
-            [
-                at("c", "a"),
-                read(registers()),
-                {"close": "c"},
-                at("d", "b"),
-                *served(registers(), registered(), "d"),
-            ]
-        ),
-        sale(served(ASKED, DONE, "d")),
-        begin=None,
-        **needs,
-    )
-    yield scenario(
-        "addresses-closed-at-rest",
-        "A connection that was closed while nothing was asked: the next address, and nobody is "
-        "told.",
-        begun(first),
-        {"server": [{"close": "c"}]},
-        sale([at("d", "b"), *served(ASKED, DONE, "d")]),
-        saved(1),
-        begin=None,
-        **needs,
-    )
-    yield scenario(
-        "addresses-refused-stays",
-        "A refusal is a reply: the connection stays.",
-        begun(first),
-        sale(served(ASKED, refusal(1, TRANSFERS, 6)), error("NewerRequest")),
-        retry(served(ASKED, DONE), OK),
-        begin=None,
-        **needs,
     )

@@ -231,7 +231,6 @@ BEGINS = {
     "registered": begins(),
     "registered-once": begins(attempts=1),
     "registered-thrice": begins(attempts=3, pause=0.1),
-    "registered-four": begins(attempts=4),
     "registered-slowly": begins(attempts=4, pause=0.6),
     "patient": begins(pause=30.0),
     "hurried": begins(timeout=SHORT),

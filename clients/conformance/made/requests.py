@@ -8,14 +8,11 @@ from .frames import (
     FIND_TRANSFERS,
     MOST,
     NAMES,
-    REGISTER,
     SOME,
     TRANSFER_CODES,
     TRANSFER_FIELDS,
     TRANSFER_FLAGS,
     TRANSFERS,
-    U32,
-    U128,
     account,
     account_bytes,
     accept,
@@ -29,16 +26,13 @@ from .frames import (
     reply,
     request,
     results,
-    retry,
     saved,
     scenario,
     send,
     served,
-    transfer,
     transfer_bytes,
     whole_account,
     whole_transfer,
-    prepare,
 )
 
 KINDS = {
@@ -80,18 +74,6 @@ def register_call(client=None, wants=None, server=(), **more):
 
 
 def register_scenarios():
-    for name, client in (("1", 1), ("7", 7), ("2^64", 2**64), ("2^128-1", U128)):
-        yield scenario(
-            f"register-client-{name}",
-            "A register has the client's id, and nothing else that is not 0.",
-            register_call(
-                client,
-                {"ok": {"client": str(client), "session": "5"}},
-                [accept(), *served(registers(client), registered(5, client))],
-            ),
-            saved(0, session=5, client=client),
-            begin="connected",
-        )
     yield scenario(
         "register-own-id",
         "Where no id is given the client makes one: not 0, and the reply has it again.",
@@ -99,79 +81,6 @@ def register_scenarios():
             None,
             {"ok": {"client": {"any": True}, "session": "1"}},
             [accept(), read(registers(), any=[[0, 16]]), send(registered(), client=True)],
-        ),
-        begin="connected",
-    )
-    yield scenario(
-        "register-session-2^63",
-        "A session is a number of 64 bits.",
-        register_call(
-            7,
-            {"ok": {"client": "7", "session": str(2**63 - 2)}},
-            [accept(), *served(registers(), registered(2**63 - 2))],
-        ),
-        ask(
-            FIND_ACCOUNTS,
-            ["1"],
-            served(
-                frame_of(1, FIND_ACCOUNTS, ["1"], session=2**63 - 2),
-                reply(1, FIND_ACCOUNTS, session=2**63 - 2, commit=2**63 - 1),
-            ),
-        ),
-        begin="connected",
-    )
-    yield scenario(
-        "register-lost-reply",
-        "A register whose reply is lost is sent again, the same bytes.",
-        register_call(
-            7,
-            {"ok": {"client": "7", "session": "1"}},
-            [
-                accept(),
-                read(registers()),
-                {"close": "c"},
-                accept("d"),
-                read(registers(), "d"),
-                send(registered(), "d"),
-            ],
-        ),
-        begin="connected",
-    )
-    yield scenario(
-        "register-prepared",
-        "A register may be prepared, and sent by a retry.",
-        {
-            "call": {"do": "open", "session": "s", "transport": "t", "client": "7"},
-            "wants": {"ok": {"client": "7"}},
-        },
-        prepare(REGISTER),
-        saved(0, registers(), session=0),
-        retry([accept(), *served(registers(), registered(3))], {"ok": {"session": "3"}}),
-        saved(0, session=3),
-        begin="connected",
-    )
-    yield scenario(
-        "register-twice",
-        "A session is registered once.",
-        prepare(REGISTER, wants=error("InvalidValue", field="session", sent=False)),
-    )
-    yield scenario(
-        "request-before-register",
-        "A request of a session that is not registered is refused, and not sent.",
-        {
-            "call": {"do": "open", "session": "s", "transport": "t", "client": "7"},
-            "wants": {"ok": {"client": "7"}},
-        },
-        ask(FIND_ACCOUNTS, ["1"], (), error("InvalidValue", field="session", sent=False)),
-        begin="connected",
-    )
-    yield scenario(
-        "register-refused-older",
-        "A register of a client that goes on elsewhere is refused as Older.",
-        register_call(
-            7,
-            error("Older", sent=True),
-            [accept(), *served(registers(), reply(0, REGISTER, session=0, status=4))],
         ),
         begin="connected",
     )
@@ -208,84 +117,6 @@ def request_scenarios():
             ask(operation, items, served(frame_of(1, operation), empty(1, operation))),
             saved(1),
         )
-    yield scenario(
-        "numbers-rise",
-        "Requests are numbered 1, 2, 3 and so on, over one connection.",
-        [
-            ask(
-                FIND_ACCOUNTS,
-                ["1"],
-                served(
-                    frame_of(it, FIND_ACCOUNTS, ["1"]), empty(it, FIND_ACCOUNTS, commit=10 + it)
-                ),
-            )
-            for it in range(1, 8)
-        ],
-        saved(7),
-    )
-    yield scenario(
-        "two-sessions-one-transport",
-        "Sessions over one transport have numbers of their own, and one connection.",
-        {
-            "call": {"do": "register", "session": "u", "transport": "t", "client": "8"},
-            "server": served(registers(8), registered(2, 8)),
-            "wants": {"ok": {"client": "8", "session": "2"}},
-        },
-        [
-            ask(
-                FIND_ACCOUNTS,
-                ["1"],
-                served(frame_of(1, FIND_ACCOUNTS, ["1"]), empty(1, FIND_ACCOUNTS, commit=3)),
-            ),
-            ask(
-                FIND_ACCOUNTS,
-                ["2"],
-                served(frame_of(1, FIND_ACCOUNTS, ["2"], 2, 8), empty(1, FIND_ACCOUNTS, 2, 8, 4)),
-                session="u",
-            ),
-            ask(
-                FIND_ACCOUNTS,
-                ["3"],
-                served(frame_of(2, FIND_ACCOUNTS, ["3"]), empty(2, FIND_ACCOUNTS, commit=5)),
-            ),
-        ],
-    )
-    last = {"client": "7", "session": "1", "number": str(U32 - 1), "pending": ""}
-    yield scenario(
-        "last-number",
-        "The last number of a session is 2^32 - 1; after it nothing is sent.",
-        {
-            "call": {"do": "resume", "session": "s", "transport": "t", "saved": last},
-            "wants": {"ok": last},
-        },
-        ask(
-            FIND_ACCOUNTS,
-            ["1"],
-            [
-                accept(),
-                *served(frame_of(U32, FIND_ACCOUNTS, ["1"]), reply(U32, FIND_ACCOUNTS, commit=9)),
-            ],
-        ),
-        ask(FIND_ACCOUNTS, ["1"], (), error("InvalidValue", field="number", sent=False)),
-        saved(U32),
-        begin="connected",
-    )
-    yield scenario(
-        "reply-in-pieces",
-        "A reply may come byte by byte.",
-        ask(
-            FIND_TRANSFERS,
-            ["11"],
-            [
-                read(frame_of(1, FIND_TRANSFERS)),
-                send(
-                    reply(1, FIND_TRANSFERS, transfer_bytes(transfer(11))),
-                    cuts=[1, 16, 47, 48, 49, 100, 175],
-                ),
-            ],
-            {"ok": {"records": [whole_transfer(transfer(11))]}},
-        ),
-    )
     body = account_bytes(account(1))
     many = {
         "header": reply(1, FIND_ACCOUNTS, body * 8190)[:48].hex(),

@@ -47,10 +47,10 @@ from .frames import (
     whole_account,
     whole_transfer,
 )
-from .oracle import STATUSES, Asked, Fields, Held, Phase  # noqa: F401
+from .oracle import STATUS, STATUSES, Asked, Fields, Held, Phase  # noqa: F401
 
 HEADER = 48
-NOT_YET = 7
+REFUSALS, NOT_YET = range(1, 7), 7
 TOLD = {row["name"]: row["executed"] for row in TABLE["told"]}
 NAMED = [name for name in TOLD if name not in (*LATER, "Starting")]
 CREATES = {
@@ -511,6 +511,8 @@ class Drawn:
                 line.is_read = False
             elif kind == 2:
                 self.server = [send(told("Idle"), line.connection), {"close": line.connection}]
+            elif self.over == "tcp" and self.draw.random() < 0.5:
+                self.server = [{"reset": line.connection}, {"wait": 0.05}]
             else:
                 self.server = [{"close": line.connection}]
             self.steps.append({"server": self.server})
@@ -700,7 +702,7 @@ class Drawn:
 
     def refuses(self, line, held):
         """A refusal that the ledger has no reason for."""
-        status = self.draw.choice((1, 2, 3, 4, 5, 6))
+        status = self.draw.choice(REFUSALS)
         self.reads(line, held)
         if self.draw.random() < 0.3:
             self.executed(held)
@@ -710,9 +712,13 @@ class Drawn:
         self.reads(line, held)
         return self.refused(line, held, NOT_YET)
 
-    def refused(self, line, held, status):
+    @staticmethod
+    def refusal(held, status):
         asked = held.asked
-        frame = refusal(asked.number, asked.operation, status, held.session, held.client)
+        return refusal(asked.number, asked.operation, status, held.session, held.client)
+
+    def refused(self, line, held, status):
+        frame = self.refusal(held, status)
         self.server.append(send(frame, line.connection))
         return held.hears(frame)
 
@@ -726,20 +732,20 @@ class Drawn:
         return self.draw.choice(short or [registers()])
 
     def answers_another(self, line, held):
-        """The reply to a request of before, or one that differs in what names its request."""
+        """The reply to a request of before, or one that differs in what names its request, as a
+        refusal does."""
         self.reads(line, held)
-        frame, says = self.executed(held)
-        if isinstance(says, str) or self.draw.random() < 0.3:
-            wrong = self.stale()
-        else:
-            wrong = self.renamed(frame)
+        frame, _ = self.executed(held)
+        if self.draw.random() < 0.3:
+            frame = self.refusal(held, self.draw.choice(REFUSALS))
+        wrong = self.stale() if self.draw.random() < 0.3 else self.renamed(frame)
         if held.is_for(wrong):
             wrong = bytes([0xFF]) * HEADER
         return self.bad(line, held, wrong)
 
     def renamed(self, frame):
         """A reply of another client, session, number or operation, which differs in one bit if it
-        can; with the greatest commit, so that every session may have one."""
+        can; if it is no refusal with the greatest commit, so that every session may have one."""
         client, session, number, operation = struct.unpack_from("<16sQIB", frame)
         bit = self.draw.randrange(128)
         kind = self.draw.randrange(4)
@@ -752,7 +758,7 @@ class Drawn:
         else:
             operation = {ACCOUNTS: TRANSFERS, TRANSFERS: ACCOUNTS}.get(operation, operation ^ 7)
         header = client + struct.pack("<QIB", session, number, operation) + frame[29:36]
-        return header + b"\xff" * 8 + frame[44:]
+        return header + (frame[36:44] if frame[STATUS] else b"\xff" * 8) + frame[44:]
 
     def says_what_is_none(self, line, held):
         self.reads(line, held)
@@ -787,6 +793,15 @@ class Drawn:
         return False, error("BadReply", sent=True)
 
     def is_late(self, line, held):
+        self.falls_silent(line, held)
+        return self.lost()
+
+    def is_cancelled(self, line, held):
+        self.falls_silent(line, held)
+        return False, error("Cancelled", sent=True)
+
+    def falls_silent(self, line, held):
+        """Before the reply or amid it."""
         self.reads(line, held)
         if self.draw.random() < 0.5:
             frame, _ = self.executed(held)
@@ -794,14 +809,6 @@ class Drawn:
                 place = self.draw.randrange(1, len(frame))
                 self.server.append(send(frame[:place], line.connection))
         self.lose(line, {"ended": line.connection})
-        return self.lost()
-
-    def is_cancelled(self, line, held):
-        self.reads(line, held)
-        if self.draw.random() < 0.5:
-            self.executed(held)
-        self.lose(line, {"ended": line.connection})
-        return False, error("Cancelled", sent=True)
 
 
 def drawn(seed, only=None):
