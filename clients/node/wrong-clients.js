@@ -327,7 +327,8 @@ function caught(edits, scenarios = "*") {
   try {
     edited(folder, edits);
     const runner = ["node", path.join(folder, "conformance-runner.js")];
-    const words = ["-B", KIT, "--first", "--more", "200", "--jobs", "1", "--only", scenarios, "--", ...runner];
+    const options = ["--first", "--more", "200", "--jobs", "1", "--only", scenarios];
+    const words = ["-B", KIT, ...options, "--", ...runner];
     const ran = spawnSync("python3", words, { encoding: "utf8" });
     const first = /^FAILED: ([^:]+): (.*)/m.exec(ran.stdout);
     const said = first ? `${first[1]}: ${first[2].slice(0, 90)}` : ran.stdout + ran.stderr;
