@@ -8,3 +8,5 @@ pub mod Crashes
 pub mod Unique
 pub mod Dumped
 pub mod Checked
+pub mod Copied
+pub mod CopiedLogs

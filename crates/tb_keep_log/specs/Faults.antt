@@ -2,6 +2,8 @@
 use Rattle.std.specs.Prelude.{ℕ, List, codes}
 use Rattle.tb_journal.specs.Faults as journal_faults
 use Rattle.tb_log.specs.Faults as log_faults
+use Rattle.tb_keep_log.specs.declared.faults.CopyLogFault.{CopyLogFault}
+use Rattle.tb_keep_log.specs.declared.faults.CopyLogFault.TheVariants as copy
 use Rattle.tb_keep_log.specs.declared.faults.DumpLogFault.{DumpLogFault}
 use Rattle.tb_keep_log.specs.declared.faults.DumpLogFault.TheVariants as dump
 use Rattle.tb_keep_log.specs.declared.faults.LogStartFault.{LogStartFault}
@@ -18,6 +20,10 @@ start_fault_name (start.Entry fault) = codes "Entry"
 start_fault_name (start.OtherHashes position) = codes "OtherHashes"
 start_fault_name start.NoMemory = codes "NoMemory"
 start_fault_name (start.TornTooLong at bytes) = codes "TornTooLong"
+
+abbrev pub copy_fault_name : CopyLogFault → List ℕ
+copy_fault_name (copy.Old fault) = start_fault_name fault
+copy_fault_name (copy.New fault) = codes "Journal"
 
 abbrev pub keep_fault_name : KeepLogFault → List ℕ
 keep_fault_name (keep.Log fault) = log_faults.fault_name fault

@@ -3,6 +3,7 @@ pub mod Keeping
 pub mod Rereading
 pub mod Beginning
 pub mod Checking
+pub mod Copying
 pub mod Items
 pub mod Dumping
 pub mod Parts

@@ -1,6 +1,6 @@
 //! Why a kept log is not opened, and why it does not go on.
 ghost use Rattle.std.specs.Prelude.{◌≡◌};
-ghost use Rattle.tb_keep_log.specs.Faults.{dump_fault_name, keep_fault_name, start_fault_name};
+ghost use Rattle.tb_keep_log.specs.Faults.{copy_fault_name, dump_fault_name, keep_fault_name, start_fault_name};
 
 use std::fmt;
 use tb_journal::{JournalFault, OpenFault};
@@ -129,6 +129,38 @@ impl fmt::Display for DumpLogFault {
     ghost use Rattle.tb_keep_log.specs.Faults.{dump_fault_name};
 
     ghost output = { λ fault. Some (dump_fault_name fault) };
+
+    fn fmt<W: fmt::Write>(&self, f: &mut fmt::Formatter<W>) -> fmt::Result {
+        f.write_str(self.name())
+    }
+}
+
+/// Why a log's file is not taken over into a new one.
+#[derive(Clone, Copy, Debug, PartialEq, Eq, Error)]
+pub enum CopyLogFault {
+    /// The file is not read.
+    Old(LogStartFault),
+    /// The new file is not made, or not written to.
+    New(OpenFault),
+}
+
+impl CopyLogFault {
+    /// The fault's name, as a message shows it.
+    pub fn name(self) -> &'static str
+        ensures { result.now ≡ copy_fault_name self }
+    {
+        match self {
+            CopyLogFault::Old(fault) => fault.name(),
+            CopyLogFault::New(_) => "Journal",
+        }
+    }
+}
+
+impl fmt::Display for CopyLogFault {
+    ghost use Rattle.std.specs.Prelude.{Some};
+    ghost use Rattle.tb_keep_log.specs.Faults.{copy_fault_name};
+
+    ghost output = { λ fault. Some (copy_fault_name fault) };
 
     fn fmt<W: fmt::Write>(&self, f: &mut fmt::Formatter<W>) -> fmt::Result {
         f.write_str(self.name())

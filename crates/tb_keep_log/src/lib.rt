@@ -10,6 +10,7 @@
 //! - `rereading`: `read_log`, a follower behind all records of a file.
 //! - `beginning`: `LogKeeper::open` and `LogKeeper::start`.
 //! - `checking`: `check_log`, a file read as a start reads it, without a write.
+//! - `copying`: `copy_log`, the entries of a file taken over into a new one.
 //! - `items`: `keep_log`, items read, entries committed, and then answers sent.
 //! - `dumps`: `write_log_dump`, the history of a kept log without positions, and `write_log_entries`, a part of it.
 //! - `laws`: what holds of every kept log: functions that do nothing.
@@ -17,6 +18,7 @@
 
 mod beginning;
 mod checking;
+mod copying;
 mod dumps;
 mod entries;
 mod faults;
@@ -28,8 +30,9 @@ mod rereading;
 
 pub use beginning::NotStarted;
 pub use checking::{Reached, check_log};
+pub use copying::{CopiedLog, NotCopiedLog, copy_log};
 pub use dumps::{write_log_dump, write_log_entries};
-pub use faults::{DumpLogFault, KeepLogFault, LogStartFault};
+pub use faults::{CopyLogFault, DumpLogFault, KeepLogFault, LogStartFault};
 pub use items::keep_log;
 pub use keepers::LogKeeper;
 pub use rereading::read_log;

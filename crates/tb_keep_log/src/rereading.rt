@@ -1,7 +1,7 @@
 //! A follower behind all records of a file.
-ghost use Rattle.std.specs.Prelude.{◌≡◌, ◌≤◌, true, IfOk, OnOk};
+ghost use Rattle.std.specs.Prelude.{◌≡◌, ◌≤◌, true, IfErr, IfOk, OnOk};
 ghost use Rattle.tb_journal.specs.Device.{IsOnDisk};
-ghost use Rattle.tb_journal.specs.Scans.{GoesFurther, ScanCause};
+ghost use Rattle.tb_journal.specs.Scans.{GoesFurther, IsAt, ScanCause};
 ghost use Rattle.tb_keep.specs.private.Entering.{StaysKept};
 ghost use Rattle.tb_keep.specs.Creating.{IsUntouched};
 ghost use Rattle.tb_keep.specs.private.Sources.{IsNext};
@@ -23,6 +23,7 @@ pub(crate) fn read_record<D: Device>(scan: &mut Scan, device: &mut D) -> Result<
     ensures stays { D.tells → StaysKept (D.disk device.old) (D.disk device.new) }
     ensures cause { D.tells → ScanCause result scan.old (D.disk device.old) (D.disk device.new) }
     ensures further { IfOk result (λ more. more ≡ true → GoesFurther scan.old scan.new) }
+    ensures place { IfErr result (IsAt scan.old.end) }
 {
     scan.next(device)
 }

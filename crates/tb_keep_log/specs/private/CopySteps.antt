@@ -1,10 +1,27 @@
 -- The steps by which a log's file is read to its end, and taken over: for private functions alone.
-use Rattle.std.specs.Prelude.{ℕ, ◌≡◌, List, Option, None, Some, Result, Ok, Err}
+use Rattle.std.specs.Prelude.{ℕ, Bool, true, false, ◌≡◌, List, [], ◌∷◌, ◌++◌, Option, None, Some, Result, Ok, Err, OnOk, IfErr}
+use Rattle.tb_records.specs.declared.limits.Profile.{Profile}
+use Rattle.tb_journal.specs.declared.faults.JournalFault.{JournalFault}
+use Rattle.tb_journal.specs.declared.opening.OpenFault.TheVariants as open_faults
+use Rattle.tb_journal.specs.declared.reading.Extent.{Extent}
+use Rattle.tb_journal.specs.declared.opening.OpenFault.{OpenFault}
+use Rattle.tb_journal.specs.Device.{Disk, FailsNone, LeavesOnly}
+use Rattle.tb_journal.specs.Contents.{Records, contents, recorded}
+use Rattle.tb_journal.specs.Ready.{Kept, IsReady}
+use Rattle.tb_journal.specs.Scans.{HasRead, ScanState}
+use Rattle.tb_log.specs.Following.{Following}
+use Rattle.tb_keep.specs.Salvaging.{IsWriteCause}
+use Rattle.tb_keep.specs.private.Entering.{OfExtent}
+use Rattle.tb_keep.specs.private.Taking.{Breaks, Queues}
 use Rattle.tb_keep_log.specs.declared.checking.Reached.{Reached}
+use Rattle.tb_keep_log.specs.declared.faults.CopyLogFault.{CopyLogFault}
+use Rattle.tb_keep_log.specs.declared.faults.CopyLogFault.TheVariants.{Old, New}
 use Rattle.tb_keep_log.specs.declared.faults.LogStartFault.{LogStartFault}
 use Rattle.tb_keep_log.specs.declared.faults.LogStartFault.TheVariants as start
-use Rattle.tb_keep_log.specs.Checking.{IsTornStop}
-use Rattle.tb_keep_log.specs.Rereading.{IsTornTooLong}
+use Rattle.tb_keep_log.specs.Checking.{IsTornStop, reached_by}
+use Rattle.tb_keep_log.specs.Copying.{HasSomeFirst, IsUncopied, StopsBehind, old_part}
+use Rattle.tb_keep_log.specs.Keeping.{Leads}
+use Rattle.tb_keep_log.specs.Rereading.{EntersRecord, IsTornTooLong, StopsAt}
 use Rattle.tb_keep_log.specs.private.Steps.{IsOfDevice}
 
 -- the torn bytes of a file are few, or a start refuses it for them; or its length is not known
@@ -28,3 +45,132 @@ abbrev pub EndsShort : Result Reached LogStartFault → Reached → List ℕ →
 EndsShort (Ok found) reached file = (found ≡ reached) × IsTornStop None file
 EndsShort (Err (start.TornTooLong at bytes)) reached file = IsTornTooLong at bytes file
 EndsShort (Err fault) reached file = IsOfDevice fault
+
+-- the fault of a step of a copy, as one of the file that is read
+abbrev pub of_old : {T : Type 0} → Result T CopyLogFault → Result (Unit {0}) LogStartFault
+of_old (Ok value) = Ok tt
+of_old (Err fault) = old_part fault
+
+-- the fault for which a start refuses a file each time
+abbrev pub stop_of : CopyLogFault → Option LogStartFault
+stop_of (Old (start.Journal (open_faults.Device fault))) = None
+stop_of (Old start.NoMemory) = None
+stop_of (Old (start.TornTooLong at bytes)) = None
+stop_of (Old fault) = Some fault
+stop_of (New fault) = None
+
+-- why the reading stops behind records that lead a follower to a place
+abbrev pub StopsAfter : LogStartFault → Profile → ℕ → List (List ℕ) → Following → List ℕ → Type 0
+StopsAfter (start.Journal (open_faults.Device fault)) profile clients_max records F file = Unit {0}
+StopsAfter start.NoMemory profile clients_max records F file = Unit {0}
+StopsAfter (start.TornTooLong at bytes) profile clients_max records F file = ⊥
+StopsAfter fault profile clients_max records F file = StopsBehind (Some fault) profile clients_max records F file
+
+-- why no more is taken: where the file ends, its torn bytes, and else the fault, if it is the file's own
+abbrev pub StopsBy : Result (Option LogStartFault) CopyLogFault → Result (Unit {0}) CopyLogFault → (List ℕ → Type 0) → Extent → Type 0
+StopsBy (Ok stop) (Ok done) holds extent = OfExtent holds extent (IsTornStop stop)
+StopsBy (Err (Old fault)) (Ok done) holds extent = IsOfDevice fault
+StopsBy (Err (New fault)) (Ok done) holds extent = ⊥
+StopsBy (Ok None) (Err fault) holds extent = ⊥
+StopsBy (Ok (Some stop)) (Err fault) holds extent = stop_of fault ≡ Some stop
+StopsBy (Err other) (Err fault) holds extent = (other ≡ fault) × (stop_of fault ≡ None)
+
+-- a journal without records, to which nothing was written yet
+pub record IsNewJournal (tells : Type 0) {N : Type 0} (disk : N → Disk) (journal : Kept N) : Type 0 where
+  pub usable : journal.usable ≡ true
+  pub none_waits : journal.waiting ≡ []
+  pub ready : tells → IsReady disk journal
+  pub no_records : tells → recorded (disk journal.device).seen ≡ []
+
+-- the new file's device failed, or it has no space, or there is no memory
+pub record IsWritten (before after : Disk) (fault : OpenFault) : Type 0 where
+  pub own : JournalFault
+  pub named : fault ≡ open_faults.Device own
+  pub cause : IsWriteCause before after own
+
+pub record HasWriteCause (result : Result (Unit {0}) OpenFault) (before after : Disk) : Type 0 where
+  pub ok : OnOk result (FailsNone before after)
+  pub cause : IfErr result (IsWritten before after)
+
+-- a crash at any moment leaves some first records of the file that is read
+abbrev pub LeavesSome : {N : Type 0} → (N → Disk) → (List ℕ → Type 0) → Profile → ℕ → N → N → Type 0
+LeavesSome disk holds profile clients_max before after = LeavesOnly (disk before) (disk after) (HasSomeFirst holds profile clients_max)
+
+module _ (tells : Type 0) {N : Type 0} (disk : N → Disk) where
+  -- the new file's device failed, or it has no space, or there is no memory
+  pub record Unwritten (fault : CopyLogFault) (before after : Kept N) : Type 0 where
+    pub own : JournalFault
+    pub named : fault ≡ New (open_faults.Device own)
+    pub breaks : tells → Breaks disk own [] before after
+
+  module _ (profile : Profile) (clients_max : ℕ) where
+    -- a record is that of the next entry, and waits or was committed; or it is not, and nothing was written
+    abbrev pub TakesRecord : Result (Unit {0}) CopyLogFault → List ℕ → Following → Following → Kept N → Kept N → Type 0
+    TakesRecord (Ok done) bytes F G before after =
+        EntersRecord profile clients_max bytes F G × (after.usable ≡ true) × (tells → Queues disk (bytes ∷ []) before after)
+    TakesRecord (Err (Old fault)) bytes F G before after = StopsAt fault profile clients_max F bytes × (after ≡ before)
+    TakesRecord (Err (New fault)) bytes F G before after = Unwritten (New fault) before after
+
+    module _ (holds : List ℕ → Type 0) where
+      -- these records were taken over, and a scan is behind them that was at a place before
+      pub record Taken (records : List (List ℕ)) (first here : ScanState) (F G : Following) (before after : Kept N) : Type 0 where
+        pub leads : Leads profile clients_max F records G
+        pub usable : after.usable ≡ true
+        pub queues : tells → Queues disk records before after
+        pub read : (file : List ℕ) (read : List (List ℕ)) → holds file → HasRead read file first → HasRead (read ++ records) file here
+
+      -- no more were taken behind that place: the file ends there; or it is the reason, or its device or memory; or the new file is
+      abbrev pub Ends : Result (Unit {0}) CopyLogFault → ScanState → Following → Kept N → Kept N → Type 0
+      Ends (Ok done) here F before after =
+          (after ≡ before) × ((file : List ℕ) (read : List (List ℕ)) → holds file → HasRead read file here → contents file ≡ Records read)
+      Ends (Err (Old fault)) here F before after =
+          (after ≡ before)
+          × ((file : List ℕ) (read : List (List ℕ)) → holds file → HasRead read file here → StopsAfter fault profile clients_max read F file)
+      Ends (Err (New fault)) here F before after = Unwritten (New fault) before after
+
+      abbrev pub TakesNext : Result Bool CopyLogFault → ScanState → ScanState → Following → Following → Kept N → Kept N → Type 0
+      TakesNext (Ok true) first last F G before after = (bytes : List ℕ) × Taken (bytes ∷ []) first last F G before after
+      TakesNext (Ok false) first last F G before after = Ends (Ok tt) first F before after
+      TakesNext (Err fault) first last F G before after = Ends (Err fault) first F before after
+
+      -- all records up to a place were taken over, and no more
+      pub record TakesAll (reached : Reached) (result : Result (Unit {0}) CopyLogFault) (first : ScanState) (F : Following) (before after : Kept N) : Type 0 where
+        pub records : List (List ℕ)
+        pub here : ScanState
+        pub last : Following
+        pub middle : Kept N
+        pub taken : Taken records first here F last before middle
+        pub reached_is : reached ≡ reached_by last reached.extent
+        pub end : reached.extent.end ≡ here.end
+        pub count : reached.extent.count ≡ here.count
+        pub ends : Ends result here last middle after
+
+      -- and they were committed
+      pub record TakesWhole (reached : Reached) (stop : Option LogStartFault) (first : ScanState) (F : Following) (before after : Kept N) : Type 0 where
+        pub records : List (List ℕ)
+        pub here : ScanState
+        pub last : Following
+        pub taken : Taken records first here F last before after
+        pub none_waits : after.waiting ≡ []
+        pub reached_is : reached ≡ reached_by last reached.extent
+        pub end : reached.extent.end ≡ here.end
+        pub count : reached.extent.count ≡ here.count
+        pub stops : (file : List ℕ) (read : List (List ℕ)) → holds file → HasRead read file first → StopsBehind stop profile clients_max (read ++ records) last file
+
+      -- or not: the old file is not read on for a reason that is not its own, and nothing more is written; or the new one was not written to
+      abbrev pub IsUntaken : CopyLogFault → Kept N → Kept N → Type 0
+      IsUntaken (Old fault) before after = after ≡ before
+      IsUntaken (New fault) before after = Unwritten (New fault) before after
+
+      pub record TakesPart (fault : CopyLogFault) (first : ScanState) (F : Following) (before after : Kept N) : Type 0 where
+        pub records : List (List ℕ)
+        pub here : ScanState
+        pub last : Following
+        pub middle : Kept N
+        pub taken : Taken records first here F last before middle
+        pub untaken : IsUntaken fault middle after
+        pub uncopied : (file : List ℕ) (read : List (List ℕ)) → holds file → HasRead read file first → IsUncopied fault file
+
+      abbrev pub TakesRest : Result (Reached × Option LogStartFault) CopyLogFault → ScanState → Following → Kept N → Kept N → Type 0
+      TakesRest (Ok found) first F before after = TakesWhole found.0 found.1 first F before after
+      TakesRest (Err fault) first F before after = TakesPart fault first F before after

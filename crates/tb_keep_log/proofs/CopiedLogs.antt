@@ -1,0 +1,214 @@
+-- A log's file that was taken over into a new one.
+use Rattle.std.proofs.Common.{arith, ℕ, ◌≡◌, ◌⊎◌, inl, inr, true, List, [], ◌++◌, Option, Result, Ok, Err, IfOk, sym, ap, ◌∙◌, subst, append-nil}
+use Rattle.std.proofs.lemmas.Grind.{common_steps}
+use Rattle.tb_records.specs.declared.limits.Profile.{Profile}
+use Rattle.tb_journal.specs.declared.faults.JournalFault.{JournalFault}
+use Rattle.tb_journal.specs.declared.faults.JournalFault.TheVariants as faults
+use Rattle.tb_journal.specs.declared.opening.OpenFault.{OpenFault}
+use Rattle.tb_journal.specs.declared.opening.OpenFault.TheVariants as open_faults
+use Rattle.tb_journal.specs.declared.reading.Refusal.TheVariants as refusals
+use Rattle.tb_journal.specs.Device.{Disk, LeavesOnly, FailsNone, IsOfCall, IsOfSync}
+use Rattle.tb_journal.specs.Contents.{recorded}
+use Rattle.tb_journal.specs.Creating.{is_blank, IsLeft, MayBeCreated, HasCreateCause}
+use Rattle.tb_journal.specs.Ready.{Kept}
+use Rattle.tb_journal.specs.Scans.{BeginsWith, ScanState, Starts, IsOfStart}
+use Rattle.tb_journal.proofs.Causes.{none_since}
+use Rattle.tb_journal.proofs.Moments.{started, then, weaker}
+use Rattle.tb_journal.proofs.BlockWalks.{begins_shorter}
+use Rattle.tb_log.specs.Following.{Following, begun}
+use Rattle.tb_keep.specs.Salvaging.{IsWriteCause}
+use Rattle.tb_keep.specs.private.Taking.{HoldsRead, IsBetween, line}
+use Rattle.tb_keep.proofs.Entered.{Latest}
+use Rattle.tb_keep.proofs.Taking.{breaks_then, write_cause_since}
+use Rattle.tb_keep_log.specs.declared.checking.Reached.{Reached}
+use Rattle.tb_keep_log.specs.declared.copying.CopiedLog.{CopiedLog}
+use Rattle.tb_keep_log.specs.declared.copying.NotCopiedLog.{NotCopiedLog}
+use Rattle.tb_keep_log.specs.declared.faults.CopyLogFault.{CopyLogFault}
+use Rattle.tb_keep_log.specs.declared.faults.CopyLogFault.TheVariants.{Old, New}
+use Rattle.tb_keep_log.specs.declared.faults.LogStartFault.{LogStartFault}
+use Rattle.tb_keep_log.specs.declared.faults.LogStartFault.TheVariants as start
+use Rattle.tb_keep_log.specs.Copying.{IsCopied, IsUncopied, IsLeftAlone, HasNewCause, HasSomeFirst, MayBeCopied, new_part}
+use Rattle.tb_keep_log.specs.Keeping.{Leads}
+use Rattle.tb_keep_log.specs.private.CopySteps.{IsNewJournal, HasWriteCause, Taken, TakesWhole, TakesPart}
+use Rattle.tb_keep_log.proofs.Copied.{leads_first}
+
+-- behind a journal without records
+
+module _ (tells : Type 0) {N : Type 0} (disk : N → Disk) (profile : Profile) (clients_max : ℕ) (holds : List ℕ → Type 0) (first : ScanState) (F : Following) (is_begun : F ≡ begun profile clients_max)
+    (created last : Kept N) (new : IsNewJournal tells disk created) where
+  abbrev reads : List ℕ → Type 0
+  reads = HoldsRead holds [] first
+
+  lines : (records : List (List ℕ)) → tells → line disk created ++ records ≡ records
+  lines records t =
+      ap (λ (l : List (List ℕ)). (l ++ created.waiting) ++ records) (new.no_records t)
+      ∙ ap (λ (l : List (List ℕ)). l ++ records) new.none_waits
+
+  module _ (records : List (List ℕ)) (here : ScanState) (G : Following) (after : Kept N) (taken : Taken tells disk profile clients_max holds records first here F G created after) where
+    leading : Leads profile clients_max (begun profile clients_max) records G
+    leading = subst (λ (K : Following). Leads profile clients_max K records G) is_begun taken.leads
+
+    begins : (file : List ℕ) → reads file → BeginsWith records file
+    begins file of = (taken.read file [] of.0 of.1).begins
+
+    some_first : (c : List ℕ) → IsBetween [] records c → HasSomeFirst reads profile clients_max c
+    some_first c (some, rest, are, is) =
+        let (U, kept) = leads_first profile clients_max (begun profile clients_max) G some rest (subst (λ (r : List (List ℕ)). Leads profile clients_max (begun profile clients_max) r G) is leading) in
+        record {
+          records = some;
+          last = U;
+          reads = are;
+          kept = kept;
+          first = λ file of. begins_shorter some rest file (subst (λ (r : List (List ℕ)). BeginsWith r file) is (begins file of));
+        }
+
+    all_moments : tells → (to : Disk) → LeavesOnly (disk created.device) to (IsBetween (recorded (disk created.device).seen) (line disk created ++ records))
+        → LeavesOnly (disk created.device) to (HasSomeFirst reads profile clients_max)
+    all_moments t to leaves =
+        weaker (disk created.device) to (IsBetween [] records) (HasSomeFirst reads profile clients_max) some_first
+        (subst (λ (l : List (List ℕ)). LeavesOnly (disk created.device) to (IsBetween [] l)) (lines records t)
+        (subst (λ (r : List (List ℕ)). LeavesOnly (disk created.device) to (IsBetween r (line disk created ++ records))) (new.no_records t) leaves))
+
+  pub copied_all : (reached : Reached) (stop : Option LogStartFault) → TakesWhole tells disk profile clients_max holds reached stop first F created last
+      → IsCopied tells disk reads profile clients_max (record { journal = last; reached = reached; stop = stop })
+  copied_all reached stop takes = record {
+    records = takes.records;
+    last = takes.last;
+    kept = leading takes.records takes.here takes.last last takes.taken;
+    ready = λ t. (takes.taken.queues t).ready;
+    file = λ t.
+        sym (append-nil (recorded (disk last.device).seen))
+        ∙ ap (λ (l : List (List ℕ)). recorded (disk last.device).seen ++ l) (sym takes.none_waits)
+        ∙ (takes.taken.queues t).line_is
+        ∙ lines takes.records t;
+    none_waits = takes.none_waits;
+    reached_is = takes.reached_is;
+    taken = λ file of.
+        let at = takes.taken.read file [] of.0 of.1 in
+        record { begins = at.begins; end_is = takes.end ∙ at.end; count_is = takes.count ∙ at.count; stops = takes.stops file [] of.0 of.1 };
+  }
+
+  pub moments_whole : (reached : Reached) (stop : Option LogStartFault) → TakesWhole tells disk profile clients_max holds reached stop first F created last
+      → tells → LeavesOnly (disk created.device) (disk last.device) (HasSomeFirst reads profile clients_max)
+  moments_whole reached stop takes t = all_moments takes.records takes.here takes.last last takes.taken t (disk last.device) (takes.taken.queues t).any_moment
+
+  pub cause_whole : (reached : Reached) (stop : Option LogStartFault) → TakesWhole tells disk profile clients_max holds reached stop first F created last
+      → tells → HasWriteCause (Ok tt) (disk created.device) (disk last.device)
+  cause_whole reached stop takes t = record { ok = (takes.taken.queues t).none; cause = tt }
+
+  pub uncopied_part : (fault : CopyLogFault) → TakesPart tells disk profile clients_max holds fault first F created last → (file : List ℕ) → reads file → IsUncopied fault file
+  uncopied_part fault takes file of = takes.uncopied file [] of.0 of.1
+
+  pub moments_part : (fault : CopyLogFault) → TakesPart tells disk profile clients_max holds fault first F created last → tells
+      → LeavesOnly (disk created.device) (disk last.device) (HasSomeFirst reads profile clients_max)
+  moments_part (Old fault) takes t =
+      subst (λ (j : Kept N). LeavesOnly (disk created.device) (disk j.device) (HasSomeFirst reads profile clients_max)) (sym takes.untaken)
+      (all_moments takes.records takes.here takes.last takes.middle takes.taken t (disk takes.middle.device) (takes.taken.queues t).any_moment)
+  moments_part (New fault) takes t =
+      all_moments takes.records takes.here takes.last takes.middle takes.taken t (disk last.device)
+      (subst (λ (r : List (List ℕ)). LeavesOnly (disk created.device) (disk last.device) (IsBetween (recorded (disk created.device).seen) (line disk created ++ r)))
+      (append-nil takes.records) (breaks_then disk created takes.middle last takes.records [] (takes.taken.queues t) takes.untaken.own (takes.untaken.breaks t)).any_moment)
+
+  pub cause_part : (fault : CopyLogFault) → TakesPart tells disk profile clients_max holds fault first F created last → tells
+      → HasWriteCause (new_part fault) (disk created.device) (disk last.device)
+  cause_part (Old fault) takes t = record {
+    ok = subst (λ (j : Kept N). FailsNone (disk created.device) (disk j.device)) (sym takes.untaken) (takes.taken.queues t).none;
+    cause = tt;
+  }
+  cause_part (New fault) takes t = record {
+    ok = tt;
+    cause = record {
+      own = takes.untaken.own;
+      named = ap new_fault_of takes.untaken.named;
+      cause = write_cause_since (disk created.device) (disk takes.middle.device) (disk last.device) takes.untaken.own (takes.taken.queues t).none (takes.untaken.breaks t).cause;
+    };
+  }
+    where
+      new_fault_of : CopyLogFault → OpenFault
+      new_fault_of (New f) = f
+      new_fault_of (Old f) = fault
+
+-- a new file that is made, and then written to
+
+never_empty : (before after : Disk) → IsWriteCause before after faults.NotEmpty → ⊥
+never_empty before after (inl failed) = by failed.named
+  where
+    by : IsOfCall faults.NotEmpty ⊎ IsOfSync faults.NotEmpty → ⊥
+    by named = grind (arith, common_steps)
+never_empty before after (inr (own, none)) = own
+
+written_alone : (before mid after : Disk) (own : JournalFault) → IsWriteCause mid after own → IsLeftAlone before after (open_faults.Device own)
+written_alone before mid after faults.NotEmpty cause = absurd (never_empty mid after cause)
+written_alone before mid after faults.Memory cause = tt
+written_alone before mid after faults.Failed cause = tt
+written_alone before mid after faults.Full cause = tt
+written_alone before mid after faults.TooLong cause = tt
+written_alone before mid after faults.SyncFailed cause = tt
+
+module _ (before mid after : Disk) where
+  pub made_cause : (result : Result (Unit {0}) OpenFault) → FailsNone before mid → HasWriteCause result mid after → HasNewCause result before after
+  made_cause (Ok done) none has = record { ok = none_since before mid after none has.ok; cause = tt; alone = tt }
+  made_cause (Err fault) none has = record {
+    ok = tt;
+    cause = inr (has.cause.own, has.cause.named, write_cause_since before mid after has.cause.own none has.cause.cause);
+    alone = subst (λ (f : OpenFault). IsLeftAlone before after f) (sym has.cause.named) (written_alone before mid after has.cause.own has.cause.cause);
+  }
+
+  pub made_moments : (holds : List ℕ → Type 0) (profile : Profile) (clients_max : ℕ) → is_blank before.seen ≡ true → LeavesOnly before mid (MayBeCreated before)
+      → LeavesOnly mid after (HasSomeFirst holds profile clients_max) → LeavesOnly before after (MayBeCopied holds before profile clients_max)
+  made_moments holds profile clients_max blank first second =
+      then before mid after (MayBeCopied holds before profile clients_max)
+      (weaker before mid (MayBeCreated before) (MayBeCopied holds before profile clients_max) (λ c is. inl is) first)
+      (weaker mid after (HasSomeFirst holds profile clients_max) (MayBeCopied holds before profile clients_max) (λ c is. inr (blank, is)) second)
+
+-- or is not made
+
+pub not_made_moments : (before after : Disk) (holds : List ℕ → Type 0) (profile : Profile) (clients_max : ℕ) → LeavesOnly before after (MayBeCreated before)
+    → LeavesOnly before after (MayBeCopied holds before profile clients_max)
+not_made_moments before after holds profile clients_max leaves =
+    weaker before after (MayBeCreated before) (MayBeCopied holds before profile clients_max) (λ c is. inl is) leaves
+
+left_alone : (before after : Disk) (fault : OpenFault) → IsLeft before after fault → IsLeftAlone before after fault
+left_alone before after (open_faults.Device faults.NotEmpty) left = record { seen = left.0; any_moment = left.1 }
+left_alone before after (open_faults.Device faults.Memory) left = tt
+left_alone before after (open_faults.Device faults.Failed) left = tt
+left_alone before after (open_faults.Device faults.Full) left = tt
+left_alone before after (open_faults.Device faults.TooLong) left = tt
+left_alone before after (open_faults.Device faults.SyncFailed) left = tt
+left_alone before after (open_faults.Refused why) left = tt
+
+pub not_made_cause : (before after : Disk) (fault : OpenFault) → IsLeft before after fault → HasCreateCause {T = Unit {0}} (Err fault) before after → HasNewCause (Err fault) before after
+not_made_cause before after fault left has = record { ok = tt; cause = inl has.cause; alone = left_alone before after fault left }
+
+pub none_made : (disk : Disk) (holds : List ℕ → Type 0) (profile : Profile) (clients_max : ℕ) → Latest disk → LeavesOnly disk disk (MayBeCopied holds disk profile clients_max)
+none_made disk holds profile clients_max now = started disk (MayBeCopied holds disk profile clients_max) (λ c left. inl (inl (inl (now c left))))
+
+pub start_uncopied : (fault : OpenFault) (file : List ℕ) → Starts (Err fault) file → IsOfStart fault → IsUncopied (Old (start.Journal fault)) file
+start_uncopied (open_faults.Device f) file starts refused = tt
+start_uncopied (open_faults.Refused refusals.NotAJournal) file starts refused = starts
+start_uncopied (open_faults.Refused (refusals.Damaged at)) file starts refused = absurd refused
+
+-- by another file that the reads are of
+
+module _ (holds less : List ℕ → Type 0) (so : (file : List ℕ) → less file → holds file) (profile : Profile) (clients_max : ℕ) where
+  pub ok_of : (tells : Type 0) {N : Type 0} (disk : N → Disk) (result : Result (CopiedLog N) (NotCopiedLog N)) → IfOk result (IsCopied tells disk holds profile clients_max)
+      → IfOk result (IsCopied tells disk less profile clients_max)
+  ok_of tells {N} disk (Ok copied) is = record {
+    records = is.records;
+    last = is.last;
+    kept = is.kept;
+    ready = is.ready;
+    file = is.file;
+    none_waits = is.none_waits;
+    reached_is = is.reached_is;
+    taken = λ file of. is.taken file (so file of);
+  }
+  ok_of tells {N} disk (Err failed) is = tt
+
+  may_be_of : (before : Disk) (c : List ℕ) → MayBeCopied holds before profile clients_max c → MayBeCopied less before profile clients_max c
+  may_be_of before c (inl made) = inl made
+  may_be_of before c (inr (blank, is)) =
+      inr (blank, record { records = is.records; last = is.last; reads = is.reads; kept = is.kept; first = λ file of. is.first file (so file of) })
+
+  pub moments_of : (before after : Disk) → LeavesOnly before after (MayBeCopied holds before profile clients_max) → LeavesOnly before after (MayBeCopied less before profile clients_max)
+  moments_of before after leaves = weaker before after (MayBeCopied holds before profile clients_max) (MayBeCopied less before profile clients_max) (may_be_of before) leaves
