@@ -16,7 +16,6 @@ import collections
 import contextlib
 import os
 import random
-import re
 import shutil
 import struct
 import subprocess
@@ -125,9 +124,7 @@ class Made:
         assert status in (0, *REFUSED), (name, said)
         for form, (it, out, line) in seen.items():
             assert it == status, (name, form, it, status, said, line)
-            # A backup names the place of a damaged block, and not its entry.
-            wanted = re.sub(rb" \(entry \d+\)", b"", said) if form == "backup" else said
-            assert not status or line == wanted, (name, form, wanted, line)
+            assert not status or line == said, (name, form, said, line)
             assert form != "dump" or self.begins(out), (name, form)
         if status == 0:
             assert self.ran("dump", "ledger")[1] == self.dump, name

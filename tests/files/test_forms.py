@@ -480,7 +480,7 @@ UNCOPIED = [
         " backup: tbd salvage needs the head\n",
         None,
     ),
-    ("backup", "second entry changed", 6, CHANGED.replace(" (entry 2)", ""), kinds.FIRST_END),
+    ("backup", "second entry changed", 6, CHANGED, kinds.FIRST_END),
     ("backup", "torn long", 6, TORN_LONG, kinds.END),
     (
         "backup",

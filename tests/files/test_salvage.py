@@ -123,8 +123,35 @@ def test_an_entry_that_is_lost_takes_the_later_ones(whole, tmp_path, at, count):
 
 
 @pytest.mark.quick
-@pytest.mark.parametrize("at", [0, len(MAGIC) + LATCH, len(MAGIC) + FIXED])
-def test_no_rules_no_new_file(whole, tmp_path, at):
-    status, printed, dump = whole.salvaged(tmp_path, put(whole.data, at, b"\0"))
+@pytest.mark.parametrize("at, values", [(it, b"\0") for it in range(8)] + [(0, bytes(8))])
+def test_nothing_is_lost_with_the_magic(whole, tmp_path, at, values):
+    data = put(whole.data, at, values)
+    status, printed, dump = whole.salvaged(tmp_path, data)
+    assert (status, dump) == (0, whole.dump)
+    assert printed.endswith("\ndamaged magic: the first 8 bytes are not a journal's\n"), printed
+
+
+@pytest.mark.quick
+def test_a_magic_and_a_latch_lose_nothing(whole, tmp_path):
+    data = put(put(whole.data, 0, b"\0"), whole.blocks[10], CLOSED)
+    status, printed, dump = whole.salvaged(tmp_path, data)
+    assert (status, dump) == (0, whole.dump)
+    more = len(whole.blocks) - 10
+    assert f"read on {more} of the entries from byte {whole.blocks[10]}\ndamaged magic" in printed
+
+
+@pytest.mark.quick
+def test_a_file_of_another_magic_is_not_backed_up(whole, tmp_path):
+    (tmp_path / "old").write_bytes(put(whole.data, 0, b"\0"))
+    done = subprocess.run([whole.tbd, "backup", "old", "new"], cwd=tmp_path, check=False)
+    assert done.returncode == 5 and not (tmp_path / "new").exists()
+
+
+@pytest.mark.quick
+@pytest.mark.parametrize("at", [len(MAGIC) + LATCH, len(MAGIC) + FIXED])
+@pytest.mark.parametrize("first", [MAGIC[:1], b"\0"])
+def test_no_rules_no_new_file(whole, tmp_path, at, first):
+    data = put(put(whole.data, at, b"\0"), 0, first)
+    status, printed, dump = whole.salvaged(tmp_path, data)
     assert status in REFUSED
     assert not printed and not dump and not (tmp_path / "new").exists()

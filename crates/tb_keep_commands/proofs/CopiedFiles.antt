@@ -1,5 +1,5 @@
 -- What is reported of a file that was copied.
-use Rattle.std.proofs.Common.{◌≡◌, ℕ, List, Option, None, refl, ap, subst, ◌∙◌}
+use Rattle.std.proofs.Common.{◌≡◌, ℕ, List, Option, None, Some, Err, refl, ap, subst, ◌∙◌}
 use Rattle.tb_journal.specs.declared.devices.Device as devices
 use Rattle.tb_records.specs.Transport.{Output}
 use Rattle.tb_keep.specs.declared.faults.StartFault.{StartFault}
@@ -11,6 +11,9 @@ use Rattle.tb_machine.proofs.RepeatLaws.{commit_is}
 use Rattle.tb_keep_commands.specs.declared.copies.Copied.{Copied}
 use Rattle.tb_keep_commands.specs.declared.rescues.Rescued.{Rescued}
 use Rattle.tb_keep_commands.specs.Copies.{IsCopy, EndsCopy, copied_of, copied_text, rescued_of, rescued_text}
+use Rattle.tb_keep_commands.specs.declared.faults.KeepCommandFault.{KeepCommandFault}
+use Rattle.tb_keep_commands.specs.ExitStatuses.{started_fault}
+use Rattle.tb_keep_commands.specs.Naming.{Names}
 use Rattle.tb_keep_commands.specs.Outcomes.{Outcome, PrintsText}
 
 pub copy_is : {N : Type 0} (its : devices.Ghosts N) (holds : List ℕ → Type 0) (len : ℕ) (salvaged : Salvaged N)
@@ -29,11 +32,18 @@ copy_is its holds len salvaged is =
     }
 
 -- what was copied was printed, where that is not refused
-pub printed : (asked : Option StartFault) (c copied : Copied) (outcome : Outcome) (start written : Output) → None ≡ asked → c ≡ copied
-    → PrintsText (copied_text c) outcome start written → EndsCopy asked copied outcome start written
-printed asked c copied outcome start written none same prints =
-    subst (λ (a : Option StartFault). EndsCopy a copied outcome start written) none
-    (subst (λ (d : Copied). PrintsText (copied_text d) outcome start written) same prints)
+pub printed : {E : Type 0} (its : devices.Ghosts E) (asked : Option StartFault) (c copied : Copied) (outcome : Outcome) (from : E) (start written : Output) → None ≡ asked → c ≡ copied
+    → PrintsText (copied_text c) outcome start written → EndsCopy its asked copied outcome from from start written
+printed its asked c copied outcome from start written none same prints =
+    subst (λ (a : Option StartFault). EndsCopy its a copied outcome from from start written) none
+    (subst (λ (d : Copied). PrintsText (copied_text d) outcome start written) same prints, refl)
+
+-- or it is, and it is said why
+pub refused : {E : Type 0} (its : devices.Ghosts E) (asked : Option StartFault) (fault : StartFault) (copied : Copied) (named : KeepCommandFault) (from after : E) (start : Output) → Some fault ≡ asked
+    → Names its (started_fault fault) named from after → EndsCopy its asked copied (Err named) from after start start
+refused its asked fault copied named from after start is names =
+    subst (λ (a : Option StartFault). EndsCopy its a copied (Err named) from after start start) is
+    (record { named = named; outcome_is = refl; names = names }, refl)
 
 -- the same of what was read on
 pub rescued_printed : (found : Rescued) (copied c : Copied) (S : State) (on : ReadOn) (outcome : Outcome) (start written : Output) → found ≡ rescued_of copied S on → copied ≡ c

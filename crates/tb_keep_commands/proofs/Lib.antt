@@ -2,6 +2,7 @@ pub mod CopiedFiles
 pub mod FirstBytes
 pub mod Lengths
 pub mod Lives
+pub mod Mends
 pub mod PartCauses
 pub mod DumpPrefixes
 pub mod Passing

@@ -24,10 +24,12 @@ use Rattle.tb_keep_commands.specs.declared.rescues.Rescued.{Rescued}
 use Rattle.tb_keep_commands.specs.declared.faults.Damage.{Damage}
 use Rattle.tb_keep_commands.specs.declared.faults.Damage.TheVariants.{Block}
 use Rattle.tb_keep_commands.specs.declared.faults.KeepCommandFault.{KeepCommandFault}
-use Rattle.tb_keep_commands.specs.declared.faults.KeepCommandFault.TheVariants.{Damaged, Opening, Making}
+use Rattle.tb_keep_commands.specs.declared.faults.KeepCommandFault.TheVariants.{Damaged, Opening, Making, NotAJournal}
+use Rattle.tb_keep_commands.specs.declared.mending.Mended.{Mended}
 use Rattle.tb_keep_commands.specs.Ends.{KnownFiles}
+use Rattle.tb_keep_commands.specs.Mending.{mended_device}
 use Rattle.tb_keep_commands.specs.Naming.{Names}
-use Rattle.tb_keep_commands.specs.Outcomes.{Outcome, PrintsText, IsMeasured, IsRefused, Opens}
+use Rattle.tb_keep_commands.specs.Outcomes.{Outcome, Prints, PrintsText, IsMeasured, IsRefused, Opens}
 use Rattle.tb_keep_commands.specs.ExitStatuses.{damage_text, disk_fault, new_fault, started_fault}
 use Rattle.tb_keep_commands.specs.Summaries.{line_before, behind_text}
 
@@ -97,12 +99,12 @@ abbrev pub refused_by : Bool → Option StartFault → Option StartFault
 refused_by true stop = stop
 refused_by false stop = None
 
--- what was copied was printed; or it is reported what is damaged, and nothing was printed
-abbrev pub EndsCopy : Option StartFault → Copied → Outcome → Output → Output → Type 0
-EndsCopy None c outcome start written = PrintsText (copied_text c) outcome start written
-EndsCopy (Some fault) c outcome start written = (outcome ≡ Err (started_fault fault)) × (written ≡ start)
-
 module _ {E : Type 0} (its : devices.Ghosts E) where
+  -- what was copied was printed; or it is reported what is damaged, and nothing was printed
+  abbrev pub EndsCopy : Option StartFault → Copied → Outcome → E → E → Output → Output → Type 0
+  EndsCopy None c outcome from after start written = PrintsText (copied_text c) outcome start written × (after ≡ from)
+  EndsCopy (Some fault) c outcome from after start written = IsRefused its fault outcome from after × (written ≡ start)
+
   -- a fault of the file, with what there is to say of it; or one of the new file
   abbrev pub NamesCopy : SalvageFault → KeepCommandFault → E → E → Type 0
   NamesCopy (Old fault) named from after = Names its (started_fault fault) named from after
@@ -142,7 +144,7 @@ module _ {E : Type 0} (its : devices.Ghosts E) (whole_read : E → List ℕ → 
 
   -- a copy of a file that is to be whole ends there, and any other is read on
   abbrev pub EndsBy : Bool → ℕ → Salvaged D → Outcome → E → E → Output → Output → Type 0
-  EndsBy true len salvaged outcome from after start written = EndsCopy (refused_by true salvaged.stop) (copied_of len salvaged) outcome start written × (after ≡ from)
+  EndsBy true len salvaged outcome from after start written = EndsCopy its (refused_by true salvaged.stop) (copied_of len salvaged) outcome from after start written
   EndsBy false len salvaged outcome from after start written = Rescues len salvaged outcome from after start written
 
   -- the new file keeps what was copied, which was printed, or the file is refused; or why there is no new file, or one not to its end
@@ -167,26 +169,67 @@ module _ {E : Type 0} (its : devices.Ghosts E) (whole_read : E → List ℕ → 
     pub copies : MatchResult len (λ n. CopiesLong n whole outcome into between after start written)
         (λ fault. (outcome ≡ Err (disk_fault fault)) × (after ≡ between) × (written ≡ start))
 
+-- a file that is not to be whole, and is no journal by its first bytes, is read as one
+abbrev pub is_mended : Bool → KeepCommandFault → Bool
+is_mended false (NotAJournal kind) = true
+is_mended whole fault = false
+
+-- of such a file it is reported last that its first bytes are not a journal's, where it was copied
+abbrev pub mended_line : List ℕ
+mended_line = codes "damaged magic: the first 8 bytes are not a journal's\n"
+
+abbrev pub NotesMended : Outcome → Outcome → Output → Output → Type 0
+NotesMended (Ok done) outcome start written = Prints mended_line outcome start written
+NotesMended (Err fault) outcome start written = (outcome ≡ Err fault) × (written ≡ start)
+
 module _ {O D E : Type 0} (its : KnownFiles O D E) (new : List ℕ) where
   -- the new file of a name was made, and a file was copied into it; or it was not, and nothing was read
-  abbrev pub MakesCopy : O → O → Bool → Outcome → E → E → Output → Output → Type 0
-  MakesCopy before left whole outcome from after start written =
+  abbrev pub MakesCopy : {F : Type 0} → devices.Ghosts F → (F → List ℕ → Type 0) → O → O → Bool → Outcome → F → F → Output → Output → Type 0
+  MakesCopy reading whole_read before left whole outcome from after start written =
       Opens Making (its.opener.makes_new before new) left outcome ((after ≡ from) × (written ≡ start))
-      (λ into. CopiesFile its.reading its.whole its.file whole outcome into from after start written)
+      (λ into. CopiesFile reading whole_read its.file whole outcome into from after start written)
 
-  -- the first record of a file was read, and then it was copied into a new one. Of one that does not begin as a ledger's none was made
-  pub record CopiesHeaded (before left : O) (whole : Bool) (outcome : Outcome) (from after : E) (start written : Output) : Type 0 where
+  -- a file was read whole, with the first bytes of a journal over its own; where it begins as a ledger's then it was copied so
+  pub record CopiesMended (before left : O) (refused : KeepCommandFault) (outcome : Outcome) (from : E) (start written : Output) : Type 0 where
+    pub looked : E
+    pub looks : (file : List ℕ) → its.whole from file → its.whole looked file
+    pub all : (file : List ℕ) → its.reading.holds looked file → its.whole looked file
+    pub mended : Mended E
+    pub same : mended.device ≡ looked
+    pub rules : Result Rules StartFault
+    pub between : Mended E
+    pub head : IsHeadRead (mended_device its.reading) rules mended between
+    pub copied : Outcome
+    pub after : Mended E
+    pub middle : Output
+    pub copies : MatchResult rules
+        (λ read. MakesCopy (mended_device its.reading) (mended_device its.reading).holds before left false copied between after start middle × NotesMended copied outcome middle written)
+        (λ fault. (outcome ≡ Err refused) × (left ≡ before) × (written ≡ start))
+
+  abbrev pub CopiesIf : Bool → O → O → KeepCommandFault → Outcome → E → Output → Output → Type 0
+  CopiesIf true before left refused outcome from start written = CopiesMended before left refused outcome from start written
+  CopiesIf false before left refused outcome from start written = (outcome ≡ Err refused) × (left ≡ before) × (written ≡ start)
+
+  -- a file that does not begin as a ledger's is refused, and no new one was made; but of one that may have other first bytes alone
+  pub record CopiesRefused (before left : O) (fault : StartFault) (whole : Bool) (outcome : Outcome) (from : E) (start written : Output) : Type 0 where
+    pub refused : KeepCommandFault
+    pub after : E
+    pub names : Names its.reading (started_fault fault) refused from after
+    pub copies : CopiesIf (is_mended whole refused) before left refused outcome after start written
+
+  -- the first record of a file was read, and then it was copied into a new one
+  pub record CopiesHeaded (before left : O) (whole : Bool) (outcome : Outcome) (from : E) (start written : Output) : Type 0 where
     pub rules : Result Rules StartFault
     pub between : E
     pub head : IsHeadRead its.reading rules from between
-    pub copies : MatchResult rules (λ read. MakesCopy before left whole outcome between after start written)
-        (λ fault. IsRefused its.reading fault outcome between after × (left ≡ before) × (written ≡ start))
+    pub copies : MatchResult rules (λ read. (after : E) × MakesCopy its.reading its.whole before left whole outcome between after start written)
+        (λ fault. CopiesRefused before left fault whole outcome between start written)
 
   -- the file of a name was opened and copied into a new one; or it was not opened, and none was made
   pub record CopiesOver (name : List ℕ) (before left : O) (whole : Bool) (outcome : Outcome) (start written : Output) : Type 0 where
     pub middle : O
     pub copies : Opens Opening (its.opener.opens before name) middle outcome ((left ≡ middle) × (written ≡ start))
-        (λ from. (after : E) × CopiesHeaded middle left whole outcome from after start written)
+        (λ from. CopiesHeaded middle left whole outcome from start written)
 
 -- rows
 

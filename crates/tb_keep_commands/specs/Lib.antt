@@ -9,6 +9,7 @@ pub mod Pages
 pub mod Hosts
 pub mod Kinds
 pub mod Live
+pub mod Mending
 pub mod Naming
 pub mod Outcomes
 pub mod Outlets

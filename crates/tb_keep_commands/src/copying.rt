@@ -1,15 +1,16 @@
 //! A file copied into a new one: what can be read of it, or where it is whole.
 ghost use Rattle.std.specs.Prelude.{◌≡◌, true};
-ghost use Rattle.tb_keep_commands.specs.Copies.{copied_of, copied_text, rescued_text, refused_by, NamesCopy, Rescues, EndsBy, CopiesLong, CopiesFile};
+ghost use Rattle.tb_keep_commands.specs.Copies.{copied_of, is_mended, mended_line, copied_text, rescued_text, refused_by, NamesCopy, Rescues, EndsBy, CopiesLong, CopiesFile};
 ghost use Rattle.tb_keep.specs.Keeping.{IsUsable, IsFresh};
-ghost use Rattle.tb_keep_commands.specs.Outcomes.{PrintsText};
-ghost use Rattle.tb_keep_commands.specs.private.Changes.{OnDevice, OnWriter};
-ghost use Rattle.tb_keep_commands.specs.private.Stages.{CopiesHeadedOn, CopiesOn, EndsSalvage, MakesCopyOn};
+ghost use Rattle.tb_keep_commands.specs.Outcomes.{Prints, PrintsText};
+ghost use Rattle.tb_keep_commands.specs.private.Changes.{OnDevice};
+ghost use Rattle.tb_keep_commands.specs.private.Stages.{CopiesHeadedOn, CopiesMendedOn, CopiesOn, CopiesRefusedOn, EndsSalvage, MakesCopyOn, NotesMendedOn};
 
 use crate::copies::{Copied, damage_of};
 use crate::ends::Files;
 use crate::faults::{Failed, KeepCommandFault, disk_fault, new_fault, started_fault};
 use crate::live::Live;
+use crate::mending::Mended;
 use crate::naming::named;
 use crate::openers::Opener;
 use crate::rescues::{Rescued, rescued_of};
@@ -54,20 +55,21 @@ fn refused_by(whole: bool, stop: Option<StartFault>) -> Option<StartFault>
 }
 
 /// Writes what was copied of a file of so many bytes; or refuses it, where it was to be whole.
-fn end_copy<N: Device + Drop, W: Sink>(
+fn end_copy<D: Device, N: Device + Drop, W: Sink>(
     alloc: Global,
+    from: &mut D,
     salvaged: Salvaged<N>,
     len: usize,
     whole: bool,
     writer: &mut W,
 ) -> Result<(), KeepCommandFault>
-    ensures { OnWriter W.Sink (EndsSalvage len whole salvaged result) writer }
+    ensures { OnDevice W.Sink (EndsSalvage D.Device len whole salvaged result) from writer }
 {
     let copied = copied_of(&salvaged, len);
     let stop = salvaged.stop;
     drop(salvaged);
     match refused_by(whole, stop) {
-        Some(fault) => Err(started_fault(fault)),
+        Some(fault) => Err(named(alloc, from, fault)),
         None => report(alloc, copied, writer),
     }
 }
@@ -155,7 +157,7 @@ fn end_by<D: Live, N: Device + Drop, W: Sink>(
     ensures { OnDevice W.Sink (EndsBy D.Device D.whole N.Device whole len salvaged result) from writer }
 {
     if whole {
-        return end_copy(alloc, salvaged, len, true, writer);
+        return end_copy(alloc, from, salvaged, len, true, writer);
     }
     rescue(alloc, from, len, salvaged, writer)
 }
@@ -200,15 +202,15 @@ pub(crate) fn copy<D: Live, N: Device + Drop, W: Sink>(
 }
 
 /// Makes the new file of a name, and copies a file into it.
-fn copy_made<O: Opener, W: Sink>(
+fn copy_made<O: Opener, D: Live, W: Sink>(
     alloc: Global,
     opener: &mut O,
     new: &str,
-    from: &mut O::Reading,
+    from: &mut D,
     whole: bool,
     writer: &mut W,
 ) -> Result<(), KeepCommandFault>
-    ensures { MakesCopyOn ⟦<O as Files>⟧.its W.Sink new.now whole result opener from writer }
+    ensures { MakesCopyOn ⟦<O as Files>⟧.its D.Device D.whole W.Sink new.now whole result opener from writer }
 {
     let made = opener.make_new(new);
     match made {
@@ -217,20 +219,112 @@ fn copy_made<O: Opener, W: Sink>(
     }
 }
 
-/// Copies a file into a new one of a name, which is made where the file begins as a ledger's.
-fn copy_headed<O: Opener, W: Sink>(
+/// Says whether a file that is refused is read as a journal whatever its first bytes are.
+fn is_mended(whole: bool, fault: KeepCommandFault) -> bool
+    ensures { result ≡ is_mended whole fault }
+{
+    match fault {
+        KeepCommandFault::NotAJournal(_) => !whole,
+        _ => false,
+    }
+}
+
+/// What is reported of a file that was copied, and whose first bytes are not a journal's.
+const MENDED: &str = "damaged magic: the first 8 bytes are not a journal's\n";
+
+/// Writes that the first bytes of a file that was copied are not a journal's.
+pub fn print_mended<W: Sink>(writer: &mut W) -> Result<(), KeepCommandFault>
+    ensures { Prints mended_line result (W.output writer.old) (W.output writer.new) }
+{
+    match put_all(writer, MENDED.as_bytes()) {
+        Ok(()) => Ok(()),
+        Err(_) => Err(KeepCommandFault::Device(Failed::Output)),
+    }
+}
+
+/// Reports of a file that was copied that its first bytes are not a journal's.
+fn note_mended<W: Sink>(
+    copied: Result<(), KeepCommandFault>,
+    writer: &mut W,
+) -> Result<(), KeepCommandFault>
+    ensures { NotesMendedOn W.Sink copied result writer }
+{
+    match copied {
+        Ok(()) => print_mended(writer),
+        Err(fault) => Err(fault),
+    }
+}
+
+/// Copies a file that is refused for its first bytes as one that begins as a journal. Where it does not go on as a ledger's it is refused
+/// as it was.
+fn copy_mended<O: Opener, W: Sink>(
     alloc: Global,
     opener: &mut O,
-    from: &mut O::Reading,
+    from: O::Reading,
+    refused: KeepCommandFault,
+    new: &str,
+    writer: &mut W,
+) -> Result<(), KeepCommandFault>
+    ensures { CopiesMendedOn ⟦<O as Files>⟧.its W.Sink new.now refused result from opener writer }
+{
+    let mut from = from;
+    from.look_behind();
+    let mut from = Mended::new(from);
+    let read = read_rules(alloc, &mut from);
+    match read {
+        Ok(_rules) => {
+            let copied = copy_made(alloc, opener, new, &mut from, false, writer);
+            drop(from);
+            note_mended(copied, writer)
+        }
+        Err(_other) => {
+            drop(from);
+            Err(refused)
+        }
+    }
+}
+
+/// Copies a file that is refused, where it may be one whose first bytes are damaged alone.
+fn copy_refused<O: Opener, W: Sink>(
+    alloc: Global,
+    opener: &mut O,
+    from: O::Reading,
+    fault: StartFault,
     new: &str,
     whole: bool,
     writer: &mut W,
 ) -> Result<(), KeepCommandFault>
-    ensures { CopiesHeadedOn ⟦<O as Files>⟧.its W.Sink new.now whole result opener from writer }
+    ensures { CopiesRefusedOn ⟦<O as Files>⟧.its W.Sink new.now fault whole result from opener writer }
 {
-    match read_rules(alloc, from) {
-        Ok(_rules) => copy_made(alloc, opener, new, from, whole, writer),
-        Err(fault) => Err(named(alloc, from, fault)),
+    let mut from = from;
+    let refused = named(alloc, &mut from, fault);
+    if is_mended(whole, refused) {
+        return copy_mended(alloc, opener, from, refused, new, writer);
+    }
+    drop(from);
+    Err(refused)
+}
+
+/// Copies a file into a new one of a name, which is made where the file begins as a ledger's.
+fn copy_headed<O: Opener, W: Sink>(
+    alloc: Global,
+    opener: &mut O,
+    from: O::Reading,
+    new: &str,
+    whole: bool,
+    writer: &mut W,
+) -> Result<(), KeepCommandFault>
+    ensures { CopiesHeadedOn ⟦<O as Files>⟧.its W.Sink new.now whole result from opener writer }
+{
+    let mut from = from;
+    let read = read_rules(alloc, &mut from);
+    match read {
+        Ok(_rules) => {
+            let copied = copy_made(alloc, opener, new, &mut from, whole, writer);
+            drop(from);
+            copied
+        }
+        Err(fault) => copy_refused(alloc, opener, from, fault, new, whole, writer),
     }
 }
 
@@ -247,12 +341,7 @@ pub(crate) fn copy_over<O: Opener, W: Sink>(
 {
     let opened = opener.open(name);
     match opened {
-        Ok(device) => {
-            let mut device = device;
-            let copied = copy_headed(alloc, opener, &mut device, new, whole, writer);
-            drop(device);
-            copied
-        }
+        Ok(device) => copy_headed(alloc, opener, device, new, whole, writer),
         Err(fault) => Err(KeepCommandFault::Opening(fault)),
     }
 }

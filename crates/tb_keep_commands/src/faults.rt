@@ -190,7 +190,7 @@ pub fn dumped_fault(fault: DumpFault) -> KeepCommandFault
 }
 
 /// A fault of the file, where that is the new one.
-pub(crate) fn new_fault(fault: KeepCommandFault) -> KeepCommandFault
+pub fn new_fault(fault: KeepCommandFault) -> KeepCommandFault
     ensures { result ≡ new_fault fault }
 {
     match fault {
@@ -253,7 +253,7 @@ impl OpeningFault {
 
 impl KeepCommandFault {
     /// The path that is printed with it: that of the file, or of the new one.
-    pub(crate) fn path<'a>(self, file: &'a str, new: &'a str) -> &'a str
+    pub fn path<'a>(self, file: &'a str, new: &'a str) -> &'a str
         ensures { result.now ≡ fault_path self file.now new.now }
     {
         match self {

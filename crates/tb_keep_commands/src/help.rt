@@ -38,8 +38,9 @@ macro_rules! page {
                                   --quick only checksums, commit numbers and times are checked,
                                   in little memory: the ledger is not replayed"
 "
-  salvage FILE NEW                copies what is whole before the first damage into NEW, and
-                                  prints what is lost and where. NEW must not exist"
+  salvage FILE NEW                copies what is whole before the first damage into NEW, of a
+                                  ledger what can be read behind it too, and prints what is lost
+                                  and where. FILE is a ledger's or a log's. NEW must not exist"
 "
   backup FILE NEW                 the same of a FILE that is whole, else status 6"
 "

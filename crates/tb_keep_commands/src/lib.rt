@@ -5,6 +5,7 @@
 //! - `arguments`: what the words of the command line ask for, and what is wrong with words that ask for nothing.
 //! - `help`: the pages of usage.
 //! - `live`: `Live`, a file that is read while another program may append to it.
+//! - `mending`: `Mended`, a file whose first bytes are read as a journal's.
 //! - `laws`: what holds of every dump of a file that grows.
 //! - `openers`: `Opener`, what opens the device of a name, and why it does not.
 //! - `outlets`: `Outlet`, a writer that says at its end whether all that was put went out.
@@ -48,6 +49,7 @@ mod kinds;
 pub mod laws;
 mod lines;
 mod live;
+mod mending;
 mod naming;
 mod openers;
 mod outlets;
@@ -64,10 +66,11 @@ pub use arguments::{
 pub use asides::{COPIES_MAX, Reason, Uncopied};
 pub use commands::{Terminals, command, made_by};
 pub use copies::Copied;
+pub use copying::print_mended;
 pub use ends::{Ends, Files};
 pub use faults::{
-    Damage, Failed, KeepCommandFault, Mismatch, Numbers, disk_fault, opened_fault, reason_fault,
-    words_fault,
+    Damage, Failed, KeepCommandFault, Mismatch, Numbers, disk_fault, new_fault, opened_fault,
+    reason_fault, words_fault,
 };
 pub use help::{CHECK, RUN, USAGE, VERSION};
 pub use host::{refuse, serve};
@@ -78,6 +81,8 @@ pub use lines::{
     tell_text, tell_usage, tell_wrong,
 };
 pub use live::Live;
+pub use mending::Mended;
+pub use naming::entry_at;
 pub use openers::{Opener, OpeningFault, opening_fault, unread_fault};
 pub use outlets::{Outgoing, Outlet};
 pub use places::{Named, Place, Silent};

@@ -47,7 +47,7 @@ fn readable<D: Device>(alloc: Global, device: &mut D) -> Result<Extent, OpenFaul
 
 /// The number of the record at this offset, which is that of its entry: so many records are before it. The file is read up to there;
 /// None where that fails, or the file is no longer damaged there.
-fn entry_at<D: Device>(alloc: Global, device: &mut D, at: usize) -> Option<u64>
+pub fn entry_at<D: Device>(alloc: Global, device: &mut D, at: usize) -> Option<u64>
     ensures { IsEntryAt D.Device at result device.old device.new }
 {
     match readable(alloc, device) {

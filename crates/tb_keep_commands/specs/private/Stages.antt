@@ -4,13 +4,15 @@ use Rattle.tb_records.specs.Transport.{Input, Output}
 use Rattle.tb_records.specs.declared.devices.Sink as sinks
 use Rattle.tb_journal.specs.declared.devices.Device as devices
 use Rattle.tb_journal.specs.Scans.{HasRead, ScanState}
+use Rattle.tb_keep.specs.declared.faults.StartFault.{StartFault}
 use Rattle.tb_keep.specs.declared.recovering.Rules.{Rules}
 use Rattle.tb_keep.specs.declared.salvaging.Salvaged.{Salvaged}
 use Rattle.tb_keep.specs.Keeping.{Keeping}
 use Rattle.tb_keep_commands.specs.declared.commands.Asked.{Asked}
+use Rattle.tb_keep_commands.specs.declared.faults.KeepCommandFault.{KeepCommandFault}
 use Rattle.tb_keep_commands.specs.declared.following.Part.{Part}
 use Rattle.tb_keep_commands.specs.declared.keeping.Told.{Told}
-use Rattle.tb_keep_commands.specs.Copies.{CopiesHeaded, CopiesOver, EndsCopy, MakesCopy, copied_of, refused_by}
+use Rattle.tb_keep_commands.specs.Copies.{CopiesHeaded, CopiesMended, CopiesOver, CopiesRefused, EndsCopy, MakesCopy, NotesMended, copied_of, refused_by}
 use Rattle.tb_keep_commands.specs.Ends.{KnownEnds, KnownFiles, On}
 use Rattle.tb_keep_commands.specs.Exits.{Exits, Performs, made_by}
 use Rattle.tb_keep_commands.specs.Following.{EndsRounds, Grown, GrowsBy, HasPartCause, RoundCause, SendsRound, WritesPart}
@@ -30,8 +32,8 @@ module _ {D : Type 0} (its : devices.Ghosts D) (outcome : Outcome) where
   RunsTold rules told device = ServesFile its outcome rules told.path.now told.reports told.existing device
 
 -- what is written of a file of so many bytes that was copied, or why it is refused
-abbrev pub EndsSalvage : {N : Type 0} → ℕ → Bool → Salvaged N → Outcome → Output → Output → Type 0
-EndsSalvage len whole salvaged outcome = EndsCopy (refused_by whole salvaged.stop) (copied_of len salvaged) outcome
+abbrev pub EndsSalvage : {E N : Type 0} → devices.Ghosts E → ℕ → Bool → Salvaged N → Outcome → E → E → Output → Output → Type 0
+EndsSalvage its len whole salvaged outcome = EndsCopy its (refused_by whole salvaged.stop) (copied_of len salvaged) outcome
 
 -- the part of a dump that was asked for, of what a device holds
 module _ {D W : Type 0} (its : devices.Ghosts D) (sink : sinks.Ghosts W) (Ended : Type 0) (part : Part) (outcome : Outcome) where
@@ -52,12 +54,24 @@ module _ {O D E W : Type 0} (its : KnownFiles O D E) (sink : sinks.Ghosts W) whe
   abbrev pub CopiesOn : List ℕ → List ℕ → Bool → Outcome → Change O → Change W → Type 0
   CopiesOn into name whole outcome opener writer = OnWriter sink (CopiesOver its into name (old opener) (new opener) whole outcome) writer
 
-  abbrev pub CopiesHeadedOn : List ℕ → Bool → Outcome → Change O → Change E → Change W → Type 0
-  CopiesHeadedOn into whole outcome opener from writer =
-      OnDevice sink (CopiesHeaded its into (old opener) (new opener) whole outcome) from writer
+  abbrev pub CopiesHeadedOn : List ℕ → Bool → Outcome → E → Change O → Change W → Type 0
+  CopiesHeadedOn into whole outcome from opener writer = OnWriter sink (CopiesHeaded its into (old opener) (new opener) whole outcome from) writer
 
-  abbrev pub MakesCopyOn : List ℕ → Bool → Outcome → Change O → Change E → Change W → Type 0
-  MakesCopyOn into whole outcome opener from writer = OnDevice sink (MakesCopy its into (old opener) (new opener) whole outcome) from writer
+  abbrev pub CopiesRefusedOn : List ℕ → StartFault → Bool → Outcome → E → Change O → Change W → Type 0
+  CopiesRefusedOn into fault whole outcome from opener writer =
+      OnWriter sink (CopiesRefused its into (old opener) (new opener) fault whole outcome from) writer
+
+  abbrev pub CopiesMendedOn : List ℕ → KeepCommandFault → Outcome → E → Change O → Change W → Type 0
+  CopiesMendedOn into refused outcome from opener writer =
+      OnWriter sink (CopiesMended its into (old opener) (new opener) refused outcome from) writer
+
+module _ {O D E F W : Type 0} (its : KnownFiles O D E) (reading : devices.Ghosts F) (whole_read : F → List ℕ → Type 0) (sink : sinks.Ghosts W) where
+  abbrev pub MakesCopyOn : List ℕ → Bool → Outcome → Change O → Change F → Change W → Type 0
+  MakesCopyOn into whole outcome opener from writer =
+      OnDevice sink (MakesCopy its into reading whole_read (old opener) (new opener) whole outcome) from writer
+
+abbrev pub NotesMendedOn : {W : Type 0} → sinks.Ghosts W → Outcome → Outcome → Change W → Type 0
+NotesMendedOn sink copied outcome writer = OnWriter sink (NotesMended copied outcome) writer
 
 -- what was asked for, over the ends of a command
 module _ {O D E R W L : Type 0} (its : KnownEnds O D E R W L) where

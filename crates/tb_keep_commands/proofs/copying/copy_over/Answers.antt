@@ -4,7 +4,7 @@ use Rattle.tb_keep_commands.proofs.copying.copy_over.Goals as goal
 pub returns-in-Ok : goal.returns-in-Ok
 returns-in-Ok g c = record {
   middle = c.open-opened.new.self;
-  copies = record { answer = Ok c.in-Ok.device; answered = c.in-Ok.ensures; done = (c.copy_headed-copied.new.from, c.copy_headed-copied.ensures) };
+  copies = record { answer = Ok c.in-Ok.device; answered = c.in-Ok.ensures; done = c.copy_headed.ensures };
 }
 
 pub returns-in-Err : goal.returns-in-Err
