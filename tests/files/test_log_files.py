@@ -1,6 +1,7 @@
-"""`tbd check` of a log's file, whose bytes the test writes itself: blocks and records as
-docs/use/TBD.md and FORMATS.md have them, the position and hashes behind each entry by `tb_follow`,
-which has no file. What `tbd follow` refuses is refused by the forms that read, with the same line.
+"""`tbd check`, `backup` and `salvage` of a log's file, whose bytes the test writes itself: blocks
+and records as docs/use/TBD.md and FORMATS.md have them, the position and hashes behind each entry
+by `tb_follow`, which has no file. What `tbd follow` refuses is refused by the forms that read, with
+the same line.
 
     python3 -m pytest -m quick tests/files/test_log_files.py
 """
@@ -105,20 +106,36 @@ class Ran:
     out: str
     err: str
 
+    def lines(self):
+        return dict(line.rsplit(" ", 1) for line in self.out.splitlines())
+
 
 @pytest.fixture(name="run")
 def fixture_run(tbd, tmp_path):
     """Runs a form over a file of these bytes, which stay but for what `follow` does."""
 
-    def run(form, data):
-        path = tmp_path / "log"
-        path.write_bytes(data)
-        words = [tbd, form, path, *([str(CLIENTS)] if form == "follow" else [])]
-        done = subprocess.run(words, input=b"", capture_output=True, timeout=SECONDS, check=False)
-        assert form == "follow" or path.read_bytes() == data
+    def run(form, data, given=b""):
+        old, new = tmp_path / "old", tmp_path / "new"
+        old.write_bytes(data)
+        words = {"follow": [old, str(CLIENTS)], "check": [old], "dump": [old]}
+        words = [tbd, form, *words.get(form, [old, new])]
+        done = subprocess.run(words, input=given, capture_output=True, timeout=SECONDS, check=False)
+        assert form == "follow" or old.read_bytes() == data
         return Ran(done.returncode, done.stdout.decode("latin-1"), done.stderr.decode())
 
     return run
+
+
+@pytest.fixture(name="made")
+def fixture_made(tmp_path):
+    """The bytes of the new file that a form made; it is removed."""
+
+    def made():
+        data = (tmp_path / "new").read_bytes()
+        (tmp_path / "new").unlink()
+        return data
+
+    return made
 
 
 def test_the_bytes_are_those_that_follow_writes(tbd, tmp_path, log):
@@ -140,6 +157,22 @@ def test_check(run, log, entries, torn):
         f"records {entries}\nentries {commits(entries)}\nprofile {PROFILE}\nclients_max {CLIENTS}\n"
         f"last time {time}\nbytes behind {len(torn)}{what}\nposition {entries}\n"
     )
+
+
+@pytest.mark.parametrize("entries", [1, ENTRIES])
+@pytest.mark.parametrize("torn", [b"", b"torn"])
+@pytest.mark.parametrize("form", ["backup", "salvage"])
+def test_a_copy_is_the_same_log(run, made, log, form, entries, torn):
+    done = run(form, log.file(entries) + torn)
+    copy = made()
+    assert (done.status, done.err) == (0, "")
+    assert copy == log.file(entries)
+    assert done.lines()["position"] == str(entries)
+    assert done.lines()["entries"] == done.lines()["last commit"] == str(commits(entries))
+    assert ("bytes behind 4, not committed yet or torn\n" in done.out) == bool(torn)
+    served = run("follow", copy, b"".join(log.items[entries:]) + QUESTION)
+    assert served.status == 0 and served.err == f"tbd: has the log up to position {entries}\n"
+    assert served.out.encode("latin-1")[-STANDING:] == log.records[-1][MARK : MARK + STANDING]
 
 
 def put(data, at, values):
@@ -172,19 +205,62 @@ def test_a_damaged_log(run, log, kind):
     assert {done.status for done in verdicts} == {5 if kind == "ledger" else 6}
     assert {done.out for done in verdicts} == {""}
     assert len({done.err for done in verdicts}) == 1 and verdicts[0].err.startswith("tbd: ")
+    block = f"the block at byte {log.at(3)} (entry 4) is not what was written"
+    assert (block in verdicts[0].err) == (kind in ("checksum", "length", "pairs", "cut"))
+
+
+@pytest.mark.parametrize("kind", DAMAGED)
+def test_what_is_copied_of_a_damaged_log(run, made, log, kind):
+    data = DAMAGED[kind](log)
+    done = run("salvage", data)
+    copy = made()
+    assert (done.status, done.err) == (0, "")
+    assert copy == log.file(3) and done.lines()["position"] == "3"
+    lost, place = max(len(data) - len(copy), 0), log.at(3)
+    assert f"\nbytes lost {lost} behind byte {place}: Damaged: at byte {place}\n" in done.out
+    done, checked = run("backup", data), run("check", data)
+    assert (done.status, done.out, done.err) == (checked.status, "", checked.err)
+    assert made() == log.file(3)
+
+
+def test_the_first_record_is_lost(run, made, log):
+    data = put(log.file(), log.at(0) + FIXED + 200, b"\xee" * 9)
+    assert "(entry 1)" in run("check", data).err
+    done = run("salvage", data)
+    assert done.status == 0 and made() == MAGIC + CLOSED
+    assert done.lines()["position"] == "0"
+
+
+@pytest.mark.parametrize("at", range(len(MAGIC)))
+def test_the_magic_of_a_log(run, made, log, at):
+    data = put(log.file() + b"torn", at, b"\0")
+    for form in ("check", "backup"):
+        done = run(form, data)
+        assert (done.status, done.out) == (5, "") and "NotAJournal" in done.err
+    done = run("salvage", data)
+    assert (done.status, done.err, made()) == (0, "", log.file())
+    assert done.out.endswith("\ndamaged magic: the first 8 bytes are not a journal's\n")
+
+
+def test_no_new_file_is_made_where_one_is(run, made, tmp_path, log):
+    for form in ("backup", "salvage"):
+        (tmp_path / "new").write_bytes(b"there")
+        done = run(form, log.file())
+        assert done.status == 2 and "new" in done.err
+        assert made() == b"there"
 
 
 def test_too_many_torn_bytes_are_refused(run, log):
     few, many = log.file() + bytes(TORN_MAX), log.file() + bytes(TORN_MAX + 1)
     assert run("check", few).status == 0
-    for form in ("follow", "check", "dump"):
+    for form in ("follow", "check", "dump", "backup"):
         done = run(form, many)
         assert (done.status, done.out) == (6, ""), form
         assert f"{TORN_MAX + 1} bytes" in done.err
 
 
 def test_a_log_that_is_served(tbd, tmp_path, log):
-    path = tmp_path / "log"
+    path, new = tmp_path / "log", tmp_path / "new"
     words = [tbd, "follow", path, str(CLIENTS)]
     with subprocess.Popen(words, stdin=subprocess.PIPE, stdout=subprocess.PIPE) as served:
         served.stdin.write(b"".join(log.items[:4]) + QUESTION)
@@ -194,6 +270,8 @@ def test_a_log_that_is_served(tbd, tmp_path, log):
             served.stdout.read(reply_length(served.stdout.read(HEADER)) - HEADER)
         done = subprocess.run([tbd, "check", path], capture_output=True, check=True)
         assert done.stdout.endswith(b"position 4\n")
+        subprocess.run([tbd, "backup", path, new], capture_output=True, check=True)
+        assert new.read_bytes() == log.file(4)
         served.stdin.close()
         served.stdout.read()
     assert served.returncode == 0

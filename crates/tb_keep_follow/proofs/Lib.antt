@@ -1,2 +1,3 @@
+pub mod CopiedLogs
 pub mod Lengths
 pub mod Rounds

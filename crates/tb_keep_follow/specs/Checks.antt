@@ -18,9 +18,8 @@ use Rattle.tb_keep_commands.specs.Outcomes.{IsMeasured, PrintsText}
 use Rattle.tb_keep_commands.specs.Summaries.{summary_text}
 use Rattle.tb_keep_follow.specs.declared.checking.LogSummary.{LogSummary}
 use Rattle.tb_keep_follow.specs.declared.faults.FollowFault.TheVariants.{Kept}
-use Rattle.tb_keep_follow.specs.Faults.{started_fault}
 use Rattle.tb_keep_follow.specs.Heads.{FindsRules}
-use Rattle.tb_keep_follow.specs.Outcomes.{IsReadWhole, Opens, Outcome}
+use Rattle.tb_keep_follow.specs.Outcomes.{IsReadWhole, IsRefused, Opens, Outcome}
 
 -- what is in a file of so many bytes that was read to its end. Those behind the closed latch are not committed yet, or torn
 abbrev pub log_summary_of : Rules → Reached → ℕ → LogSummary
@@ -48,9 +47,10 @@ module _ {D : Type 0} (its : devices.Ghosts D) where
   -- a file of so many bytes was read to its end before what is in it was printed. Of one that is refused nothing was
   pub record ChecksLong (len : ℕ) (outcome : Outcome) (rules : Rules) (device after : D) (start written : Output) : Type 0 where
     pub read : Result Reached LogStartFault
-    pub whole : IsReadWhole its read rules device after
-    pub checks : MatchResult read (λ it. Reports (log_summary_text (log_summary_of rules it len)) outcome start written)
-        (λ fault. (outcome ≡ Err (started_fault fault)) × (written ≡ start))
+    pub between : D
+    pub whole : IsReadWhole its read rules device between
+    pub checks : MatchResult read (λ it. Reports (log_summary_text (log_summary_of rules it len)) outcome start written × (after ≡ between))
+        (λ fault. IsRefused its fault outcome between after × (written ≡ start))
 
   module _ (whole : D → List ℕ → Type 0) where
     -- a file's length was asked for, and then it was checked

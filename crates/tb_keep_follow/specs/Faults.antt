@@ -23,7 +23,7 @@ use Rattle.tb_keep_commands.specs.declared.faults.Failed.TheVariants.{Output}
 use Rattle.tb_keep_commands.specs.declared.faults.KeepCommandFault.{KeepCommandFault}
 use Rattle.tb_keep_commands.specs.declared.faults.KeepCommandFault.TheVariants.{Device, NoMemory, NotAJournal, Damaged, Full}
 use Rattle.tb_keep_commands.specs.declared.kinds.Kind.TheVariants as kind
-use Rattle.tb_keep_commands.specs.ExitStatuses.{counted, damage_line, disk_fault, opened_fault, fault_exit_status, fault_line, line_of, named}
+use Rattle.tb_keep_commands.specs.ExitStatuses.{counted, damage_line, disk_fault, opened_fault, fault_exit_status, fault_line, fault_path, line_of, named}
 use Rattle.tb_keep_commands.specs.Printable.{printable}
 use Rattle.tb_keep_follow.specs.declared.faults.FollowFault.{FollowFault}
 use Rattle.tb_keep_follow.specs.declared.faults.FollowFault.TheVariants.{Kept, Plain, OtherRules, NoEntry, Entry, OtherHashes, Unwritten, Item}
@@ -67,6 +67,11 @@ follow_exit_status (Item fault) = 2
 follow_exit_status Plain = 5
 follow_exit_status OtherRules = 7
 follow_exit_status fault = 6
+
+-- the path that is printed with a fault: that of the file, or of the new one
+abbrev pub follow_path : FollowFault → List ℕ → List ℕ → List ℕ
+follow_path (Kept fault) file new = fault_path fault file new
+follow_path fault file new = file
 
 -- lines: with a text, a number, a number and a text, a path
 abbrev pub text_line : List ℕ → List ℕ → List ℕ

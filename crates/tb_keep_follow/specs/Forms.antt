@@ -14,7 +14,7 @@ use Rattle.tb_keep_commands.specs.declared.arguments.Options.{Options}
 use Rattle.tb_keep_commands.specs.Forms as commands
 use Rattle.tb_keep_commands.specs.Forms.{asked_in, options_of}
 use Rattle.tb_keep_follow.specs.declared.arguments.Form.{Form}
-use Rattle.tb_keep_follow.specs.declared.arguments.Form.TheVariants.{Follow, Dump, Check}
+use Rattle.tb_keep_follow.specs.declared.arguments.Form.TheVariants.{Follow, Dump, Check, Salvage, Backup}
 
 abbrev pub follow_form : Option ℕ → Profile → Options → Option Form
 follow_form None profile options = None
@@ -41,6 +41,8 @@ form_of words = form_asked (asked_in words)
 abbrev pub log_form : LedgerForm → Option Form
 log_form (form.Dump after follows) = Some (Dump after follows)
 log_form (form.Check quick) = Some Check
+log_form form.Salvage = Some Salvage
+log_form form.Backup = Some Backup
 log_form asked = None
 
 abbrev pub log_form_if : Option LedgerForm → Option Form
@@ -79,6 +81,14 @@ later_entries_of_a_log = refl
 pub a_check_is_one_of_any_file : log_form_of (codes "check" ∷ codes "log" ∷ []) ≡ Some Check
 unfolding asked_in
 a_check_is_one_of_any_file = refl
+
+pub a_copy_is_one_of_any_file : log_form_of (codes "salvage" ∷ codes "log" ∷ codes "new" ∷ []) ≡ Some Salvage
+unfolding asked_in
+a_copy_is_one_of_any_file = refl
+
+pub a_whole_copy_is_one_of_any_file : log_form_of (codes "backup" ∷ codes "log" ∷ codes "new" ∷ []) ≡ Some Backup
+unfolding asked_in
+a_whole_copy_is_one_of_any_file = refl
 
 pub no_start_of_a_log_is_reported : form_of (codes "follow" ∷ codes "log" ∷ codes "64" ∷ codes "--progress" ∷ []) ≡ None
 unfolding asked_in

@@ -1,8 +1,10 @@
 pub mod Checks
+pub mod Copies
 pub mod Exits
 pub mod Faults
 pub mod Forms
 pub mod Heads
 pub mod Hosts
+pub mod Naming
 pub mod Outcomes
 pub mod Parts

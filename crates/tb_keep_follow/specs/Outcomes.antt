@@ -15,7 +15,8 @@ use Rattle.tb_keep_log.specs.Dumping.{DumpsLog, HasDumpCause}
 use Rattle.tb_keep_log.specs.declared.checking.Reached.{Reached}
 use Rattle.tb_keep_log.specs.Checking.{ChecksLog}
 use Rattle.tb_keep_log.specs.Keeping.{By, Keeping}
-use Rattle.tb_keep_log.specs.Beginning.{HasStartCause, IsOpened, IsRefused, IsStartRefused, IsStarted, MayBeOpened, MayBeStarted, OpensFile, StartsFile, device_left, why_left}
+use Rattle.tb_keep_log.specs.Beginning as log
+use Rattle.tb_keep_log.specs.Beginning.{HasStartCause, IsOpened, IsStartRefused, IsStarted, MayBeOpened, MayBeStarted, OpensFile, StartsFile, device_left, why_left}
 use Rattle.tb_keep_log.specs.Rereading.{HasLogCause}
 use Rattle.tb_keep_log.specs.Items.{Served, point}
 use Rattle.tb_keep_commands.specs.declared.asides.Reason.{Reason}
@@ -32,6 +33,7 @@ use Rattle.tb_keep_follow.specs.declared.faults.FollowFault.TheVariants.{Kept}
 use Rattle.tb_keep_follow.specs.declared.parts.Part.{Part}
 use Rattle.tb_keep_follow.specs.Faults.{started_fault, kept_fault, dumped_fault, wanted_line}
 use Rattle.tb_keep_follow.specs.Heads.{FindsRules}
+use Rattle.tb_keep_follow.specs.Naming.{Names}
 use Rattle.tb_keep_follow.specs.Parts.{WritesPart}
 
 -- done, or not to its end
@@ -60,6 +62,12 @@ module _ {D : Type 0} (its : devices.Ghosts D) where
     pub untouched : its.tells → IsUntouched (its.disk device) (its.disk after)
     pub cause : its.tells → HasLogCause read (its.disk device) (its.disk after)
 
+  -- a file that was read is refused, with what there is to say of it
+  pub record IsRefused (fault : LogStartFault) (outcome : Outcome) (device after : D) : Type 0 where
+    pub named : FollowFault
+    pub outcome_is : outcome ≡ Err named
+    pub names : Names its (started_fault fault) named device after
+
   -- the dump of a log of these rules was written, or as much of it as the answer says; the file stays
   pub record IsDumped (result : Result (Unit {0}) DumpLogFault) (rules : Rules) (device after : D) (start written : Output) : Type 0 where
     pub dumps : OfFile device (λ file. DumpsLog result rules.profile rules.clients_max file start written)
@@ -79,7 +87,7 @@ module _ {D : Type 0} (its : devices.Ghosts D) where
     pub between : D
     pub whole : IsReadWhole read rules device between
     pub dumps : MatchResult read (λ done. DumpsRead outcome rules between after start written)
-        (λ fault. (outcome ≡ Err (started_fault fault)) × (after ≡ between) × (written ≡ start))
+        (λ fault. IsRefused fault outcome between after × (written ≡ start))
 
   -- the part of a log's history that was asked for was written, of a log of these rules. Where that is done nobody waits for more
   pub record IsWritten (Ended : Type 0) (from : Option ℕ) (follows : Bool) (outcome : Outcome) (rules : Rules) (device after : D) (start written : Output) : Type 0 where
@@ -92,7 +100,7 @@ module _ {D : Type 0} (its : devices.Ghosts D) where
     pub between : D
     pub whole : IsReadWhole read rules device between
     pub writes : MatchResult read (λ done. IsWritten Ended from follows outcome rules between after start written)
-        (λ fault. (outcome ≡ Err (started_fault fault)) × (after ≡ between) × (written ≡ start))
+        (λ fault. IsRefused fault outcome between after × (written ≡ start))
 
   -- a dump, or a part of one
   abbrev pub DumpsPart : Type 0 → Option ℕ → Bool → Outcome → Rules → D → D → Output → Output → Type 0
@@ -137,7 +145,7 @@ module _ {D : Type 0} (its : devices.Ghosts D) where
   -- the same of one over a file in which a log is to be: none is created
   pub record Takes (result : Result (Keeping D) (NotStarted D)) (rules : Rules) (device : D) : Type 0 where
     pub answers : MatchResult result (λ keeper. (its.disk device).sound ≡ true → IsOpened its.disk (its.disk device).seen keeper)
-        (λ failed. IsRefused failed.fault rules.profile rules.clients_max (its.disk device) (its.disk failed.device))
+        (λ failed. log.IsRefused failed.fault rules.profile rules.clients_max (its.disk device) (its.disk failed.device))
     pub cause : HasLogCause (why_left result) (its.disk device) (its.disk (device_left result))
     pub any_moment : (its.disk device).sound ≡ true → LeavesOnly (its.disk device) (its.disk (device_left result)) (MayBeOpened (its.disk device))
 
@@ -154,9 +162,10 @@ module _ {D : Type 0} (its : devices.Ghosts D) where
   abbrev pub IsAside : Result (Keeping D) (NotStarted D) → D → Type 0
   IsAside result device = OfFile device (λ file. IfOk result (λ keeper. AreAside its.aside keeper.cut file))
 
-  -- a start was refused; nothing was read, written or reported but why
-  pub record IsUnstarted (fault : LogStartFault) (outcome : Outcome) (first last : Input) (start written quiet told : Output) : Type 0 where
-    pub outcome_is : outcome ≡ Err (started_fault fault)
+  -- a start was refused, with what there is to say of the file; nothing was read, written or reported but why
+  pub record IsUnstarted (failed : NotStarted D) (outcome : Outcome) (first last : Input) (start written quiet told : Output) : Type 0 where
+    pub left : D
+    pub refused : IsRefused failed.fault outcome failed.device left
     pub unread : last ≡ first
     pub unwritten : written ≡ start
     pub silent : told ≡ quiet
@@ -169,7 +178,7 @@ module _ {D : Type 0} (its : devices.Ghosts D) where
     pub handed : HandsBy existing started rules device
     pub aside : IsAside started device
     pub follows : MatchResult started (λ keeper. FollowsKept outcome keeper path len first last start written quiet told)
-        (λ failed. IsUnstarted failed.fault outcome first last start written quiet told)
+        (λ failed. IsUnstarted failed outcome first last start written quiet told)
 
   -- the length of the file of this path was asked for, and then a log of these rules was started over it, and kept
   pub record FollowsFile (outcome : Outcome) (rules : Rules) (path : List ℕ) (existing : Bool) (device : D) (first last : Input)

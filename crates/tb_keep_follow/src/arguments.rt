@@ -16,6 +16,10 @@ pub enum Form {
     Dump(Option<u64>, bool),
     /// Write what is in a log's file.
     Check,
+    /// Copy what can be read of a log's file into a new one.
+    Salvage,
+    /// Copy a whole log's file into a new one.
+    Backup,
 }
 
 /// `follow`, by what is given.
@@ -42,6 +46,8 @@ fn log_form(form: tb_keep_commands::Form) -> Option<Form>
     match form {
         tb_keep_commands::Form::Dump(after, follows) => Some(Form::Dump(after, follows)),
         tb_keep_commands::Form::Check(_) => Some(Form::Check),
+        tb_keep_commands::Form::Salvage => Some(Form::Salvage),
+        tb_keep_commands::Form::Backup => Some(Form::Backup),
         _ => None,
     }
 }

@@ -3,8 +3,9 @@ ghost use Rattle.std.specs.Prelude.{◌≡◌};
 ghost use Rattle.tb_keep_commands.specs.Outcomes.{PrintsText};
 ghost use Rattle.tb_keep_follow.specs.Checks.{ChecksFileOn, ChecksFoundOn, ChecksLongOn, log_summary_of, log_summary_text, printed_outcome};
 
-use crate::faults::{FollowFault, started_fault};
+use crate::faults::FollowFault;
 use crate::heads::find_rules;
+use crate::naming::named;
 use std::alloc::Global;
 use std::{fmt, format};
 use tb_journal::Device;
@@ -70,7 +71,7 @@ fn report<W: Sink>(
 }
 
 /// What becomes of a check.
-fn printed_outcome(printed: Result<(), KeepCommandFault>) -> Result<(), FollowFault>
+pub(crate) fn printed_outcome(printed: Result<(), KeepCommandFault>) -> Result<(), FollowFault>
     ensures { result ≡ printed_outcome printed }
 {
     match printed {
@@ -94,7 +95,7 @@ fn check_long<D: Device, W: Sink>(
         Ok(reached) => {
             printed_outcome(report(alloc, LogSummary::of(rules, reached, len), writer))
         }
-        Err(fault) => Err(started_fault(fault)),
+        Err(fault) => Err(named(alloc, device, fault)),
     }
 }
 

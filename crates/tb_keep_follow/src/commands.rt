@@ -1,11 +1,13 @@
 //! The forms over a log, over what opens devices, any reader and any writer, and the exit status of each outcome.
 ghost use Rattle.std.specs.Prelude.{◌≡◌};
 ghost use Rattle.tb_keep_follow.specs.Checks.{ChecksOver};
+ghost use Rattle.tb_keep_follow.specs.Copies.{CopiesOver};
 ghost use Rattle.tb_keep_follow.specs.Exits.{ExitsOn, Finishes, PerformsOn};
 ghost use Rattle.tb_keep_follow.specs.Outcomes.{DumpsOver, FollowsOn, FollowsOpenedOn, named_by};
 
 use crate::arguments::Form;
 use crate::checking::check_found;
+use crate::copying::copy_found;
 use crate::dumping::dump_found;
 use crate::faults::FollowFault;
 use crate::following::follow;
@@ -14,7 +16,7 @@ use crate::parts::Part;
 use std::alloc::Global;
 use tb_keep::Rules;
 use tb_keep_commands::{
-    Ends, Failed, KeepCommandFault, Opener, Outlet, Reason, made_by, reason_fault,
+    Ends, Failed, Files, KeepCommandFault, Opener, Outlet, Reason, made_by, reason_fault,
 };
 use tb_records::{Sink, Source};
 
@@ -111,17 +113,36 @@ fn check_over<O: Opener, W: Outlet>(
     }
 }
 
-/// Does what the form asks for, over the device of a path.
+/// Copies the file of a path into a new one of another path, and writes what was copied.
+fn copy_over<O: Opener, W: Outlet>(
+    alloc: Global,
+    opener: &mut O,
+    path: &str,
+    new: &str,
+    whole: bool,
+    writer: &mut W,
+) -> Result<(), FollowFault>
+    ensures { CopiesOver ⟦<O as Files>⟧.its new.now whole path.now result opener.old opener.new (W.output writer.old) (W.output writer.new) }
+{
+    let read = opener.open(path);
+    match read {
+        Ok(device) => copy_found(alloc, opener, device, new, whole, writer),
+        Err(fault) => Err(FollowFault::Kept(KeepCommandFault::Opening(fault))),
+    }
+}
+
+/// Does what the form asks for, over the device of a path, and that of a new one.
 fn perform<O: Opener, R: Source, W: Outlet, E: Sink>(
     alloc: Global,
     opener: &mut O,
     form: Form,
     path: &str,
+    new: &str,
     reader: &mut R,
     writer: &mut W,
     faults: &mut E,
 ) -> Result<(), FollowFault>
-    ensures { PerformsOn ⟦<O as Ends<R, W, E>>⟧.its form path.now opener.old opener.new result
+    ensures { PerformsOn ⟦<O as Ends<R, W, E>>⟧.its form path.now new.now opener.old opener.new result
         reader.old reader.new writer.old writer.new faults.old faults.new }
 {
     match form {
@@ -137,6 +158,8 @@ fn perform<O: Opener, R: Source, W: Outlet, E: Sink>(
             dump_over(alloc, opener, path, writer, Part { after, follows })
         }
         Form::Check => check_over(alloc, opener, path, writer),
+        Form::Salvage => copy_over(alloc, opener, path, new, false, writer),
+        Form::Backup => copy_over(alloc, opener, path, new, true, writer),
     }
 }
 
@@ -160,18 +183,19 @@ pub fn command<O: Opener, R: Source, W: Outlet, E: Sink>(
     opener: &mut O,
     form: Form,
     path: &str,
+    new: &str,
     reader: &mut R,
     writer: &mut W,
     faults: &mut E,
 ) -> u8
-    ensures { ExitsOn ⟦<O as Ends<R, W, E>>⟧.its form path.now opener.old opener.new result
+    ensures { ExitsOn ⟦<O as Ends<R, W, E>>⟧.its form path.now new.now opener.old opener.new result
         reader.old reader.new writer.old writer.new faults.old faults.new }
 {
-    let done = perform(alloc, opener, form, path, reader, writer, faults);
+    let done = perform(alloc, opener, form, path, new, reader, writer, faults);
     match finish(done, writer) {
         Ok(()) => 0,
         Err(fault) => {
-            tell_fault(fault, path, faults);
+            tell_fault(fault, fault.path(path, new), faults);
             fault.exit_status()
         }
     }

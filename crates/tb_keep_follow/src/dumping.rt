@@ -2,8 +2,9 @@
 ghost use Rattle.std.specs.Prelude.{◌≡◌};
 ghost use Rattle.tb_keep_follow.specs.Outcomes.{DumpsReadOn, DumpsFileOn, DumpsLaterOn, DumpsPartOn, DumpsFoundOn, dumped_outcome};
 
-use crate::faults::{FollowFault, dumped_fault, started_fault};
+use crate::faults::{FollowFault, dumped_fault};
 use crate::heads::find_rules;
+use crate::naming::named;
 use crate::parts::{Part, write_part};
 use std::alloc::Global;
 use tb_journal::Device;
@@ -46,7 +47,7 @@ fn dump<D: Device, W: Sink>(
     let same = rules;
     match check_log(alloc, same, device) {
         Ok(_reached) => dump_read(alloc, rules, device, writer),
-        Err(fault) => Err(started_fault(fault)),
+        Err(fault) => Err(named(alloc, device, fault)),
     }
 }
 
@@ -64,7 +65,7 @@ fn dump_later<O: Opener, W: Outlet>(
     let same = rules;
     match check_log(alloc, same, device) {
         Ok(_reached) => write_part(alloc, opener, rules, device, writer, part),
-        Err(why) => Err(started_fault(why)),
+        Err(why) => Err(named(alloc, device, why)),
     }
 }
 

@@ -1,6 +1,6 @@
 //! Why a form over a log ends with an exit status other than 0.
 ghost use Rattle.std.specs.Prelude.{◌≡◌, ◌<◌};
-ghost use Rattle.tb_keep_follow.specs.Faults.{journal_fault, started_fault, item_fault, kept_fault, dumped_fault, follow_exit_status};
+ghost use Rattle.tb_keep_follow.specs.Faults.{journal_fault, started_fault, item_fault, kept_fault, dumped_fault, follow_exit_status, follow_path};
 
 use tb_journal::{OpenFault, Refusal};
 use tb_keep_commands::{Damage, Failed, KeepCommandFault, Kind, disk_fault, opened_fault};
@@ -29,7 +29,7 @@ pub enum FollowFault {
 }
 
 /// The fault of a journal that is not read or opened.
-fn journal_fault(fault: OpenFault) -> KeepCommandFault
+pub(crate) fn journal_fault(fault: OpenFault) -> KeepCommandFault
     ensures { result ≡ journal_fault fault }
 {
     match fault {
@@ -90,6 +90,16 @@ pub(crate) fn dumped_fault(fault: DumpLogFault) -> FollowFault
 }
 
 impl FollowFault {
+    /// The path that is printed with it: that of the file, or of the new one.
+    pub(crate) fn path<'a>(self, file: &'a str, new: &'a str) -> &'a str
+        ensures { result.now ≡ follow_path self file.now new.now }
+    {
+        match self {
+            FollowFault::Kept(fault) => fault.path(file, new),
+            _ => file,
+        }
+    }
+
     /// The exit status.
     pub fn exit_status(self) -> u8
         ensures failing { 0 < result }

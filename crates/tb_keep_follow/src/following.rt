@@ -5,8 +5,9 @@ ghost use Rattle.tb_keep_log.specs.Keeping.{IsUsable};
 ghost use Rattle.tb_keep_commands.specs.Ends.{On};
 ghost use Rattle.tb_keep_follow.specs.Outcomes.{FollowsKept, FollowsLong, FollowsFile, StartsBy, HandsBy, IsAside, kept_outcome};
 
-use crate::faults::{FollowFault, kept_fault, started_fault};
+use crate::faults::{FollowFault, kept_fault};
 use crate::lines::tell_wanted;
+use crate::naming::named;
 use bumpalo::Bump;
 use std::alloc::{Allocator, Global};
 use tb_journal::Device;
@@ -94,9 +95,11 @@ fn start<D: Device + Drop, A: Allocator + Copy, R: Source, W: Sink, E: Sink>(
     match started(alloc, pool, device, rules, existing) {
         Ok(keeper) => keep(alloc, keeper, path, len, reader, writer, faults),
         Err(failed) => {
-            let fault = failed.fault;
-            drop(failed);
-            Err(started_fault(fault))
+            let NotStarted { device, fault } = failed;
+            let mut device = device;
+            let fault = named(alloc, &mut device, fault);
+            drop(device);
+            Err(fault)
         }
     }
 }

@@ -7,7 +7,9 @@ use crate::commands::command;
 use crate::heads::{Looker, is_log};
 use std::alloc::Global;
 use std::io::{BufReader, BufWriter, Read, Write};
-use tb_keep_commands::{Files, KeepCommandFault, Opener, Outgoing, Terminals, file_word, refuse};
+use tb_keep_commands::{
+    Files, KeepCommandFault, Opener, Outgoing, Terminals, file_word, new_word, refuse,
+};
 use tb_records::{Buffered, Sink};
 
 /// The bytes of input that `follow` holds at a time.
@@ -24,7 +26,7 @@ fn capacities(form: &Form) -> (usize, usize)
     match form {
         Form::Follow(_, _, _) => (INPUT_BYTES, 0),
         Form::Dump(_, _) => (0, OUTPUT_BYTES),
-        Form::Check => (0, 0),
+        Form::Check | Form::Salvage | Form::Backup => (0, 0),
     }
 }
 
@@ -34,16 +36,26 @@ fn between<O: Opener, R: Read + Drop, W: Write + Drop, E: Sink>(
     opener: &mut O,
     form: Form,
     path: &str,
+    new: &str,
     input: BufReader<R>,
     output: BufWriter<W>,
     faults: &mut E,
 ) -> u8
-    ensures { HostedOn ⟦<O as Files>⟧.its R.remaining W.contents E.Sink form path.now
+    ensures { HostedOn ⟦<O as Files>⟧.its R.remaining W.contents E.Sink form path.now new.now
         opener.old opener.new result input output faults.old faults.new }
 {
     let mut reader = Buffered::new(input);
     let mut writer = Outgoing::new(output);
-    command(alloc, opener, form, path, &mut reader, &mut writer, faults)
+    command(
+        alloc,
+        opener,
+        form,
+        path,
+        new,
+        &mut reader,
+        &mut writer,
+        faults,
+    )
 }
 
 /// Serves a form over the file of a path, between an input and an output, both buffered, and returns the exit status.
@@ -52,11 +64,12 @@ pub fn serve<O: Opener, R: Read + Drop, W: Write + Drop, E: Sink>(
     opener: &mut O,
     form: Form,
     path: &str,
+    new: &str,
     input: R,
     output: W,
     faults: &mut E,
 ) -> u8
-    ensures { ServesOn ⟦<O as Files>⟧.its R.remaining W.contents E.Sink form path.now
+    ensures { ServesOn ⟦<O as Files>⟧.its R.remaining W.contents E.Sink form path.now new.now
         opener.old opener.new result input output faults.old faults.new }
 {
     let (held_in, held_out) = capacities(&form);
@@ -66,7 +79,7 @@ pub fn serve<O: Opener, R: Read + Drop, W: Write + Drop, E: Sink>(
     let Ok(output) = BufWriter::with_capacity(alloc, held_out, output) else {
         return refuse(KeepCommandFault::NoMemory, faults);
     };
-    between(alloc, opener, form, path, input, output, faults)
+    between(alloc, opener, form, path, new, input, output, faults)
 }
 
 /// Serves a form that there is over a log and over a ledger: by the file's first bytes.
@@ -85,7 +98,8 @@ fn serve_looked<O: Looker, R: Read + Drop, W: Write + Drop, E: Sink>(
 {
     let path = file_word(words);
     if is_log(opener, path) {
-        serve(alloc, opener, form, path, input, output, faults)
+        let new = new_word(words);
+        serve(alloc, opener, form, path, new, input, output, faults)
     } else {
         tb_keep_commands::serve(alloc, opener, words, terminals, input, output, faults)
     }
@@ -107,7 +121,8 @@ pub fn serve_words<O: Looker, R: Read + Drop, W: Write + Drop, E: Sink>(
 {
     if let Some(form) = read_form(words) {
         let path = file_word(words);
-        return serve(alloc, opener, form, path, input, output, faults);
+        let new = new_word(words);
+        return serve(alloc, opener, form, path, new, input, output, faults);
     }
     match read_log_form(words) {
         Some(form) => serve_looked(alloc, opener, words, form, terminals, input, output, faults),

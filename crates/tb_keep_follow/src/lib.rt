@@ -8,9 +8,11 @@
 //! - `arguments`: what the words of the command line ask for.
 //! - `heads`: which log a file is of, by its first bytes.
 //! - `faults`: why a form ends with an exit status other than 0.
+//! - `naming`: what there is to say of a file that is refused.
 //! - `lines`: the lines that say so, and from which position a log is wanted.
 //! - `parts`: the entries of a log above a commit number, as it grows.
 //! - `checking`: `check`, what is in a log's file.
+//! - `copying`: `salvage` and `backup`, a log's file copied into a new one.
 //! - `dumping`: `dump`, a file read to its end and then written as a dump, or a part of it.
 //! - `following`: `follow`, a log kept over a file.
 //! - `commands`: `command`, each form, and the exit status of each outcome.
@@ -23,17 +25,20 @@
 mod arguments;
 mod checking;
 mod commands;
+mod copying;
 mod dumping;
 mod faults;
 mod following;
 mod heads;
 mod host;
 mod lines;
+mod naming;
 mod parts;
 
 pub use arguments::{Form, read_form, read_log_form};
 pub use checking::LogSummary;
 pub use commands::command;
+pub use copying::LogCopied;
 pub use faults::FollowFault;
 pub use heads::{FIRST_BYTES, Looker};
 pub use host::{serve, serve_words};

@@ -22,5 +22,5 @@ returns-in-Err g c = record {
   outcome = Err c.in-Err.fault;
   finishes = c.in-Err.ensures;
   exit_status_is = c.exit_status.ensures.value;
-  line = c.tell_fault.ensures;
+  line = rw c.path.ensures at c.tell_fault.ensures;
 }

@@ -14,5 +14,5 @@ returns-in-Err g c = record {
   read = Err c.in-Err.fault;
   between = c.check_log.new.device;
   whole = record { found = c.in-Err.ensures.found; same = c.in-Err.ensures.same; untouched = c.in-Err.ensures.untouched; cause = c.in-Err.ensures.cause };
-  dumps = (rw c.started_fault.ensures refl, refl, refl);
+  dumps = (record { named = c.named.result; outcome_is = refl; names = c.named.ensures }, refl);
 }

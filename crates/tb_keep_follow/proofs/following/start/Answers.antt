@@ -17,7 +17,8 @@ returns-in-Err g c = record {
   handed = c.in-Err.ensures.handed;
   aside = c.in-Err.ensures.aside;
   follows = record {
-    outcome_is = rw c.started_fault.ensures refl;
+    left = c.named-fault.new.device;
+    refused = record { named = c.named-fault.result; outcome_is = refl; names = c.named-fault.ensures };
     unread = refl;
     unwritten = refl;
     silent = refl;

@@ -6,7 +6,7 @@ returns-then-is_log g c = record {
   is_log = true;
   between = c.is_log.new.opener;
   looked = rw (← c.file_word-path.ensures, ← c.if-is_log.true) c.is_log.ensures;
-  serves = rw (← c.file_word-path.ensures) c.serve.ensures;
+  serves = rw (← c.file_word-path.ensures, ← c.new_word-new.ensures) c.serve.ensures;
 }
 
 pub returns-else-is_log : goal.returns-else-is_log

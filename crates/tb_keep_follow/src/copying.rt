@@ -1,0 +1,303 @@
+//! A log's file copied into a new one: what can be read of it, or where it is whole.
+ghost use Rattle.std.specs.Prelude.{◌≡◌, true};
+ghost use Rattle.tb_keep_commands.specs.Outcomes.{PrintsText};
+ghost use Rattle.tb_keep_follow.specs.Checks.{printed_outcome};
+ghost use Rattle.tb_keep_follow.specs.Copies.{CopiesBegunOn, CopiesFileOn, CopiesFoundOn, CopiesLongOn, CopiesMendedOn, CopiesRefusedOn, EndsCopyOn, IsBegun, MakesCopyOn, NotesMendedOn, is_mended, log_copied_of, log_copied_text, log_damage_of, refused_by, uncopied_fault};
+
+use crate::checking::printed_outcome;
+use crate::faults::{FollowFault, journal_fault, started_fault};
+use crate::heads::find_rules;
+use crate::naming::named;
+use std::alloc::Global;
+use std::{fmt, format};
+use tb_journal::{Device, OpenFault, Refusal, Scan};
+use tb_keep::Rules;
+use tb_keep_commands::{
+    Copied, Damage, Failed, Files, KeepCommandFault, Kind, Live, Mended, Opener, disk_fault,
+    new_fault, opened_fault, print_mended,
+};
+use tb_keep_log::{CopiedLog, CopyLogFault, LogStartFault, NotCopiedLog, copy_log};
+use tb_records::{Sink, put_all};
+
+/// What was copied of a log's file.
+#[derive(Clone, Copy)]
+pub struct LogCopied {
+    /// What there is to say of each file.
+    pub copied: Copied,
+    /// The position of the last entry.
+    pub position: u64,
+}
+
+/// What is damaged where a copy ends for this fault: nothing at the end of a whole file.
+fn damage_of(stop: Option<LogStartFault>, end: usize) -> Option<Damage>
+    ensures { result ≡ log_damage_of stop end }
+{
+    match stop? {
+        LogStartFault::TornTooLong { at, bytes } => Some(Damage::Torn { at, bytes }),
+        _ => Some(Damage::Block {
+            at: end,
+            entry: None,
+        }),
+    }
+}
+
+impl LogCopied {
+    /// What is reported of a file of so many bytes that was copied.
+    fn of<N: Device>(taken: &CopiedLog<N>, len: usize) -> LogCopied
+        ensures { result ≡ log_copied_of len taken.now }
+    {
+        let reached = taken.reached;
+        let end = reached.extent.end;
+        LogCopied {
+            copied: Copied {
+                entries: reached.commit,
+                time: reached.time,
+                end: end as u64,
+                behind: len.saturating_sub(end).saturating_sub(4),
+                damage: damage_of(taken.stop, end),
+            },
+            position: reached.position,
+        }
+    }
+}
+
+impl fmt::Display for LogCopied {
+    ghost use Rattle.std.specs.Prelude.{Some};
+    ghost use Rattle.tb_keep_follow.specs.Copies.{log_copied_text};
+
+    ghost output = { λ copied. Some (log_copied_text copied) };
+
+    fn fmt<W: fmt::Write>(&self, f: &mut fmt::Formatter<W>) -> fmt::Result {
+        write!(f, "{}position {}\n", self.copied, self.position)
+    }
+}
+
+/// Writes what was copied.
+fn report<W: Sink>(alloc: Global, copied: LogCopied, writer: &mut W) -> Result<(), KeepCommandFault>
+    ensures { PrintsText (log_copied_text copied) result (W.output writer.old) (W.output writer.new) }
+{
+    match format!(in alloc; "{copied}") {
+        Ok(text) => match put_all(writer, text.as_bytes()) {
+            Ok(()) => Ok(()),
+            Err(_) => Err(KeepCommandFault::Device(Failed::Output)),
+        },
+        Err(_) => Err(KeepCommandFault::NoMemory),
+    }
+}
+
+/// Why a copy that ended so is refused: none, where the file needs not be whole.
+fn refused_by(whole: bool, stop: Option<LogStartFault>) -> Option<LogStartFault>
+    ensures { result ≡ refused_by whole stop }
+{
+    if whole { stop } else { None }
+}
+
+/// Writes what was copied of a file of so many bytes; or refuses it, where it was to be whole.
+fn end_copy<D: Device, N: Device + Drop, W: Sink>(
+    alloc: Global,
+    from: &mut D,
+    copied: CopiedLog<N>,
+    len: usize,
+    whole: bool,
+    writer: &mut W,
+) -> Result<(), FollowFault>
+    ensures { EndsCopyOn D.Device W.output len whole copied result from.old from.new writer.old writer.new }
+{
+    let it = LogCopied::of(&copied, len);
+    let stop = copied.stop;
+    drop(copied);
+    match refused_by(whole, stop) {
+        Some(fault) => Err(named(alloc, from, fault)),
+        None => printed_outcome(report(alloc, it, writer)),
+    }
+}
+
+/// The fault of a file that was not copied.
+fn uncopied_fault(fault: CopyLogFault) -> FollowFault
+    ensures { result ≡ uncopied_fault fault }
+{
+    match fault {
+        CopyLogFault::Old(fault) => started_fault(fault),
+        CopyLogFault::New(fault) => FollowFault::Kept(new_fault(opened_fault(fault))),
+    }
+}
+
+/// Copies a log's file of so many bytes into a new one.
+fn copy_long<D: Device, N: Device + Drop, W: Sink>(
+    alloc: Global,
+    rules: Rules,
+    from: &mut D,
+    len: usize,
+    into: N,
+    whole: bool,
+    writer: &mut W,
+) -> Result<(), FollowFault>
+    requires { N.tells → (N.disk into).sound ≡ true }
+    ensures { CopiesLongOn D.Device N.Device W.output len whole result rules into from.old from.new writer.old writer.new }
+{
+    match copy_log(alloc, rules, from, into) {
+        Ok(copied) => end_copy(alloc, from, copied, len, whole, writer),
+        Err(failed) => {
+            let NotCopiedLog { device, fault } = failed;
+            drop(device);
+            Err(uncopied_fault(fault))
+        }
+    }
+}
+
+/// Copies a log's file into a new one, and writes what was copied. One that is to be whole is refused where it is damaged: the new one then
+/// has what is before that.
+fn copy_file<D: Live, N: Device + Drop, W: Sink>(
+    alloc: Global,
+    rules: Rules,
+    from: &mut D,
+    into: N,
+    whole: bool,
+    writer: &mut W,
+) -> Result<(), FollowFault>
+    requires { N.tells → (N.disk into).sound ≡ true }
+    ensures { CopiesFileOn D.Device D.whole N.Device W.output whole result rules into from.old from.new writer.old writer.new }
+{
+    match from.file_len() {
+        Ok(len) => copy_long(alloc, rules, from, len, into, whole, writer),
+        Err(fault) => {
+            drop(into);
+            Err(FollowFault::Kept(disk_fault(fault)))
+        }
+    }
+}
+
+/// Makes the new file of a path, and copies a log's file into it.
+fn copy_made<O: Opener, D: Live, W: Sink>(
+    alloc: Global,
+    opener: &mut O,
+    rules: Rules,
+    new: &str,
+    from: &mut D,
+    whole: bool,
+    writer: &mut W,
+) -> Result<(), FollowFault>
+    ensures { MakesCopyOn ⟦<O as Files>⟧.its D.Device D.whole W.output new.now whole rules result opener.old opener.new from.old from.new writer.old writer.new }
+{
+    let made = opener.make_new(new);
+    match made {
+        Ok(into) => copy_file(alloc, rules, from, into, whole, writer),
+        Err(fault) => Err(FollowFault::Kept(KeepCommandFault::Making(fault))),
+    }
+}
+
+/// Looks whether a file begins as a journal. Why it does not, or is not read.
+fn begun<D: Device>(alloc: Global, device: &mut D) -> Result<(), OpenFault>
+    ensures { IsBegun D.Device result device.old device.new }
+{
+    match Scan::start(alloc, device) {
+        Ok(scan) => {
+            drop(scan);
+            Ok(())
+        }
+        Err(fault) => Err(fault),
+    }
+}
+
+/// Says whether a file that does not begin as a journal is read as one whatever its first bytes are.
+fn is_mended(whole: bool, fault: OpenFault) -> bool
+    ensures { result ≡ is_mended whole fault }
+{
+    match fault {
+        OpenFault::Refused(Refusal::NotAJournal) => !whole,
+        _ => false,
+    }
+}
+
+/// Reports of a file that was copied that its first bytes are not a journal's.
+fn note_mended<W: Sink>(copied: Result<(), FollowFault>, writer: &mut W) -> Result<(), FollowFault>
+    ensures { NotesMendedOn W.output copied result writer.old writer.new }
+{
+    match copied {
+        Ok(()) => printed_outcome(print_mended(writer)),
+        Err(fault) => Err(fault),
+    }
+}
+
+/// Copies a log's file that does not begin as a journal as one that does.
+fn copy_mended<O: Opener, W: Sink>(
+    alloc: Global,
+    opener: &mut O,
+    rules: Rules,
+    from: O::Reading,
+    new: &str,
+    writer: &mut W,
+) -> Result<(), FollowFault>
+    ensures { CopiesMendedOn ⟦<O as Files>⟧.its W.output new.now rules result opener.old opener.new from writer.old writer.new }
+{
+    let mut from = from;
+    from.look_behind();
+    let mut from = Mended::new(from);
+    let copied = copy_made(alloc, opener, rules, new, &mut from, false, writer);
+    drop(from);
+    note_mended(copied, writer)
+}
+
+/// Refuses a file that does not begin as a journal, or copies it as one that does.
+fn copy_refused<O: Opener, W: Sink>(
+    alloc: Global,
+    opener: &mut O,
+    rules: Rules,
+    from: O::Reading,
+    fault: OpenFault,
+    new: &str,
+    whole: bool,
+    writer: &mut W,
+) -> Result<(), FollowFault>
+    ensures { CopiesRefusedOn ⟦<O as Files>⟧.its W.output new.now whole fault rules result opener.old opener.new from writer.old writer.new }
+{
+    if is_mended(whole, fault) {
+        return copy_mended(alloc, opener, rules, from, new, writer);
+    }
+    drop(from);
+    Err(FollowFault::Kept(journal_fault(fault)))
+}
+
+/// Copies the file of a log of these rules into a new one of a path, which is made where that begins as a journal.
+fn copy_begun<O: Opener, W: Sink>(
+    alloc: Global,
+    opener: &mut O,
+    rules: Rules,
+    from: O::Reading,
+    new: &str,
+    whole: bool,
+    writer: &mut W,
+) -> Result<(), FollowFault>
+    ensures { CopiesBegunOn ⟦<O as Files>⟧.its W.output new.now whole rules result opener.old opener.new from writer.old writer.new }
+{
+    let mut from = from;
+    match begun(alloc, &mut from) {
+        Ok(()) => {
+            let copied = copy_made(alloc, opener, rules, new, &mut from, whole, writer);
+            drop(from);
+            copied
+        }
+        Err(fault) => copy_refused(alloc, opener, rules, from, fault, new, whole, writer),
+    }
+}
+
+/// Copies a log's file into a new one of a path, by the rules that its first bytes name.
+pub(crate) fn copy_found<O: Opener, W: Sink>(
+    alloc: Global,
+    opener: &mut O,
+    from: O::Reading,
+    new: &str,
+    whole: bool,
+    writer: &mut W,
+) -> Result<(), FollowFault>
+    ensures { CopiesFoundOn ⟦<O as Files>⟧.its W.output new.now whole result opener.old opener.new from writer.old writer.new }
+{
+    let mut from = from;
+    match find_rules(&mut from) {
+        Some(rules) => copy_begun(alloc, opener, rules, from, new, whole, writer),
+        None => {
+            drop(from);
+            Err(FollowFault::Kept(KeepCommandFault::NotAJournal(Kind::Other)))
+        }
+    }
+}
