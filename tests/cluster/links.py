@@ -5,8 +5,8 @@
 
 Each pair of ports is a link: what comes to the first port goes to the second one. On standard
 input: `cut N` closes the connections of link N and takes no more, `hold N` lets nothing through
-and closes nothing, `heal N` takes either back. N counts from 0. Prints `ready`, then the answer
-`done` to each line.
+and closes nothing, `slow N` lets each new connection wait for 1.5 s, `heal N` takes all back. N
+counts from 0. Prints `ready`, then the answer `done` to each line.
 """
 import asyncio
 import contextlib
@@ -20,7 +20,7 @@ class Link:
         self.port, self.target = port, target
         self.open, self.flows = set(), asyncio.Event()
         self.flows.set()
-        self.is_cut = False
+        self.is_cut = self.is_slow = False
 
     async def begin(self):
         await asyncio.start_server(self.take, "127.0.0.1", self.port)
@@ -31,6 +31,7 @@ class Link:
             return
         try:
             await self.flows.wait()
+            await asyncio.sleep(1.5 if self.is_slow else 0)
             other, onward = await asyncio.open_connection("127.0.0.1", self.target)
         except OSError:
             writer.transport.abort()
@@ -61,8 +62,10 @@ class Link:
                 it.transport.abort()
         elif word == "hold":
             self.flows.clear()
+        elif word == "slow":
+            self.is_slow = True
         else:
-            self.is_cut = False
+            self.is_cut = self.is_slow = False
             self.flows.set()
 
 

@@ -35,6 +35,17 @@ def test_starts_that_are_refused(cluster_of):
     assert status == 20, said
 
 
+def test_start_over_slow_connections(cluster_of):
+    """Each connection to the engine takes 1.5 s, as on a busy machine. gRPC gave each of them up
+    within a second, and the replica ended by NoLog."""
+    cluster = cluster_of()
+    third = cluster.replicas[2]
+    third.end()
+    cluster.links.do("slow", cluster.links_of(2))
+    third.start()
+    cluster.until_listens(2)
+
+
 def test_outage(cluster_of):
     """All replicas were down. The first one that starts has a clock an hour ahead: it waits until
     another one answers, and then ends."""

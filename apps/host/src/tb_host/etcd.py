@@ -36,7 +36,8 @@ OPTIONS = (
     ("grpc.max_receive_message_length", -1),
     ("grpc.max_send_message_length", -1),
     ("grpc.initial_reconnect_backoff_ms", 100),
-    ("grpc.min_reconnect_backoff_ms", 200),
+    # what a connection may take, too: within a second none is made on a busy machine
+    ("grpc.min_reconnect_backoff_ms", 3_000),
     ("grpc.max_reconnect_backoff_ms", 1000),
     # a watch sends nothing: without these it sees no end where a machine or its link is lost
     ("grpc.keepalive_time_ms", 10_000),
