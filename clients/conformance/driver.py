@@ -10,9 +10,9 @@ import time
 
 from certificates import server_context
 from runner import Ended
-from server import Connections, Failed, Server
+from server import PATIENCE, Connections, Failed, Server
 
-CALL = 60.0  # seconds that a call may take
+CALL = 60.0  # seconds that the client may be idle in a call that has a short limit
 LAST_WORD = 5.0  # seconds that a call may go on when the scenario has failed
 HASTE = 5.0  # seconds: a client's limit below that is one that its scenario means to be reached
 TIMES = ("timeout", "within", "pause", "at_least", "at_most", "not_before", "wait")
@@ -126,7 +126,7 @@ class Run:
         server.start()
         answer = None
         try:
-            answer = self.runner.answer(step.get("within", CALL))
+            answer = self.runner.answer(CALL if self.is_timed else PATIENCE)
         except Ended as why:
             if not self.was_killed:
                 fault.append(str(why))

@@ -196,7 +196,8 @@ NOTHING = {
 # Steps
 
 
-LONG, SHORT = 600.0, 0.3  # seconds for one sending: never reached, and reached by its scenario
+# Seconds for one sending: never reached, and reached by its scenario.
+LONG, SHORT = 86400.0, 0.3
 
 
 def connect(name="t", servers=("a",), timeout=LONG, tls=None):
