@@ -126,7 +126,7 @@ class Run:
         server.start()
         answer = None
         try:
-            answer = self.runner.answer(CALL if self.is_timed else PATIENCE)
+            answer = self.runner.answer(CALL if self.is_timed else PATIENCE, server.is_alive)
         except Ended as why:
             if not self.was_killed:
                 fault.append(str(why))

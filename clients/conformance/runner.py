@@ -19,7 +19,8 @@ class Ended(Exception):
 
 class Patience:
     """How long something may be waited for while the process that owes it is idle. Time in which it
-    waits for a processor does not count: on a busy computer a right client may take long."""
+    or this one waits for a processor does not count, and at most a second of each look: on a busy
+    computer a right client may take long."""
 
     def __init__(self, seconds, waited):
         self.left, self.waited = seconds, waited
@@ -27,15 +28,25 @@ class Patience:
 
     def is_over(self):
         """Counts the time since the last look."""
-        now, waited = time.monotonic(), self.waited()
-        starved = 0 if self.before is None else max(waited - self.before, 0)
-        self.left -= max(now - self.at - starved, 0)
-        self.at, self.before = now, waited
+        now, total = time.monotonic(), self.waited()
+        starved = 0 if self.before is None else max(total - self.before, 0)
+        self.left -= max(min(now - self.at, LOOK) - starved, 0)
+        self.at, self.before = now, total
         return self.left <= 0
 
     def look(self):
         """Seconds until the next look."""
         return min(LOOK, max(self.left, 0))
+
+
+def waited(process):
+    """Seconds that a process's threads have waited for a processor."""
+    total = 0
+    for path in glob.glob(f"/proc/{process}/task/*/schedstat"):
+        with contextlib.suppress(OSError, IndexError):
+            with open(path, encoding="ascii") as it:
+                total += int(it.read().split()[1])
+    return total / 1e9
 
 
 def last_line(said):
@@ -69,20 +80,18 @@ class Runner:
             raise Ended(f"the runner ended before a line: {last_line(self.said())}") from None
 
     def waited(self):
-        """Seconds that its threads have waited for a processor, those of earlier processes too."""
-        process, total = self.process, 0
-        for path in glob.glob(f"/proc/{process.pid}/task/*/schedstat") if process else ():
-            with contextlib.suppress(OSError, IndexError):
-                with open(path, encoding="ascii") as it:
-                    total += int(it.read().split()[1])
-        return self.past + total / 1e9
+        """Seconds that it and the kit have waited for a processor, with its earlier processes."""
+        process = self.process
+        return self.past + waited("self") + (waited(process.pid) if process else 0)
 
-    def answer(self, seconds):
-        """The next line, as an object."""
+    def answer(self, seconds, is_served=lambda: False):
+        """The next line, as an object. The time begins when it is served no more."""
         patience, output = Patience(seconds, self.waited), self.process.stdout
         while b"\n" not in self.buffer:
             if not select.select([output], [], [], patience.look())[0]:
-                if patience.is_over():
+                if is_served():
+                    patience = Patience(seconds, self.waited)
+                elif patience.is_over():
                     raise Ended(f"no answer within {seconds:g} s")
                 continue
             more = os.read(output.fileno(), 1 << 16)
@@ -108,7 +117,7 @@ class Runner:
     def kill(self):
         """Ends it as a crash would."""
         if self.process is not None:
-            self.past = self.waited()
+            self.past += waited(self.process.pid)
             self.strike()
             self.process.wait()
             self.process.stdin.close()

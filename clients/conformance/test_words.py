@@ -21,7 +21,7 @@ import driver  # noqa: E402
 import kit  # noqa: E402
 import wrong_clients  # noqa: E402
 from made import sequences  # noqa: E402
-from runner import Patience, Runner  # noqa: E402
+from runner import Ended, Patience, Runner, waited  # noqa: E402
 from server import Connections, Failed, Server, readable  # noqa: E402
 
 RUNNER = ["--", sys.executable, "-B", "clients/python/conformance_runner.py"]
@@ -340,6 +340,24 @@ class Waiting(unittest.TestCase):
             self.assertFalse(patience.is_over())
             time.sleep(0.03)
 
+    def test_a_kit_that_waits_for_a_processor(self):
+        """However late it looks, a look counts for a second."""
+        with mock.patch("runner.time.monotonic", side_effect=[0, 100, 200]):
+            patience = Patience(1.5, lambda: 0.0)
+            self.assertFalse(patience.is_over())
+            self.assertTrue(patience.is_over())
+
+    def test_an_answer_while_the_server_goes_on(self):
+        silent, served = "import time\ntime.sleep(600)", [True] * 5
+        with tempfile.TemporaryDirectory() as folder:
+            runner = Runner([sys.executable, "-c", silent], folder)
+            with self.assertRaises(Ended), mock.patch("runner.START", 0.1):
+                runner.start()
+            with self.assertRaisesRegex(Ended, "no answer within 0.05 s"):
+                runner.answer(0.05, lambda: bool(served) and served.pop())
+            runner.kill()
+        self.assertEqual(served, [])
+
     def test_the_wait_for_a_processor_of_a_runner(self):
         """Beside a process that does not stop. What an earlier process waited is not forgotten."""
         spins = "import time\nwhile time.process_time() < %g: pass\n"
@@ -349,11 +367,13 @@ class Waiting(unittest.TestCase):
         try:
             beside = subprocess.Popen([sys.executable, "-c", spins % 600])
             with tempfile.TemporaryDirectory() as folder:
-                runner, before = Runner([sys.executable, "-c", answers], folder), 0
-                for _ in range(2):
+                runner = Runner([sys.executable, "-c", answers], folder)
+                for _ in range(3):
                     runner.start()
-                    self.assertGreater(runner.waited(), before + 0.1)
-                    before = runner.waited()
+                    self.assertGreater(waited(runner.process.pid), 0.1)
+                self.assertGreater(runner.past, 0.2)
+                least = runner.past + waited(runner.process.pid) + waited("self")
+                self.assertGreaterEqual(runner.waited(), least)
                 runner.kill()
         finally:
             os.sched_setaffinity(0, usual)
