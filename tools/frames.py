@@ -1,4 +1,4 @@
-"""Frames, records and dumps as tests and checks send them, by the layouts of tables/ledger.json.
+"""Frames, records and dumps as tests and checks send them, by the layouts of tools/ledger.json.
 tests/programs/test_damaged_frames.py and bench/ have encoders of their own: independent witnesses.
 
 A record's field that is not given is 0, but for the ledger and the code of the examples.

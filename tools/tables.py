@@ -1,6 +1,6 @@
 #!/usr/bin/env python3
 """The one table of operations, statuses, faults, flags, result codes, layouts, limits and orders
-of tests: tables/ledger.json.
+of tests: tools/ledger.json.
 
     tools/tables.py                     compares what is generated from it, and the Rattle sources
     tools/tables.py --write             generates it again

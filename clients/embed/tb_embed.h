@@ -32,7 +32,7 @@ typedef struct tb_server {
     uint8_t is_open;
 } tb_server;
 
-/* generated: statuses, by tools/tables.py from tables/ledger.json */
+/* generated: statuses, by tools/tables.py from tools/ledger.json */
 /* What a call of the library answers. */
 enum tb_status {
     /* the call did what it is for */
@@ -55,7 +55,7 @@ enum tb_status {
 };
 /* end of statuses */
 
-/* generated: limits, by tools/tables.py from tables/ledger.json */
+/* generated: limits, by tools/tables.py from tools/ledger.json */
 /* Sizes in bytes, and limits. A frame is a header, and items behind it. */
 #define TB_HEADER_SIZE 48
 #define TB_RECORD_SIZE 128 /* an account, a transfer */
@@ -69,7 +69,7 @@ enum tb_status {
 #define TB_TIME_MAX UINT64_C(9223372036854775807) /* no entry has a later time, in nanoseconds */
 /* end of limits */
 
-/* generated: enums, by tools/tables.py from tables/ledger.json */
+/* generated: enums, by tools/tables.py from tools/ledger.json */
 /* What a request asks for. */
 enum tb_operation {
     TB_OPERATION_REGISTER = 2,
@@ -248,7 +248,7 @@ typedef struct tb_u128 {
     uint64_t low, high;
 } tb_u128;
 
-/* generated: records, by tools/tables.py from tables/ledger.json */
+/* generated: records, by tools/tables.py from tools/ledger.json */
 typedef struct tb_account {
     tb_u128 id, debits_pending, debits_posted, credits_pending, credits_posted, user_data_128;
     uint64_t user_data_64;
@@ -272,7 +272,7 @@ typedef struct tb_event_result {
     uint32_t index, result;
 } tb_event_result;
 
-/* generated: headers, by tools/tables.py from tables/ledger.json */
+/* generated: headers, by tools/tables.py from tools/ledger.json */
 typedef struct tb_request_header {
     tb_u128 client;
     uint64_t session;
@@ -293,7 +293,7 @@ typedef struct tb_reply_header {
 
 TB_ASSERT(sizeof(void *) == 8 && sizeof(size_t) == 8, "64 bits");
 TB_ASSERT(sizeof(tb_server) == 16 && offsetof(tb_server, is_open) == 8, "the handle");
-/* generated: layouts, by tools/tables.py from tables/ledger.json */
+/* generated: layouts, by tools/tables.py from tools/ledger.json */
 TB_ASSERT(sizeof(tb_account) == 128, "tb_account");
 TB_ASSERT(offsetof(tb_account, id) == 0, "tb_account");
 TB_ASSERT(offsetof(tb_account, debits_pending) == 16, "tb_account");
@@ -700,7 +700,7 @@ static inline int tb_reply_transfer(const tb_reply *reply, size_t place, tb_tran
 }
 
 /* Names, as docs/use/RULES.md and docs/use/FORMATS.md have them; "unknown" of any other number. */
-/* generated: names, by tools/tables.py from tables/ledger.json */
+/* generated: names, by tools/tables.py from tools/ledger.json */
 static inline const char *tb_status_name(uint32_t status) {
     switch (status) {
     case TB_DONE: return "done";

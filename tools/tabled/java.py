@@ -2,7 +2,7 @@
 from . import table as t
 
 PACKAGE = "org.telovamish.tbclient"
-HEAD = "// Made by tools/tables.py --write from tables/ledger.json: edit that.\n"
+HEAD = "// Made by tools/tables.py --write from tools/ledger.json: edit that.\n"
 NAMES = {
     "operation": ("Operation", "What a request asks for."),
     "status": ("Status", "What the server says of a request, in its reply."),

@@ -1,7 +1,7 @@
 """The names and layouts of the client for Node: a module, and its types."""
 from . import table as t
 
-HEAD = "// Made by tools/tables.py --write from tables/ledger.json: edit that.\n"
+HEAD = "// Made by tools/tables.py --write from tools/ledger.json: edit that.\n"
 NAMES = {
     "operation": "Operation",
     "status": "Status",

@@ -39,7 +39,7 @@ def layout(table):
     lines = [
         '"""Sizes, limits and layouts of frames.',
         "",
-        "tools/tables.py --write makes this file from tables/ledger.json.",
+        "tools/tables.py --write makes this file from tools/ledger.json.",
         '"""',
         "from __future__ import annotations",
         "",

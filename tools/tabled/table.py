@@ -1,10 +1,10 @@
-"""The table of tables/ledger.json, and the spellings of its names in each language."""
+"""The table of tools/ledger.json, and the spellings of its names in each language."""
 import json
 import os
 import re
 
 TOP = os.path.dirname(os.path.dirname(os.path.dirname(os.path.abspath(__file__))))
-PATH = "tables/ledger.json"
+PATH = "tools/ledger.json"
 SOURCE = "tools/tables.py"
 BYTES = {"u8": 1, "u16": 2, "u32": 4, "u64": 8, "u128": 16}
 

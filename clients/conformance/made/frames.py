@@ -4,7 +4,7 @@ import os
 import struct
 
 TOP = os.path.dirname(os.path.dirname(os.path.dirname(os.path.dirname(os.path.abspath(__file__)))))
-with open(os.path.join(TOP, "tables", "ledger.json"), encoding="utf-8") as it:
+with open(os.path.join(TOP, "tools", "ledger.json"), encoding="utf-8") as it:
     TABLE = json.load(it)
 
 REGISTER, ACCOUNTS, TRANSFERS, FIND_ACCOUNTS, FIND_TRANSFERS = 2, 129, 130, 131, 132

@@ -20,7 +20,7 @@ from tb_client.forks import left_by_children
 from tb_client.transports import Closing
 from tb_client.values import MOMENT_MAX, U64, U128, kind_of, path_of, whole
 
-# generated: statuses, by tools/tables.py from tables/ledger.json
+# generated: statuses, by tools/tables.py from tools/ledger.json
 REPLY_MAX = 48 + 8190 * 128  # bytes
 RECORD = 128
 CLIENTS_MAX = 64

@@ -6,7 +6,7 @@
 use std::fmt;
 use std::ops::BitOr;
 
-// generated: limits, by tools/tables.py from tables/ledger.json
+// generated: limits, by tools/tables.py from tools/ledger.json
 /// The bytes of a header.
 pub const HEADER_SIZE: usize = 48;
 /// The bytes of an account or a transfer.
@@ -72,7 +72,7 @@ macro_rules! numbered {
     };
 }
 
-// generated: enums, by tools/tables.py from tables/ledger.json
+// generated: enums, by tools/tables.py from tools/ledger.json
 numbered! {
     /// What a request asks for.
     Operation {
@@ -259,7 +259,7 @@ fn write_flags(f: &mut fmt::Formatter<'_>, flags: u16, names: &[(u16, &str)]) ->
     }
 }
 
-// generated: flags, by tools/tables.py from tables/ledger.json
+// generated: flags, by tools/tables.py from tools/ledger.json
 flags! {
     /// The flags of an account. An imported one is answered reserved_flag.
     AccountFlags {
@@ -288,7 +288,7 @@ flags! {
 }
 // end of flags
 
-// generated: faults, by tools/tables.py from tables/ledger.json
+// generated: faults, by tools/tables.py from tools/ledger.json
 /// What is wrong with a frame: docs/use/FORMATS.md says where each holds.
 #[derive(Clone, Copy, Debug, PartialEq, Eq, Hash)]
 pub enum Fault {
@@ -374,7 +374,7 @@ macro_rules! record {
     };
 }
 
-// generated: records, by tools/tables.py from tables/ledger.json
+// generated: records, by tools/tables.py from tools/ledger.json
 record! {
     /// An account. A new one has an id, a ledger and a code, and the rest as the default has it, but for user data and flags.
     Account, RECORD_SIZE {

@@ -6,7 +6,7 @@ import json
 import pathlib
 from typing import Any
 
-# which tools/tables.py generates from tables/ledger.json
+# which tools/tables.py generates from tools/ledger.json
 FILE = pathlib.Path(__file__).with_name("words.json")
 TABLE: dict[str, Any] = json.loads(FILE.read_text(encoding="utf-8"))
 LIMITS: dict[str, int] = TABLE["limits"]

@@ -1,6 +1,6 @@
 """Sizes, limits and layouts of frames.
 
-tools/tables.py --write makes this file from tables/ledger.json.
+tools/tables.py --write makes this file from tools/ledger.json.
 """
 from __future__ import annotations
 

@@ -7,7 +7,7 @@ from typing import Any, Callable, Type, TypeVar
 F = TypeVar("F", bound=enum.Flag)
 
 
-# generated: operation, by tools/tables.py from tables/ledger.json
+# generated: operation, by tools/tables.py from tools/ledger.json
 class Operation(enum.IntEnum):
     register = 2
     create_accounts = 129
@@ -22,7 +22,7 @@ class Operation(enum.IntEnum):
 # end of operation
 
 
-# generated: status, by tools/tables.py from tables/ledger.json
+# generated: status, by tools/tables.py from tools/ledger.json
 class Status(enum.IntEnum):
     Reply = 0
     NoSession = 1
@@ -55,7 +55,7 @@ def _kept_apart(kind: Type[F]) -> Type[F]:
     return kind
 
 
-# generated: account_flags, by tools/tables.py from tables/ledger.json
+# generated: account_flags, by tools/tables.py from tools/ledger.json
 @_kept_apart
 class AccountFlags(enum.IntFlag):
     NONE = 0
@@ -74,7 +74,7 @@ class AccountFlags(enum.IntFlag):
 # end of account_flags
 
 
-# generated: transfer_flags, by tools/tables.py from tables/ledger.json
+# generated: transfer_flags, by tools/tables.py from tools/ledger.json
 @_kept_apart
 class TransferFlags(enum.IntFlag):
     NONE = 0
@@ -99,7 +99,7 @@ class TransferFlags(enum.IntFlag):
 # end of transfer_flags
 
 
-# generated: account_result, by tools/tables.py from tables/ledger.json
+# generated: account_result, by tools/tables.py from tools/ledger.json
 class CreateAccountResult(enum.IntEnum):
     ok = 0
     linked_event_failed = 1
@@ -148,7 +148,7 @@ class CreateAccountResult(enum.IntEnum):
 # end of account_result
 
 
-# generated: transfer_result, by tools/tables.py from tables/ledger.json
+# generated: transfer_result, by tools/tables.py from tools/ledger.json
 class CreateTransferResult(enum.IntEnum):
     ok = 0
     linked_event_failed = 1

@@ -58,7 +58,7 @@ def _read(kind: Type[Record], data: bytes, flags: Any, places: Iterable[str]) ->
     return record
 
 
-# generated: account, by tools/tables.py from tables/ledger.json
+# generated: account, by tools/tables.py from tools/ledger.json
 _ACCOUNT = {
     "id": U128, "debits_pending": U128, "debits_posted": U128, "credits_pending": U128,
     "credits_posted": U128, "user_data_128": U128, "user_data_64": U64, "user_data_32": U32,
@@ -145,7 +145,7 @@ class Account:
 # end of account
 
 
-# generated: transfer, by tools/tables.py from tables/ledger.json
+# generated: transfer, by tools/tables.py from tools/ledger.json
 _TRANSFER = {
     "id": U128, "debit_account_id": U128, "credit_account_id": U128, "amount": U128,
     "pending_id": U128, "user_data_128": U128, "user_data_64": U64, "user_data_32": U32,

@@ -1,4 +1,4 @@
-// Made by tools/tables.py --write from tables/ledger.json: edit that.
+// Made by tools/tables.py --write from tools/ledger.json: edit that.
 
 package org.telovamish.tbclient;
 
