@@ -98,6 +98,8 @@ WHOLES = {
     "another latch": (SECOND + b"\1\2\3\4" + THIRD, "2 whole entries (2 to 3)"),
     "behind the end": (SECOND + CLOSED + THIRD + CLOSED, "1 whole entry (2)"),
     "one left out": (SECOND + OPEN + FOURTH + CLOSED, "1 whole entry (2)"),
+    "not the next one": (THIRD + OPEN + FOURTH + CLOSED, "0 whole entries"),
+    "one again": (block(entry(1)) + OPEN + SECOND + CLOSED, "0 whole entries"),
     "a rotten one": (SECOND[:-1] + b"\1" + OPEN + THIRD + CLOSED, "0 whole entries"),
     "a short record": (block(b"TBK1\1\2") + CLOSED, "0 whole entries"),
     "part of a length": (SECOND[:2], "0 whole entries"),

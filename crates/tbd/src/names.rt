@@ -57,7 +57,8 @@ impl<'a> Name<'a> {
     /// The line of a copy of bytes that are in the file from an offset on, up to its name.
     fn copied(&self, at: usize, bytes: &[u8]) -> Result<String, AllocError> {
         let alloc = self.rt.alloc();
-        let (count, wholes) = (bytes.len(), Wholes::of(bytes).text(alloc)?);
+        let wholes = Wholes::behind(self.rt, self.path.as_str(), at, bytes);
+        let (count, wholes) = (bytes.len(), wholes.text(alloc)?);
         format!(in alloc; "tbd: copied {count} bytes, from byte {at} on, {wholes}, to ")
     }
 

@@ -1,8 +1,9 @@
 //! The whole entries among bytes that a start cuts off.
 
+use crate::descriptors::HighFiles;
 use std::alloc::{AllocError, Global};
 use std::format;
-use tb_journal::checksum_of;
+use tb_journal::{Real, Scan, checksum_of};
 
 /// The latch at the end of a journal's records.
 const CLOSED: &[u8] = &[90, 195, 150, 105];
@@ -44,9 +45,36 @@ fn number(record: &[u8]) -> Option<u64> {
     }
 }
 
+/// The number of the entry that comes next in the history of the file of this path, of which the records end before this offset. None
+/// where they are not read.
+fn next_number(rt: &HostRuntime, path: &str, at: usize) -> Option<u64> {
+    let mut real = Real::look(&HighFiles::new(rt), path).ok()?;
+    let mut scan = Scan::start(rt.alloc(), &mut real).ok()?;
+    let mut last = 0_u64;
+    for _ in 0..at {
+        match scan.next(&mut real) {
+            // A ledger's head has fewer bytes than a number.
+            Ok(true) => last = number(scan.record()).unwrap_or(0),
+            _ => break,
+        }
+    }
+    Some(last.saturating_add(1))
+}
+
 impl Wholes {
+    /// The entries that bytes begin with which would go on with the history of the file of this path: they are in that from this offset
+    /// on. The file is read only where there is an entry.
+    pub fn behind(rt: &HostRuntime, path: &str, at: usize, bytes: &[u8]) -> Wholes {
+        let wholes = Wholes::of(bytes);
+        if wholes.count > 0 && next_number(rt, path, at) == Some(wholes.first) {
+            wholes
+        } else {
+            Wholes { first: 0, count: 0 }
+        }
+    }
+
     /// The entries that bytes begin with behind a latch, each of which has the next number.
-    pub fn of(bytes: &[u8]) -> Wholes {
+    fn of(bytes: &[u8]) -> Wholes {
         let mut wholes = Wholes { first: 0, count: 0 };
         let mut rest = bytes;
         for _ in 0..bytes.len() {
