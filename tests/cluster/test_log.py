@@ -115,7 +115,7 @@ def test_engine_restored_from_a_backup(cluster_of):
 @pytest.mark.needs_etcd
 def test_full(cluster_of):
     """etcd's quota is used up, and the log is trimmed."""
-    cluster = cluster_of(quota=24 << 20)
+    cluster = cluster_of(quota=6 << 20)
     traffic = moving(cluster, batch=2000)
     until(lambda: "LogFull" in "".join(it.said() for it in cluster.replicas), 240, "LogFull")
     status, said = cluster.part("status", "--log", cluster.log())

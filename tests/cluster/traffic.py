@@ -1,5 +1,6 @@
 """Clients that move money, and never give a request up."""
 
+import random
 import threading
 import time
 
@@ -58,8 +59,9 @@ class Client(threading.Thread):
                 time.sleep(0.02)
 
     def _step(self, session):
+        more = [random.getrandbits(128) for _ in range(self.batch)]  # else entries deflate well
         transfers = [
-            Transfer(tb.id(), PAYER, PAYEE, 1, ledger=700, code=10) for _ in range(self.batch)
+            Transfer(tb.id(), PAYER, PAYEE, 1, user_data_128=it, ledger=700, code=10) for it in more
         ]
         began = time.monotonic()
         self.begun += self.batch
