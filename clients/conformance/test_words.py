@@ -359,21 +359,23 @@ class Waiting(unittest.TestCase):
         self.assertEqual(served, [])
 
     def test_the_wait_for_a_processor_of_a_runner(self):
-        """Beside a process that does not stop. What an earlier process waited is not forgotten."""
+        """Beside a process that does not stop, in a session of its own as the runner: some systems
+        share a processor by sessions. What an earlier process waited is not forgotten."""
         spins = "import time\nwhile time.process_time() < %g: pass\n"
         answers = spins % 0.3 + "import sys\nfor line in sys.stdin: print('{}', flush=True)"
         usual = os.sched_getaffinity(0)
         os.sched_setaffinity(0, {min(usual)})
         try:
-            beside = subprocess.Popen([sys.executable, "-c", spins % 600])
+            words = [sys.executable, "-c", spins % 600]
+            beside = subprocess.Popen(words, start_new_session=True)
             with tempfile.TemporaryDirectory() as folder:
                 runner = Runner([sys.executable, "-c", answers], folder)
                 for _ in range(3):
                     runner.start()
-                    self.assertGreater(waited(runner.process.pid), 0.1)
-                self.assertGreater(runner.past, 0.2)
+                    self.assertGreater(waited(runner.process.pid), 0.02)
+                self.assertGreater(runner.past, 0.04)
                 least = runner.past + waited(runner.process.pid) + waited("self")
-                self.assertGreaterEqual(runner.waited(), least)
+                self.assertGreater(runner.waited(), least - 0.001)
                 runner.kill()
         finally:
             os.sched_setaffinity(0, usual)
