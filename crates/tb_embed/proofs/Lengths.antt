@@ -8,7 +8,7 @@ use Rattle.tb_records.specs.declared.bodies.Body.TheVariants as body
 use Rattle.tb_records.specs.Messages.{Message, Answer, IsLawful, status_code, is_register}
 use Rattle.tb_records.specs.RecordBytes.{account_bytes, transfer_bytes, result_bytes}
 use Rattle.tb_records.specs.ReplyFrames.{header_of_reply, reply_body_bytes, reply_bytes, IsReply}
-use Rattle.tb_records.specs.Sizes.{length-account, length-transfer, length-result}
+use Rattle.tb_records.proofs.Sizes.{length-account, length-transfer, length-result}
 use Rattle.tb_records.proofs.ItemBytes.{length_items}
 use Rattle.tb_records.proofs.ReplyPlaces.{length-reply_header}
 use Rattle.tb_sessions.specs.declared.rows.Row.{Row}

@@ -7,7 +7,7 @@ use Rattle.std.proofs.lemmas.Slice.Eq.{slice_eq-Decides}
 use Rattle.std.specs.Int.{w32, from_le_bytes}
 use Rattle.std.specs.List.{starts_with}
 use Rattle.tb_journal.specs.Checksum.{checksum}
-pub use Rattle.tb_journal.specs.Shown.{drop_parts}
+pub use Rattle.tb_journal.specs.private.MemoryLaws.{drop_parts}
 use Rattle.tb_journal.specs.Contents.{magic, latch_closed, is_closed, Front, Ends, Spoiled, Whole, behind_latch, front, Contents, NotAJournal, Damaged, Records, with_record, with_records, joined, skipped, walk, contents, blocks_length, records_end}
 
 -- lists

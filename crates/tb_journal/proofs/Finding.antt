@@ -1,5 +1,5 @@
 -- How a snapshot finds its end, and what it holds then.
-use Rattle.std.proofs.Common.{◌≡◌, inl, ℕ, ◌+◌, ◌-◌, ◌≤◌, max, Bool, true, false, List, [], ◌∷◌, ◌++◌, length, take, drop, refl, sym, ◌∙◌, ap, subst, arith, Result, Ok, Err, IfOk}
+use Rattle.std.proofs.Common.{◌≡◌, inl, ℕ, ◌+◌, ◌-◌, ◌≤◌, max, Bool, true, false, List, [], ◌++◌, length, take, drop, refl, sym, ◌∙◌, ap, subst, arith, Result, Ok, Err, IfOk}
 use Rattle.tb_journal.specs.declared.faults.JournalFault.{JournalFault}
 use Rattle.tb_journal.specs.declared.hops.Hop.{Hop}
 use Rattle.tb_journal.specs.declared.hops.Hop.TheVariants as hops

@@ -2,7 +2,7 @@
 use Rattle.std.proofs.Common.{◌≡◌, ⊎_elim, ℕ, ◌≤◌, List, length, take, true, sym, ◌∙◌, subst, arith, Result, Ok, Err, OnOk}
 use Rattle.tb_journal.specs.declared.faults.JournalFault.{JournalFault}
 use Rattle.tb_journal.specs.Device.{Disk, Only, IsOnDisk, IsSettled, Torn, Cut, LeavesOnly, FailsNone, HasCause, Writes, Cuts, Syncs, overwritten}
-use Rattle.tb_journal.specs.Shown.{torn_part, torn_same, cut_same, cut_whole}
+use Rattle.tb_journal.specs.private.MemoryLaws.{torn_part, torn_same, cut_same, cut_whole}
 use Rattle.tb_journal.specs.Steps.{Overwrites, Shortens}
 use Rattle.tb_journal.proofs.Moments.{started, goes_on}
 use Rattle.tb_journal.proofs.Causes.{has_cause_since}

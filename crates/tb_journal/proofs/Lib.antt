@@ -29,3 +29,6 @@ pub mod Following
 pub mod Showing
 pub mod Finding
 pub mod Closing
+pub mod DeviceRows
+pub mod ScanRows
+pub mod SystemRows

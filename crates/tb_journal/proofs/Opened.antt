@@ -1,5 +1,5 @@
 -- A journal over a file that was read.
-use Rattle.std.proofs.Common.{rules, ◌≡◌, inr, ◌≤◌, ◌<◌, ◌+◌, ◌^◌, ℕ, true, List, [], length, refl, sym, ap, ◌∙◌, arith, Result, Ok, Err, IfOk, IfErr}
+use Rattle.std.proofs.Common.{rules, ◌≡◌, inr, ◌<◌, ◌+◌, ◌^◌, ℕ, true, List, [], length, refl, sym, ap, ◌∙◌, arith, Result, Ok, Err, IfOk, IfErr}
 use Rattle.std.proofs.lemmas.Grind.{common_steps}
 use Rattle.tb_journal.specs.declared.faults.JournalFault.TheVariants as faults
 use Rattle.tb_journal.specs.declared.opening.OpenFault.{OpenFault}

@@ -1,7 +1,7 @@
 -- A file that was read is cut behind its closed latch.
-use Rattle.std.proofs.Common.{◌≡◌, ℕ, ◌+◌, ◌≤◌, List, [], ◌∷◌, ◌++◌, length, take, sym, ◌∙◌, ap, subst, arith, Result, Ok, Err, OnOk}
+use Rattle.std.proofs.Common.{◌≡◌, ℕ, ◌+◌, ◌≤◌, List, ◌++◌, length, take, sym, ◌∙◌, ap, subst, arith, Result, Ok, Err, OnOk}
 use Rattle.tb_journal.specs.declared.faults.JournalFault.{JournalFault}
-use Rattle.tb_journal.specs.Device.{Disk, IsSettled, Cut}
+use Rattle.tb_journal.specs.Device.{Disk, Cut}
 use Rattle.tb_journal.specs.Contents.{latch_closed, Records, contents, recorded, records_end}
 use Rattle.tb_journal.specs.Steps.{IsWhole, Shortens}
 use Rattle.tb_journal.specs.Opening.{Repairs}

@@ -1,7 +1,7 @@
 -- The next step of a scan, by what follows the records that it has read.
 use Rattle.std.specs.List.{starts_with}
 use Rattle.std.specs.Cmp.Lexicographic.{pointwise}
-use Rattle.std.proofs.Common.{true, false, nat_eq, if◌then◌else◌, ⊎_elim, ◌≡◌, inr, ℕ, ◌+◌, ◌-◌, ◌≤◌, ◌^◌, Bool, List, [], ◌∷◌, ◌++◌, length, take, drop, refl, sym, ◌∙◌, ap, subst, arith, length-append, length-drop, length-take, take-append-drop, Err}
+use Rattle.std.proofs.Common.{true, false, nat_eq, if◌then◌else◌, ⊎_elim, ◌≡◌, inr, ℕ, ◌+◌, ◌-◌, ◌≤◌, ◌^◌, Bool, List, [], ◌∷◌, ◌++◌, length, take, drop, refl, sym, ◌∙◌, ap, subst, arith, length-append, length-drop, take-append-drop, Err}
 use Rattle.std.proofs.lemmas.Grind.{common_steps}
 use Rattle.std.proofs.lemmas.List.{append_assoc, take_at, drop_at, length-take-le, drop-take, take-take}
 use Rattle.tb_journal.specs.declared.faults.JournalFault.TheVariants as faults

@@ -1,11 +1,10 @@
 -- What a crash leaves in each step of a commit, a recovery and a creation.
-use Rattle.std.proofs.Common.{rules, ◌≡◌, ◌⊎◌, ⊎_elim, inl, inr, ℕ, suc, ◌+◌, ◌-◌, ◌≤◌, ◌==◌, Bool, true, false, List, [], ◌∷◌, ◌++◌, length, take, drop, get_or, flat_map, refl, sym, ◌∙◌, ap, arith, length-append, length-drop, length-take, append_assoc, take-append-drop, if◌then◌else◌}
+use Rattle.std.proofs.Common.{◌≡◌, ◌⊎◌, inl, inr, ℕ, suc, ◌+◌, ◌-◌, ◌≤◌, Bool, true, false, List, [], ◌∷◌, ◌++◌, length, take, drop, flat_map, refl, sym, ◌∙◌, ap, arith, length-append, length-drop, append_assoc, take-append-drop, if◌then◌else◌}
 use Rattle.std.proofs.lemmas.Grind.{common_steps}
-use Rattle.std.proofs.lemmas.List.{append-nil, take_at, drop_at, take_all, drop_all, drop_more, take-take, length-take-le}
+use Rattle.std.proofs.lemmas.List.{append-nil, take_at, drop_at, take_all, drop_all, take-take, length-take-le}
 use Rattle.std.specs.List.{AllByRecursion}
 use Rattle.std.specs.Int.{w32, from_le_bytes}
-use Rattle.std.proofs.lemmas.Bool.{cases_lt}
-use Rattle.tb_journal.specs.Shown.{drop_parts}
+use Rattle.tb_journal.specs.private.MemoryLaws.{drop_parts}
 use Rattle.tb_journal.specs.Device.{Torn, Cut, overwritten}
 use Rattle.tb_journal.specs.Contents.{Fits, latch_closed, latch_open, is_closed, block, at_rest, Front, Ends, Spoiled, Whole, with_record, with_records, behind_latch, front, Records, joined, skipped, walk, contents, blocks_length, records_end}
 use Rattle.tb_journal.proofs.BlockWalks.{take_parts, IsFile, is_file, with_records-Records, ended, ends_closed, latch_there}

@@ -1,6 +1,5 @@
 -- What the calls of a device do to its file, and what a crash may leave between two syncs.
 use Rattle.std.specs.Prelude.{◌<◌, ◌≡◌, ◌⊎◌, ℕ, ◌+◌, ◌-◌, ◌^◌, ◌≤◌, min, max, Bool, true, false, List, ◌++◌, length, take, drop, Result, IfOk, IfErr, OnOk, OnErr}
-use Rattle.std.proofs.Common.{arith, ⊎_elim}
 use Rattle.tb_journal.specs.declared.faults.JournalFault.{JournalFault}
 use Rattle.tb_journal.specs.declared.faults.JournalFault.TheVariants.{Memory, Failed, Full, SyncFailed}
 
@@ -166,15 +165,3 @@ pub record Syncs (result : Result (Unit {0}) JournalFault) (before after : Disk)
   pub crash : (c : List ℕ) → after.may_leave c → before.may_leave c ⊎ (c ≡ before.seen)
   pub time : Elapses before after
   pub cause : HasCause result before after
-
--- rows
-
--- where a device was full nothing else is reported
-pub full_is_not_memory : (before after : Disk) → before.failures Full ≡ 0 → after.failures Full ≡ 1 → IsCause before after Memory → ⊥
-full_is_not_memory before after none one cause = ⊎_elim (λ failed. by_others (failed.others Full)) (λ own. at_one (own.1 Full)) cause
-  where
-    at_one : after.failures Full ≡ before.failures Full → ⊥
-    at_one same = absurd (omega (arith, same, none, one))
-
-    by_others : (Full ≡ Memory) ⊎ (after.failures Full ≡ before.failures Full) → ⊥
-    by_others either = ⊎_elim (λ is. let no : Full ≡ Memory = is in absurd (cc)) at_one either

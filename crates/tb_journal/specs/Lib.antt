@@ -6,7 +6,6 @@ pub mod Steps
 pub mod Ready
 pub mod Torn
 pub mod Failures
-pub mod Shown
 pub mod Memory
 pub mod Opening
 pub mod Scans

@@ -1,12 +1,9 @@
 -- What a crash may leave of a file in memory, by the calls that were made.
-use Rattle.std.specs.Prelude.{◌≡◌, ℕ, ◌-◌, ◌≤◌, Bool, List, [], ◌∷◌, length, take, reverse, refl}
-use Rattle.std.proofs.Common.{arith, subst, sym}
-use Rattle.std.proofs.lemmas.List.{take_all}
+use Rattle.std.specs.Prelude.{◌≡◌, ℕ, ◌-◌, ◌≤◌, Bool, List, [], ◌∷◌, length, take, reverse}
 use Rattle.tb_journal.specs.Device.{Disk}
-use Rattle.tb_journal.specs.Torn.{Adds, torn_after, shown_after}
+use Rattle.tb_journal.specs.Torn.{Adds, torn_after}
 use Rattle.tb_journal.specs.Failures.{counted}
 use Rattle.tb_journal.specs.Faults.{call_fault}
-use Rattle.tb_journal.specs.Shown.{torn_shown}
 use Rattle.tb_journal.specs.declared.faults.JournalFault.{JournalFault}
 use Rattle.tb_journal.specs.declared.memory.Failures.{Failures}
 use Rattle.tb_journal.specs.declared.memory.Memory.{Memory}
@@ -23,11 +20,6 @@ moments_of file = length file.calls.items
 abbrev pub LeftBy : List ℕ → List Call → List ℕ → Type 0
 LeftBy first [] left = left ≡ first
 LeftBy first (call ∷ earlier) left = (d : List ℕ) × LeftBy first earlier d × Adds d call left
-
--- what a read returns is among it
-leaves_shown : (first : List ℕ) (calls : List Call) → LeftBy first calls (shown_after first calls)
-leaves_shown first [] = refl
-leaves_shown first (call ∷ earlier) = (shown_after first earlier, leaves_shown first earlier, torn_shown call (shown_after first earlier))
 
 -- the same at a moment of the file
 abbrev pub CrashLeaves : Memory → ℕ → List ℕ → Type 0
@@ -54,26 +46,6 @@ memory_disk file = disk_after file.first.items file.calls.items file.bytes.items
 -- its reads are those of its bytes
 abbrev pub memory_holds : Memory → List ℕ → Type 0
 memory_holds file bytes = bytes ≡ memory_bytes file
-
-pub memory_holds_seen : (file : Memory) → Unit {0} → memory_holds file (memory_disk file).seen
-memory_holds_seen file t = refl
-
-pub memory_stays : (file : Memory) → Unit {0} → (memory_disk file).may_leave (memory_disk file).seen
-memory_stays file t = subst (LeftBy file.first.items (reverse file.calls.items)) (sym file.shown) (leaves_shown file.first.items (reverse file.calls.items))
-
-pub memory_counts_now : (file : Memory) (t : ℕ) (c : List ℕ) → t ≤ (memory_disk file).moment
-    → (memory_disk file).may_leave c → (memory_disk file).left_since t c
-memory_counts_now file t c le now =
-    let calls = file.calls.items in
-    let whole : take (length calls) calls ≡ calls = take_all (length calls) calls (omega arith) in
-    (length calls, le, omega arith, subst (λ (l : List Call). LeftBy file.first.items (reverse l) c) (sym whole) now)
-
-pub memory_only_now : (file : Memory) (c : List ℕ)
-    → (memory_disk file).left_since (memory_disk file).moment c → (memory_disk file).may_leave c
-memory_only_now file c left =
-    let calls = file.calls.items in
-    let whole : take left.0 calls ≡ calls = take_all left.0 calls left.1 in
-    subst (λ (l : List Call). LeftBy file.first.items (reverse l) c) whole left.3
 
 -- calls that fail
 

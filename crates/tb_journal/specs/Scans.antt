@@ -4,7 +4,7 @@ use Rattle.tb_journal.specs.declared.opening.OpenFault.{OpenFault}
 use Rattle.tb_journal.specs.declared.opening.OpenFault.TheVariants as open_faults
 use Rattle.tb_journal.specs.declared.reading.Refusal.TheVariants as refusals
 use Rattle.tb_journal.specs.Checksum.{byte_on, bit_on}
-use Rattle.tb_journal.specs.Contents.{NotAJournal, Damaged, Records, magic, latch_closed, block, contents, records_end}
+use Rattle.tb_journal.specs.Contents.{Records, latch_closed, block, contents, records_end}
 use Rattle.tb_journal.specs.Opening.{refused_as, HasOpenCause}
 use Rattle.tb_journal.specs.Device.{Disk}
 use Rattle.tb_journal.specs.Growing.{Later}
@@ -81,10 +81,3 @@ begins_before_damage = refl
 -- each journal begins with no record
 pub begins_with_none : BeginsWith [] (codes "TBJRNL02" ++ 255 ∷ 255 ∷ 255 ∷ 255 ∷ 7 ∷ [])
 begins_with_none = refl
-
--- by its first bytes alone no file is one without records, and without a read none is refused
-pub no_end_by_the_first_bytes : ((file : List ℕ) → take 8 file ≡ magic → contents file ≡ Records []) → ⊥
-no_end_by_the_first_bytes says = let no : Damaged 8 ≡ Records [] = says (magic ++ 255 ∷ 255 ∷ 255 ∷ 255 ∷ 1 ∷ []) refl in absurd (cc)
-
-pub no_refusal_without_a_read : ((file : List ℕ) → contents file ≡ NotAJournal) → ⊥
-no_refusal_without_a_read says = let no : Records [] ≡ NotAJournal = says (magic ++ latch_closed) in absurd (cc)

@@ -1,5 +1,5 @@
 -- What a snapshot of a file shows that grows while it is read.
-use Rattle.std.specs.Prelude.{◌≡◌, ◌⊎◌, ℕ, ◌+◌, ◌-◌, ◌≤◌, Bool, true, false, List, [], ◌∷◌, ◌++◌, length, take, drop, replicate}
+use Rattle.std.specs.Prelude.{◌≡◌, ◌⊎◌, ℕ, ◌+◌, ◌-◌, ◌≤◌, Bool, true, false, List, ◌++◌, length, take, drop, replicate}
 use Rattle.tb_journal.specs.Contents.{latch_closed, Ends, Spoiled, front, Contents, NotAJournal, Damaged, Records, contents, records_end}
 use Rattle.tb_journal.specs.Scans.{BeginsWith}
 use Rattle.tb_journal.specs.Reading.{asked}

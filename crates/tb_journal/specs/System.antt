@@ -1,6 +1,5 @@
 -- What the system's calls on an open file do, as POSIX has them.
-use Rattle.std.specs.Prelude.{◌≡◌, ◌≢◌, ◌⊎◌, ℕ, ◌<◌, ◌≤◌, true, false, List, [], ◌∷◌, length, take, drop, Result, Ok, IfOk, IfErr, OnOk, IsErrOf, refl}
-use Rattle.std.proofs.Common.{arith, inl}
+use Rattle.std.specs.Prelude.{◌≡◌, ◌≢◌, ◌⊎◌, ℕ, ◌<◌, ◌≤◌, true, false, List, length, take, drop, Result, Ok, IfOk, IfErr, OnOk, IsErrOf, refl}
 use Rattle.std.specs.declared.io.ErrorKind.{ErrorKind}
 use Rattle.std.specs.declared.io.ErrorKind.TheVariants as kinds
 use Rattle.tb_journal.specs.declared.faults.JournalFault.{JournalFault}
@@ -86,39 +85,6 @@ no_quota_is_full = refl
 pub no_permission_is_failed : fault_of kinds.PermissionDenied ≡ faults.Failed
 unfolding fault_of
 no_permission_is_failed = refl
-
--- a disk with these bytes, that no sync has kept yet
-abbrev fresh : List ℕ → Disk
-fresh bytes = record { seen = bytes; may_leave = λ left. Unit {0}; moment = 0; left_since = λ t left. Unit {0}; failures = λ fault. 0; sound = true }
-
--- a write of two bytes that takes one
-pub a_short_write : Pwrites 1 (8 ∷ 9 ∷ []) (Ok 1) (fresh (7 ∷ 7 ∷ 7 ∷ [])) (fresh (7 ∷ 8 ∷ 7 ∷ []))
-a_short_write = record {
-  some = λ asked. omega arith;
-  written = refl;
-  interrupted = λ is. absurd (cc);
-  changes = record {
-    crash = λ left _. (left, tt, record { before = refl; after = refl; no_shorter = omega arith; no_longer = omega arith });
-    still = λ left _. tt;
-    time = record { later = omega arith; nothing_else = λ t left le since. inl since; keeps = λ t left le since. since };
-    sound = refl;
-  };
-  counts = record { ok = λ fault. refl; interrupted = λ is fault. refl; failed = tt };
-}
-
--- a read of three bytes that gives two is not the end
-pub a_short_read : Preads 0 (5 ∷ 6 ∷ 0 ∷ []) (Ok 2) (fresh (5 ∷ 6 ∷ 7 ∷ [])) (fresh (5 ∷ 6 ∷ 7 ∷ []))
-a_short_read = record {
-  bytes = refl;
-  end = λ is. absurd (cc);
-  looks = record {
-    seen = refl;
-    crash = λ left _. tt;
-    time = record { later = omega arith; nothing_else = λ t left le since. inl since; keeps = λ t left le since. since };
-    sound = refl;
-  };
-  counts = record { ok = λ fault. refl; interrupted = λ is fault. refl; failed = tt };
-}
 
 pub a_sync_without_memory_has_failed : sync_fault_of kinds.OutOfMemory ≡ faults.SyncFailed
 a_sync_without_memory_has_failed = refl

@@ -2,3 +2,4 @@
 pub mod Batches
 pub mod Hops
 pub mod Posix
+pub mod MemoryLaws

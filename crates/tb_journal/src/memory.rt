@@ -203,7 +203,8 @@ fn torn_write(
 }
 
 impl Device for Memory {
-    ghost use Rattle.tb_journal.specs.Memory.{memory_disk, memory_holds, memory_holds_seen, memory_stays, memory_counts_now, memory_only_now, fuse_of, IsCounted, IsInTurn};
+    ghost use Rattle.tb_journal.specs.Memory.{memory_disk, memory_holds, fuse_of, IsCounted, IsInTurn};
+    ghost use Rattle.tb_journal.specs.private.MemoryLaws.{memory_holds_seen, memory_stays, memory_counts_now, memory_only_now};
 
     ghost tells = { Unit {0} };
 

@@ -10,7 +10,7 @@ use Rattle.tb_records.specs.Inputs.{IsTimed, timed_bytes}
 use Rattle.tb_records.specs.Messages.{Message}
 use Rattle.tb_records.specs.Numbers.{le_bytes}
 use Rattle.tb_records.specs.Ordered.{Each}
-use Rattle.tb_records.specs.Sizes.{length-le_bytes}
+use Rattle.tb_records.proofs.Sizes.{length-le_bytes}
 use Rattle.tb_records.specs.ReplyFrames.{reply_bytes}
 use Rattle.tb_records.proofs.NumberBytes.{le_bytes-one, split_at}
 use Rattle.tb_records.proofs.Spellings.{spelled_once}

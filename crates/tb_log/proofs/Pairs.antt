@@ -3,7 +3,7 @@ use Rattle.std.proofs.Common.{◌≡◌, ℕ, ◌+◌, ◌≤◌, List, [], ◌�
 use Rattle.std.proofs.lemmas.Grind.{flat_map-append}
 use Rattle.tb_records.specs.declared.faults.FrameFault.{FrameFault}
 use Rattle.tb_records.specs.Numbers.{le_bytes}
-use Rattle.tb_records.specs.Sizes.{length-le_bytes}
+use Rattle.tb_records.proofs.Sizes.{length-le_bytes}
 use Rattle.tb_records.specs.Frames.{request_bytes}
 use Rattle.tb_records.specs.Inputs.{IsTimed, TimedAnswered, timed_bytes}
 use Rattle.tb_machine.specs.Scripts.{Pair}

@@ -4,7 +4,7 @@ use Rattle.std.specs.Io.KnownBytes.{Consumes}
 use Rattle.std.proofs.KnownBytes.{Consumes-trans}
 use Rattle.std.proofs.lemmas.Bool.Decides.{nat_tests}
 use Rattle.tb_records.specs.Numbers.{le_bytes}
-use Rattle.tb_records.specs.Sizes.{length-le_bytes}
+use Rattle.tb_records.proofs.Sizes.{length-le_bytes}
 use Rattle.tb_records.specs.Transport.{Input, risen}
 use Rattle.tb_log.specs.declared.faults.LogFault.{LogFault}
 use Rattle.tb_log.specs.declared.faults.LogFault.TheVariants.{Device, NoMemory, Short, Damaged}

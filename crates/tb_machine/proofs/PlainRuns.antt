@@ -12,7 +12,7 @@ use Rattle.tb_records.specs.Messages.{Message, asked}
 use Rattle.tb_records.specs.Numbers.{le_bytes}
 use Rattle.tb_records.specs.Ordered.{Each}
 use Rattle.tb_records.specs.ReplyFrames.{reply_bytes, reply_header_bytes, reply_body_bytes}
-use Rattle.tb_records.specs.Sizes.{length-le_bytes}
+use Rattle.tb_records.proofs.Sizes.{length-le_bytes}
 use Rattle.tb_records.specs.Transport.{Input, Output, risen, FaultCounts, Refuses}
 use Rattle.tb_records.proofs.NumberBytes.{le_bytes-one, split_at}
 use Rattle.tb_records.proofs.Spellings.{spelled_once, spelled_sound}

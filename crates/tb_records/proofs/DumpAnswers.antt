@@ -10,7 +10,7 @@ use Rattle.tb_records.specs.private.DumpNumbers.{ReadsNumbers}
 use Rattle.tb_records.specs.Frames.{length_at}
 use Rattle.tb_records.specs.Inputs.{Answers, Faulted}
 use Rattle.tb_records.specs.Numbers.{le_bytes}
-use Rattle.tb_records.specs.Sizes.{length-le_bytes}
+use Rattle.tb_records.proofs.Sizes.{length-le_bytes}
 use Rattle.tb_records.specs.private.Reading.{Filled}
 use Rattle.tb_records.proofs.FrameFaults.{cut_header}
 use Rattle.tb_records.proofs.NumberBytes.{split_at}

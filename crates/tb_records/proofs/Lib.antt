@@ -23,3 +23,4 @@ pub mod SliceAnswers
 pub mod Spellings
 pub mod StreamAnswers
 pub mod ZeroBytes
+pub mod Sizes

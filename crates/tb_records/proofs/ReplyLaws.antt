@@ -10,7 +10,7 @@ use Rattle.tb_records.specs.declared.replies.Status.{Status}
 use Rattle.tb_records.specs.Messages.{Answer, status_code, answer_count, answer_fault, kind_of, kind_for, items_max}
 use Rattle.tb_records.specs.RecordBytes.{account_bytes, transfer_bytes, result_bytes, IsAccount, IsTransfer, IsResult}
 use Rattle.tb_records.specs.ReplyFrames.{reply_header_bytes, header_of_reply, reply_body_bytes, reply_bytes, reply_fault, reply_header_fault, ReplyBodyFits, FitsFrame, HasKind, IsReply, SpellsReply, FoundReply, OnlyThisReply}
-use Rattle.tb_records.specs.Sizes.{length-account, length-transfer, length-result}
+use Rattle.tb_records.proofs.Sizes.{length-account, length-transfer, length-result}
 use Rattle.tb_records.proofs.NumberBytes.{split_at}
 use Rattle.tb_records.proofs.OneSpelling.{one_account, one_transfer, one_result, items_one}
 use Rattle.tb_records.proofs.ReplyFaults.{whole_reply}

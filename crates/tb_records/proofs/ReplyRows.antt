@@ -7,7 +7,7 @@ use Rattle.tb_records.specs.declared.bodies.ReplyBody.TheVariants.{Empty, Result
 use Rattle.tb_records.specs.Messages.{answer_count, kind_of, kind_for}
 use Rattle.tb_records.specs.RecordBytes.{account_bytes, transfer_bytes, result_bytes}
 use Rattle.tb_records.specs.ReplyFrames.{reply_body_bytes, reply_item_size, has_reply_length}
-use Rattle.tb_records.specs.Sizes.{length-account, length-transfer, length-result}
+use Rattle.tb_records.proofs.Sizes.{length-account, length-transfer, length-result}
 use Rattle.tb_records.proofs.ItemBytes.{length_items}
 
 -- the size of an item of a kind

@@ -1,7 +1,7 @@
 -- Numbers one behind another, each in so many bytes: what is in their bytes, and that no others have the same.
 use Rattle.std.proofs.Common.{◌≡◌, ℕ, ◌+◌, ◌^◌, ◌<◌, ◌≤◌, List, [], ◌∷◌, ◌++◌, length, take, slice_index, refl, sym, ap, subst, ◌∙◌, arith, length-append, append_assoc, append-nil}
 use Rattle.tb_records.specs.Numbers.{le_bytes, le_at}
-use Rattle.tb_records.specs.Sizes.{length-le_bytes}
+use Rattle.tb_records.proofs.Sizes.{length-le_bytes}
 use Rattle.tb_records.proofs.NumberBytes.{le_at-append, le_at-last, le_at-spelled, le_bytes-one, split_at}
 
 -- the bytes of numbers of these widths

@@ -9,7 +9,7 @@ use Rattle.tb_records.specs.declared.faults.FrameFault.TheVariants.{NoMemory}
 use Rattle.tb_records.specs.Messages.{Message, operation, item_count, is_operation, number_fault, IsLawful}
 use Rattle.tb_records.specs.Numbers.{le_bytes}
 use Rattle.tb_records.specs.RecordBytes.{account_bytes, transfer_bytes, IsAccount, IsTransfer}
-use Rattle.tb_records.specs.Sizes.{length-le_bytes, length-account, length-transfer, length-id}
+use Rattle.tb_records.proofs.Sizes.{length-le_bytes, length-account, length-transfer, length-id}
 use Rattle.tb_records.specs.Frames.{header_bytes, body_bytes, request_bytes, request_fault, header_fault, item_size, FitsFrame, IsRequest, Spells, BodyFits, IsId}
 use Rattle.tb_records.specs.private.HeaderFields.{numbers_tests}
 use Rattle.tb_records.specs.Inputs.{Found, OnlyThis}

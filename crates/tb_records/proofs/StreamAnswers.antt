@@ -14,7 +14,7 @@ use Rattle.tb_records.specs.Transport.{Input, FaultCounts}
 use Rattle.tb_records.specs.private.Reading.{Filled, BodyFault, ReadsMoment}
 use Rattle.tb_records.specs.Numbers.{le_bytes}
 use Rattle.tb_records.specs.RecordBytes.{account_bytes, transfer_bytes}
-use Rattle.tb_records.specs.Sizes.{length-le_bytes, length-account, length-transfer, length-id}
+use Rattle.tb_records.proofs.Sizes.{length-le_bytes, length-account, length-transfer, length-id}
 use Rattle.tb_records.proofs.Pieces.{length-items}
 use Rattle.tb_records.proofs.HeaderBytes.{right_length}
 use Rattle.tb_records.proofs.FirstFaults.{none_each}

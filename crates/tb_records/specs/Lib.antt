@@ -22,5 +22,4 @@ pub mod AtHand
 pub mod Ordered
 pub mod HeldBodies
 pub mod ReplyTests
-pub mod Sizes
 pub mod private

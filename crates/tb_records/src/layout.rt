@@ -1,9 +1,9 @@
 //! The layout of the items of a body: how each is written and read.
-ghost use Rattle.std.proofs.Common.{rules};
+ghost use Rattle.std.proofs.Common.{rules, length-append};
+ghost use Rattle.byteorder.specs.Numbers.{length-bytes_low_first};
 ghost use Rattle.std.specs.Prelude.{◌≡◌, ◌<◌, ◌≤◌, ◌^◌, ℕ, List, length, take, refl};
 ghost use Rattle.tb_records.specs.Numbers.{le_bytes};
 ghost use Rattle.tb_records.specs.RecordBytes.{account_bytes, transfer_bytes, result_bytes, IsAccount, IsTransfer, IsResult};
-ghost use Rattle.tb_records.specs.Sizes.{length-account, length-transfer, length-result, length-id};
 
 use crate::encoding::{put_u16, put_u32, put_u64, put_u128, u16_at, u32_at, u64_at, u128_at};
 use crate::records::{Account, EventResult, Transfer};
@@ -48,7 +48,7 @@ impl Item for Account {
 
     ghost small = { Prim.search rules };
 
-    ghost length_spelling = { length-account };
+    ghost length_spelling = { λ x. unfold account_bytes le_bytes in Prim.simp (length-append, length-bytes_low_first) };
 
     const SIZE: usize = 128;
 
@@ -97,7 +97,7 @@ impl Item for Transfer {
 
     ghost small = { Prim.search rules };
 
-    ghost length_spelling = { length-transfer };
+    ghost length_spelling = { λ x. unfold transfer_bytes le_bytes in Prim.simp (length-append, length-bytes_low_first) };
 
     const SIZE: usize = 128;
 
@@ -146,7 +146,7 @@ impl Item for EventResult {
 
     ghost small = { Prim.search rules };
 
-    ghost length_spelling = { length-result };
+    ghost length_spelling = { λ x. unfold result_bytes le_bytes in Prim.simp (length-append, length-bytes_low_first) };
 
     const SIZE: usize = 8;
 
@@ -173,7 +173,7 @@ impl Item for u128 {
 
     ghost small = { Prim.search rules };
 
-    ghost length_spelling = { length-id };
+    ghost length_spelling = { λ x. unfold le_bytes in length-bytes_low_first 0 16 x };
 
     const SIZE: usize = 16;
 

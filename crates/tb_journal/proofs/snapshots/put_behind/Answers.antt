@@ -1,4 +1,4 @@
-use Rattle.std.proofs.Common.{List, ℕ, length, take, drop, ◌++◌, ◌≡◌, ◌∙◌, ap, sym, arith, replicate}
+use Rattle.std.proofs.Common.{List, ℕ, length, take, drop, ◌++◌, ◌∙◌, ap, arith}
 use Rattle.tb_journal.specs.Contents.{latch_closed}
 use Rattle.tb_journal.proofs.Closing.{zeros_alone, latch_first}
 use Rattle.tb_journal.proofs.snapshots.put_behind.Goals as goal

@@ -1,6 +1,6 @@
 use Rattle.std.proofs.Common.{◌+◌, List, ℕ, ◌∙◌, ap, drop, min, length, subst, sym}
 use Rattle.tb_journal.specs.Scans.{IsAhead}
-use Rattle.tb_journal.specs.Seeking.{IsSeeking, SeekState}
+use Rattle.tb_journal.specs.Seeking.{IsSeeking}
 use Rattle.tb_journal.proofs.Sought.{skipped_some}
 use Rattle.tb_journal.proofs.seeking.Seek.skip.Goals as goal
 

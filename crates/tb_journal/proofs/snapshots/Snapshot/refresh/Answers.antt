@@ -1,4 +1,4 @@
-use Rattle.std.proofs.Common.{rules, subst}
+use Rattle.std.proofs.Common.{rules}
 use Rattle.tb_journal.proofs.Finding.{stays_held, refreshes_kept, refreshes_more}
 use Rattle.tb_journal.proofs.snapshots.Snapshot.refresh.Goals as goal
 

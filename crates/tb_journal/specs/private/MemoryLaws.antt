@@ -1,11 +1,12 @@
--- What a read returns after a call on a file in memory is one of the files that a crash during the call may leave: for a law of
--- Memory alone.
-use Rattle.std.specs.Prelude.{◌≡◌, ℕ, zero, suc, ◌+◌, ◌-◌, ◌≤◌, ◌&&◌, nat_le, Bool, true, false, List, [], ◌∷◌, ◌++◌, length, take, drop, refl, if◌then◌else◌}
-use Rattle.std.proofs.Common.{arith, sym, ◌∙◌, ap, length-append, length-drop, length-take}
+-- The proofs of the laws that `Device` asks of a file in memory. `rt` takes the proof of a trait's law from specs/ only.
+use Rattle.std.specs.Prelude.{◌≡◌, ℕ, zero, suc, ◌+◌, ◌-◌, ◌≤◌, ◌&&◌, nat_le, Bool, true, false, List, [], ◌∷◌, ◌++◌, length, take, drop, reverse, refl, if◌then◌else◌}
+use Rattle.std.proofs.Common.{arith, subst, sym, ◌∙◌, ap, length-append, length-drop, length-take}
 use Rattle.std.proofs.lemmas.List.{take_at, drop_at, take_all, take_min, length-take-le}
 use Rattle.std.proofs.lemmas.Bool.Decides.{nat_tests}
 use Rattle.tb_journal.specs.Device.{Torn, Cut, overwritten}
-use Rattle.tb_journal.specs.Torn.{Adds, shown_by}
+use Rattle.tb_journal.specs.Torn.{Adds, shown_by, shown_after}
+use Rattle.tb_journal.specs.Memory.{LeftBy, memory_disk, memory_holds}
+use Rattle.tb_journal.specs.declared.memory.Memory.{Memory}
 use Rattle.tb_journal.specs.declared.memory.Call.{Call}
 use Rattle.tb_journal.specs.declared.memory.Call.TheVariants as variants
 
@@ -65,3 +66,28 @@ pub torn_shown : (call : Call) (old : List ℕ) → Adds old call (shown_by call
 torn_shown (variants.Write at bytes shown) old = torn_choice at (length bytes.items) bytes.items old shown (nat_le at (length old)) (omega arith) refl
 torn_shown (variants.Cut len shown) old = cut_choice len old shown
 torn_shown (variants.Sync file) old = refl
+
+-- what a read returns is among it
+leaves_shown : (first : List ℕ) (calls : List Call) → LeftBy first calls (shown_after first calls)
+leaves_shown first [] = refl
+leaves_shown first (call ∷ earlier) = (shown_after first earlier, leaves_shown first earlier, torn_shown call (shown_after first earlier))
+
+pub memory_holds_seen : (file : Memory) → Unit {0} → memory_holds file (memory_disk file).seen
+memory_holds_seen file t = refl
+
+pub memory_stays : (file : Memory) → Unit {0} → (memory_disk file).may_leave (memory_disk file).seen
+memory_stays file t = subst (LeftBy file.first.items (reverse file.calls.items)) (sym file.shown) (leaves_shown file.first.items (reverse file.calls.items))
+
+pub memory_counts_now : (file : Memory) (t : ℕ) (c : List ℕ) → t ≤ (memory_disk file).moment
+    → (memory_disk file).may_leave c → (memory_disk file).left_since t c
+memory_counts_now file t c le now =
+    let calls = file.calls.items in
+    let whole : take (length calls) calls ≡ calls = take_all (length calls) calls (omega arith) in
+    (length calls, le, omega arith, subst (λ (l : List Call). LeftBy file.first.items (reverse l) c) (sym whole) now)
+
+pub memory_only_now : (file : Memory) (c : List ℕ)
+    → (memory_disk file).left_since (memory_disk file).moment c → (memory_disk file).may_leave c
+memory_only_now file c left =
+    let calls = file.calls.items in
+    let whole : take left.0 calls ≡ calls = take_all left.0 calls left.1 in
+    subst (λ (l : List Call). LeftBy file.first.items (reverse l) c) whole left.3
