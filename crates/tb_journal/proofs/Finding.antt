@@ -8,8 +8,8 @@ use Rattle.tb_journal.specs.Device.{ReadsAt}
 use Rattle.tb_journal.specs.Contents.{Ends, front, NotAJournal, contents}
 use Rattle.tb_journal.specs.Scans.{BeginsWith}
 use Rattle.tb_journal.specs.Growing.{Later, Grown}
-use Rattle.tb_journal.specs.Snapshots.{Snapped, behind_blocks, LeadsTo, IsFinal, ShowsBlocks, ShowsAll, ShowsOf, IsHeld, Takes, Refreshes}
-use Rattle.tb_journal.specs.private.Hops.{LeadsFrom, HasPiece, IsFound, GoesOn, HopsOn, HopsSized, WasClosed, TellsLatch, TellsEnd, Grows, HopsFrom, Finds, FindsMore, ReadsBlocks}
+use Rattle.tb_journal.specs.Snapshots.{Snapped, behind_blocks, LeadsTo, IsFinal, ShowsBlocks, ShowsAll, ShowsOf, IsHeld, TakesSnapshot, Refreshes}
+use Rattle.tb_journal.specs.private.Hops.{LeadsFrom, HasPiece, IsFound, IsFoundOn, HopsOn, HopsSized, WasClosed, FindsLatch, FindsEnd, Grows, HopsFrom, Finds, FindsMore, ReadsBlocks}
 use Rattle.tb_journal.proofs.Growths.{final_later, later_same, later_then, leads_within, leads_kept, leads_later}
 use Rattle.tb_journal.proofs.Showing.{room, shown_length, shown_contents, shown_size, closed_before, shows_still, shows_more, held_grown, reads_ahead}
 
@@ -138,8 +138,8 @@ found_foreign grows bytes first = record {
 
 -- from a latch on that was closed
 
-pub tells_end : (mid now : List ℕ → Type 0) (end len : ℕ) (bytes : List ℕ) (closed : Bool) → (first : Grown mid bytes (λ later. len ≡ length later)) → (second : Grown now first.later (λ later. TellsLatch end later closed))
-    → TellsEnd now end bytes (len, closed)
+pub tells_end : (mid now : List ℕ → Type 0) (end len : ℕ) (bytes : List ℕ) (closed : Bool) → (first : Grown mid bytes (λ later. len ≡ length later)) → (second : Grown now first.later (λ later. FindsLatch end later closed))
+    → FindsEnd now end bytes (len, closed)
 unfolding grown_by
 tells_end mid now end len bytes closed first second = record {
   sized = grown_by first second tt;
@@ -151,9 +151,9 @@ tells_end mid now end len bytes closed first second = record {
 }
 
 module _ (end len : ℕ) (bytes met shown : List ℕ) (since : Later met bytes) (shows : ShowsBlocks end len met shown) where
-  pub more_still : (grows : List ℕ → Type 0) (size : ℕ) (closed : Bool) → closed ≡ true → TellsEnd grows end bytes (size, closed) → GoesOn grows bytes shown (record { end = end; len = size; closed = true })
+  pub more_still : (grows : List ℕ → Type 0) (size : ℕ) (closed : Bool) → closed ≡ true → FindsEnd grows end bytes (size, closed) → IsFoundOn grows bytes shown (record { end = end; len = size; closed = true })
   more_still grows size closed is told =
-      let at_last : front (drop end told.sized.later) ≡ Ends = subst (TellsLatch end told.sized.later) is told.is in
+      let at_last : front (drop end told.sized.later) ≡ Ends = subst (FindsLatch end told.sized.later) is told.is in
       let mid = told.before in
       let then = later_then met bytes mid since told.after in
       let still = shows_still end len met shown mid shows then (closed_before end mid told.sized.later (leads_later end met mid shows.leads then) told.since at_last) in
@@ -170,21 +170,21 @@ module _ (end len : ℕ) (bytes met shown : List ℕ) (since : Later met bytes) 
         goes_on = still.2;
       }
 
-  pub more_leads : {grows : List ℕ → Type 0} {told : ℕ × Bool} → (first : TellsEnd grows end bytes told) → LeadsTo end first.sized.later
+  pub more_leads : {grows : List ℕ → Type 0} {told : ℕ × Bool} → (first : FindsEnd grows end bytes told) → LeadsTo end first.sized.later
   more_leads first = leads_later end met first.sized.later shows.leads (later_then met bytes first.sized.later since first.sized.after)
 
-  pub more_found : (mid grows : List ℕ → Type 0) (size : ℕ) (closed : Bool) → closed ≡ false → (first : TellsEnd mid end bytes (size, closed)) → (found : Found) → IsFound grows first.sized.later found → GoesOn grows bytes shown found
+  pub more_found : (mid grows : List ℕ → Type 0) (size : ℕ) (closed : Bool) → closed ≡ false → (first : FindsEnd mid end bytes (size, closed)) → (found : Found) → IsFound grows first.sized.later found → IsFoundOn grows bytes shown found
   unfolding found_since
   more_found mid grows size closed is first found more = record {
     is = found_since grows bytes first.sized.later first.sized.after found more;
     goes_on = shows_more end len met shown first.sized.later shows (later_then met bytes first.sized.later since first.sized.after)
-        (subst (TellsLatch end first.sized.later) is first.is)
+        (subst (FindsLatch end first.sized.later) is first.is)
         found.closed found.end found.len more.met more.shown more.after more.shows;
   }
 
 -- what a snapshot holds
 
-pub takes_found : {G : Type 0} (grows : G → List ℕ → Type 0) (bytes : List ℕ) (now : G) (found : Found) → IsFound (grows now) bytes found → Takes grows bytes (record { file = now; end = found.end; len = found.len; closed = found.closed })
+pub takes_found : {G : Type 0} (grows : G → List ℕ → Type 0) (bytes : List ℕ) (now : G) (found : Found) → IsFound (grows now) bytes found → TakesSnapshot grows bytes (record { file = now; end = found.end; len = found.len; closed = found.closed })
 takes_found grows bytes now found is = record {
   later = is.met;
   after = is.after;
@@ -194,7 +194,7 @@ takes_found grows bytes now found is = record {
   long = shown_size found.closed found.end found.len is.met is.shown is.shows;
 }
 
-pub refreshes_found : {G : Type 0} (grows : G → List ℕ → Type 0) (bytes shown : List ℕ) (now : G) (found : Found) → GoesOn (grows now) bytes shown found → Refreshes grows bytes shown (record { file = now; end = found.end; len = found.len; closed = found.closed })
+pub refreshes_found : {G : Type 0} (grows : G → List ℕ → Type 0) (bytes shown : List ℕ) (now : G) (found : Found) → IsFoundOn (grows now) bytes shown found → Refreshes grows bytes shown (record { file = now; end = found.end; len = found.len; closed = found.closed })
 unfolding takes_found
 refreshes_found grows bytes shown now found goes = record { takes = takes_found grows bytes now found goes.is; goes_on = goes.goes_on }
 
@@ -310,7 +310,7 @@ all_since grows a b before (Ok found) is = found_since grows a b before found is
 all_since grows a b before (Err fault) is = tt
 
 pub all_more : (end len : ℕ) (bytes met shown : List ℕ) (since : Later met bytes) (shows : ShowsBlocks end len met shown) (mid grows : List ℕ → Type 0) (size : ℕ) (closed : Bool) → closed ≡ false
-    → (first : TellsEnd mid end bytes (size, closed)) → (result : Result Found JournalFault) → IfOk result (IsFound grows first.sized.later) → IfOk result (GoesOn grows bytes shown)
+    → (first : FindsEnd mid end bytes (size, closed)) → (result : Result Found JournalFault) → IfOk result (IsFound grows first.sized.later) → IfOk result (IsFoundOn grows bytes shown)
 all_more end len bytes met shown since shows mid grows size closed is first (Ok found) more = more_found end len bytes met shown since shows mid grows size closed is first found more
 all_more end len bytes met shown since shows mid grows size closed is first (Err fault) more = tt
 

@@ -9,7 +9,7 @@ use Rattle.tb_journal.specs.declared.reading.Extent.{Extent}
 use Rattle.tb_journal.specs.Device.{Disk, IsSettled, LeavesOnly}
 use Rattle.tb_journal.specs.Contents.{Contents, Records, contents, recorded, records_of, records_end}
 use Rattle.tb_journal.specs.Opening.{HasOpenCause, IsAsBefore, StandsForTheSame, IsOfDevice, IsOfExtent, Recovers, RefusesFile, Repairs, IsOpened}
-use Rattle.tb_journal.specs.Reading.{TellsExtent, extent_of}
+use Rattle.tb_journal.specs.Reading.{ReadsExtent, extent_of}
 use Rattle.tb_journal.specs.Ready.{Kept}
 use Rattle.tb_journal.proofs.Moments.{then, weaker}
 use Rattle.tb_journal.proofs.Causes.{none_at_once}
@@ -41,7 +41,7 @@ recovers file extent (Err failed) read of_extent other = by_fault failed.fault o
     by_fault (open_faults.Refused why) other = absurd other
     by_fault (open_faults.Device fault) other = tt
 
-pub refuses : (file : List ℕ) (fault : OpenFault) → TellsExtent (Err fault) file → RefusesFile fault file
+pub refuses : (file : List ℕ) (fault : OpenFault) → ReadsExtent (Err fault) file → RefusesFile fault file
 refuses file (open_faults.Refused why) tells = tells
 refuses file (open_faults.Device fault) tells = tt
 

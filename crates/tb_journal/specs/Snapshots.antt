@@ -71,7 +71,7 @@ pub record IsHeld {G : Type 0} (grows : G → List ℕ → Type 0) (snapshot : S
 
 -- a snapshot of a file represents what the file represented at some moment of the call, and has as many bytes: so the verdict on it
 -- is the one on the file
-pub record Takes {G : Type 0} (grows : G → List ℕ → Type 0) (file : List ℕ) (snapshot : Snapped G) : Type 0 where
+pub record TakesSnapshot {G : Type 0} (grows : G → List ℕ → Type 0) (file : List ℕ) (snapshot : Snapped G) : Type 0 where
   pub later : List ℕ
   pub after : Later file later
   pub shown : List ℕ
@@ -81,5 +81,5 @@ pub record Takes {G : Type 0} (grows : G → List ℕ → Type 0) (file : List �
 
 -- the same of one that showed something before: its bytes are those, and what was committed since
 pub record Refreshes {G : Type 0} (grows : G → List ℕ → Type 0) (file shown : List ℕ) (snapshot : Snapped G) : Type 0 where
-  pub takes : Takes grows file snapshot
+  pub takes : TakesSnapshot grows file snapshot
   pub goes_on : Later shown takes.shown

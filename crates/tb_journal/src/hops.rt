@@ -2,7 +2,7 @@
 ghost use Rattle.std.specs.Prelude.{◌≤◌, ◌≡◌, ◌<◌, ◌^◌, List, ℕ};
 ghost use Rattle.tb_journal.specs.declared.hops.Hop.TheVariants as variants;
 ghost use Rattle.tb_journal.specs.Reading.{HasAhead};
-ghost use Rattle.tb_journal.specs.private.Hops.{HopsTo, FollowsPiece, TellsLatch, IsNear};
+ghost use Rattle.tb_journal.specs.private.Hops.{HopsTo, FollowsPiece, FindsLatch, IsNear};
 
 use crate::reading::{asked, is_closed};
 
@@ -62,7 +62,7 @@ fn step(rest: &[u8], at: usize, len: usize) -> Hop
 
 // Says whether these bytes begin with a closed latch.
 pub fn is_end(rest: &[u8]) -> bool
-    ensures { (at : ℕ) (file : List ℕ) → HasAhead 11 at file rest.now → TellsLatch at file result }
+    ensures { (at : ℕ) (file : List ℕ) → HasAhead 11 at file rest.now → FindsLatch at file result }
 {
     match rest {
         [w, x, y, z, ..] => is_closed(*w, *x, *y, *z),

@@ -4,8 +4,8 @@ ghost use Rattle.tb_journal.specs.Device.{IsOfCall, AnswersLength};
 ghost use Rattle.tb_journal.specs.Real.{untold};
 ghost use Rattle.tb_journal.specs.declared.hops.Hop.TheVariants as variants;
 ghost use Rattle.tb_journal.specs.Reading.{HasAhead};
-ghost use Rattle.tb_journal.specs.Snapshots.{Snapped, behind_blocks, IsHeld, Takes, Refreshes};
-ghost use Rattle.tb_journal.specs.private.Hops.{IsFound, StartsAs, Grows, HopsFrom, Finds, FindsMore, HopsSized, TellsEnd, TellsStart, ReadsBlocks, Closes, IsNear};
+ghost use Rattle.tb_journal.specs.Snapshots.{Snapped, behind_blocks, IsHeld, TakesSnapshot, Refreshes};
+ghost use Rattle.tb_journal.specs.private.Hops.{IsFound, StartsAs, Grows, HopsFrom, Finds, FindsMore, HopsSized, FindsEnd, FindsStart, ReadsBlocks, Closes, IsNear};
 ghost use Rattle.tb_journal.specs.Growing.{HasGrown};
 
 use crate::batches::{CLOSED, LATCH_BYTES};
@@ -62,7 +62,7 @@ impl<G: Growing> Model for Snapshot<G> {
 impl<G: Growing + Drop> Snapshot<G> {
     /// Follows the blocks of a file to the closed latch, and keeps that end. No checksum is looked at: a scan does that.
     pub fn new(alloc: Global, file: G) -> Result<Snapshot<G>, JournalFault>
-        ensures taken { (bytes : List ℕ) → G.grows file bytes → IfOk result (Takes G.grows bytes) }
+        ensures taken { (bytes : List ℕ) → G.grows file bytes → IfOk result (TakesSnapshot G.grows bytes) }
         ensures names { IfErr result IsOfCall }
     {
         let mut file = file;
@@ -223,7 +223,7 @@ fn find<G: Growing>(file: &mut G, piece: &mut [u8]) -> Result<Found, JournalFaul
 // Says whether a file begins as a journal does.
 fn begins<G: Growing>(file: &mut G, piece: &mut [u8]) -> Result<bool, JournalFault>
     requires { 11 ≤ length piece.old }
-    ensures tells { TellsStart (G.grows file.old) (G.grows file.new) result }
+    ensures tells { FindsStart (G.grows file.old) (G.grows file.new) result }
     ensures names { IfErr result IsOfCall }
 {
     let count = file.read_at(0, piece)?;
@@ -263,7 +263,7 @@ fn still_closed<G: Growing>(
     end: usize,
 ) -> Result<(usize, bool), JournalFault>
     requires { 11 ≤ length piece.old }
-    ensures tells { (bytes : List ℕ) → G.grows file.old bytes → IfOk result (TellsEnd (G.grows file.new) end bytes) }
+    ensures tells { (bytes : List ℕ) → G.grows file.old bytes → IfOk result (FindsEnd (G.grows file.new) end bytes) }
     ensures same { Grows (G.grows file.old) (G.grows file.new) }
     ensures names { IfErr result IsOfCall }
 {

@@ -11,7 +11,7 @@ use Rattle.tb_machine.specs.Histories.{State, is_lawful, IsLegal, after, answer_
 use Rattle.tb_machine.specs.Scripts.{Pair, entry_of, is_entered, with_pair, accepted, replies_from}
 use Rattle.tb_machine.specs.Runs.{Spell}
 use Rattle.tb_records.specs.Inputs.{IsTimed}
-use Rattle.tb_machine.specs.ScriptLaws.{AreLawful, AcceptedIsLegal, IsGiven, IsRefused, AreOf, RepliesAreOfHistory, ServedAreLawful}
+use Rattle.tb_machine.specs.ScriptLaws.{AreLawful, AcceptedIsLegal, IsGiven, HasRefusal, AreOf, RepliesAreOfHistory, ServedAreLawful}
 use Rattle.tb_machine.proofs.Legal.{after_snoc}
 use Rattle.tb_machine.proofs.LawProofs.{first_reply}
 use Rattle.tb_records.proofs.ByKey.{each-map}
@@ -68,7 +68,7 @@ module _ (profile : Profile) (clients_max : ℕ) where
   }
 
   answered_as_it_stands : (h : List Entry) (r : Message) → IsLegal profile clients_max h → IsTrue (is_lawful r)
-      → IsGiven profile clients_max h r (answer_to (after profile clients_max h) r) ⊎ IsRefused r (answer_to (after profile clients_max h) r)
+      → IsGiven profile clients_max h r (answer_to (after profile clients_max h) r) ⊎ HasRefusal r (answer_to (after profile clients_max h) r)
   answered_as_it_stands h r legal lawful = elim (repeated_or_not (class_of (after profile clients_max h).rows r)) [
     | inl class ↦ inl (given class)
     | inr other ↦ inr (record {
@@ -93,15 +93,15 @@ module _ (profile : Profile) (clients_max : ℕ) where
 
   answered_one : (h : List Entry) (p : Pair) → IsLegal profile clients_max h → IsTrue (is_lawful p.1)
       → IsGiven profile clients_max (with_pair profile clients_max h p) p.1 (answer_to (after profile clients_max (with_pair profile clients_max h p)) p.1)
-      ⊎ IsRefused p.1 (answer_to (after profile clients_max (with_pair profile clients_max h p)) p.1)
+      ⊎ HasRefusal p.1 (answer_to (after profile clients_max (with_pair profile clients_max h p)) p.1)
   answered_one h p legal lawful = parts (is_entered (after profile clients_max h) p)
     where
       parts : (b : Bool) → let m = cond b (h ++ entry_of (after profile clients_max h) p ∷ []) h in
-          IsGiven profile clients_max m p.1 (answer_to (after profile clients_max m) p.1) ⊎ IsRefused p.1 (answer_to (after profile clients_max m) p.1)
+          IsGiven profile clients_max m p.1 (answer_to (after profile clients_max m) p.1) ⊎ HasRefusal p.1 (answer_to (after profile clients_max m) p.1)
       parts true = inl (answered_entered h p lawful)
       parts false = answered_as_it_stands h p.1 legal lawful
 
-  answered_on : (h m : List Entry) (r : Message) (a : Answer) → Goes h m → IsGiven profile clients_max h r a ⊎ IsRefused r a → IsGiven profile clients_max m r a ⊎ IsRefused r a
+  answered_on : (h m : List Entry) (r : Message) (a : Answer) → Goes h m → IsGiven profile clients_max h r a ⊎ HasRefusal r a → IsGiven profile clients_max m r a ⊎ HasRefusal r a
   unfolding Goes
   answered_on h m r a goes (inl given) = inl (subst (λ l. IsGiven profile clients_max l r a) (sym goes.1) (given_on h goes.0 r a given))
   answered_on h m r a goes (inr refused) = inr refused

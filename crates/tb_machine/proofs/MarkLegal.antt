@@ -15,7 +15,7 @@ use Rattle.tb_machine.specs.Scripts.{Pair, entry_of, has_time, is_entered, grown
 use Rattle.tb_machine.specs.ScriptLaws.{AreLawful}
 use Rattle.tb_machine.specs.Dumps.{IsPlace, IsDumpedEntry, after_with, IsLegalWith, place_in, after_at, accepted_at}
 use Rattle.tb_machine.specs.MarkedLaws.{next_in, NextIsLegalWith, MovedIsLegalWith, AcceptedIsLegalWith, DumpedIsLegal}
-use Rattle.tb_machine.specs.Restoring.{cause_of, IsCause, IsBarred, GoesOn, Restores, RestoresHistory}
+use Rattle.tb_machine.specs.Restoring.{cause_of, IsCause, IsBarred, RestoresNext, Restores, RestoresHistory}
 use Rattle.tb_machine.proofs.Judging.{both_of, new_of, MayCome, comes}
 use Rattle.tb_machine.proofs.Legal.{legal_snoc}
 use Rattle.tb_machine.proofs.DumpLaws.{each_split}
@@ -133,7 +133,7 @@ module _ (profile : Profile) (clients_max : ℕ) (mark : Option ℕ) (h : List E
     is_barred Time is = barred Time is
     is_barred NotNew is = barred NotNew is
 
-    goes_on : (result : Result (Unit {0}) RestoreFault) (T : State) → Restores result (after_with profile clients_max mark h) T e → GoesOn profile clients_max mark h e result T
+    goes_on : (result : Result (Unit {0}) RestoreFault) (T : State) → Restores result (after_with profile clients_max mark h) T e → RestoresNext profile clients_max mark h e result T
     goes_on (Ok done) T restored = (legal_with_snoc profile clients_max mark h e place legal restored.0, restored.1 ∙ sym (with_snoc profile clients_max mark h e place))
     goes_on (Err fault) T restored = (restored.0, restored.1 ∙ ap (λ n. n + 1) numbered, is_barred fault.cause restored.2)
 

@@ -44,12 +44,12 @@ module _ (profile : Profile) (clients_max : ℕ) (mark : Option ℕ) (h : List E
   IsBarred NoMemory = IsLegalWith profile clients_max mark (h ++ e ∷ [])
   IsBarred cause = (more : List Entry) → IsLegalWith profile clients_max mark (h ++ e ∷ more) → ⊥
 
-  abbrev pub GoesOn : Result (Unit {0}) RestoreFault → State → Type 0
-  GoesOn (Ok done) T = IsLegalWith profile clients_max mark (h ++ e ∷ []) × (T ≡ after_with profile clients_max mark (h ++ e ∷ []))
-  GoesOn (Err fault) T = (T ≡ after_with profile clients_max mark h) × (fault.place ≡ length h + 1) × IsBarred fault.cause
+  abbrev pub RestoresNext : Result (Unit {0}) RestoreFault → State → Type 0
+  RestoresNext (Ok done) T = IsLegalWith profile clients_max mark (h ++ e ∷ []) × (T ≡ after_with profile clients_max mark (h ++ e ∷ []))
+  RestoresNext (Err fault) T = (T ≡ after_with profile clients_max mark h) × (fault.place ≡ length h + 1) × IsBarred fault.cause
 
 -- entries restored one after another, from a machine that is in the state after a legal history
 abbrev pub RestoresHistory : Type 0
 RestoresHistory = (profile : Profile) (clients_max : ℕ) (mark : Option ℕ) (h : List Entry) (e : Entry) (result : Result (Unit {0}) RestoreFault) (T : State)
     → IsPlace profile mark h → IsLegalWith profile clients_max mark h → IsTrue (is_lawful e.request)
-    → Restores result (after_with profile clients_max mark h) T e → GoesOn profile clients_max mark h e result T
+    → Restores result (after_with profile clients_max mark h) T e → RestoresNext profile clients_max mark h e result T

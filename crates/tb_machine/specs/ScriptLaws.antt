@@ -30,7 +30,7 @@ pub record IsGiven (profile : Profile) (clients_max : ℕ) (h : List Entry) (r :
   pub reply : a ≡ reply_at (after profile clients_max front) entry
 
 -- the answer has no reply: it names why
-pub record IsRefused (r : Message) (a : Answer) : Type 0 where
+pub record HasRefusal (r : Message) (a : Answer) : Type 0 where
   pub class : Class
   pub no_repeat : class ≢ Repeat
   pub answer : a ≡ refusal (status_of class) r
@@ -40,7 +40,7 @@ abbrev pub AreOf : Profile → ℕ → List Entry → List Pair → List Answer 
 AreOf profile clients_max h [] [] = Unit {0}
 AreOf profile clients_max h [] (a ∷ replies) = ⊥
 AreOf profile clients_max h (p ∷ ps) [] = ⊥
-AreOf profile clients_max h (p ∷ ps) (a ∷ replies) = (IsGiven profile clients_max h p.1 a ⊎ IsRefused p.1 a) × AreOf profile clients_max h ps replies
+AreOf profile clients_max h (p ∷ ps) (a ∷ replies) = (IsGiven profile clients_max h p.1 a ⊎ HasRefusal p.1 a) × AreOf profile clients_max h ps replies
 
 -- the replies to a script of lawful pairs are those of the history that it makes
 abbrev pub RepliesAreOfHistory : Type 0

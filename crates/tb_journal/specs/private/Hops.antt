@@ -40,7 +40,7 @@ pub record IsFound (grows : List ℕ → Type 0) (file : List ℕ) (found : Foun
   pub now : grows later
 
 -- the same, and its bytes are those that were shown before, and what was committed since
-pub record GoesOn (grows : List ℕ → Type 0) (file shown : List ℕ) (found : Found) : Type 0 where
+pub record IsFoundOn (grows : List ℕ → Type 0) (file shown : List ℕ) (found : Found) : Type 0 where
   pub is : IsFound grows file found
   pub goes_on : Later shown is.shown
 
@@ -92,25 +92,25 @@ Finds before after from result = (bytes : List ℕ) → before bytes → LeadsTo
 
 -- where it ends now that a closed latch was met at an offset
 abbrev pub FindsMore : (List ℕ → Type 0) → (List ℕ → Type 0) → ℕ → Result Found JournalFault → Type 0
-FindsMore before after end result = (len : ℕ) (bytes shown met : List ℕ) → before bytes → Later met bytes → ShowsBlocks end len met shown → IfOk result (GoesOn after bytes shown)
+FindsMore before after end result = (len : ℕ) (bytes shown met : List ℕ) → before bytes → Later met bytes → ShowsBlocks end len met shown → IfOk result (IsFoundOn after bytes shown)
 
 -- whether a closed latch is there
-abbrev pub TellsLatch : ℕ → List ℕ → Bool → Type 0
-TellsLatch end file true = front (drop end file) ≡ Ends
-TellsLatch end file false = front (drop end file) ≢ Ends
+abbrev pub FindsLatch : ℕ → List ℕ → Bool → Type 0
+FindsLatch end file true = front (drop end file) ≡ Ends
+FindsLatch end file false = front (drop end file) ≢ Ends
 
 -- whether the latch at an offset is closed, and how many bytes the file had before that was looked at
-pub record TellsEnd (grows : List ℕ → Type 0) (end : ℕ) (bytes : List ℕ) (told : ℕ × Bool) : Type 0 where
+pub record FindsEnd (grows : List ℕ → Type 0) (end : ℕ) (bytes : List ℕ) (told : ℕ × Bool) : Type 0 where
   pub sized : Grown grows bytes (λ later. Unit {0})
-  pub is : TellsLatch end sized.later told.1
+  pub is : FindsLatch end sized.later told.1
   pub before : List ℕ
   pub after : Later bytes before
   pub since : Later before sized.later
   pub long : told.0 ≡ length before
 
 -- whether it begins as a journal
-abbrev pub TellsStart : (List ℕ → Type 0) → (List ℕ → Type 0) → Result Bool JournalFault → Type 0
-TellsStart before after result = (bytes : List ℕ) → before bytes → Grown after bytes (λ later. IfOk result (λ begins. StartsAs begins later))
+abbrev pub FindsStart : (List ℕ → Type 0) → (List ℕ → Type 0) → Result Bool JournalFault → Type 0
+FindsStart before after result = (bytes : List ℕ) → before bytes → Grown after bytes (λ later. IfOk result (λ begins. StartsAs begins later))
 
 -- what is read of blocks, a closed latch and what is behind it
 abbrev pub ReadsBlocks : (List ℕ → Type 0) → (List ℕ → Type 0) → ℕ → ℕ → ℕ → List ℕ → Result ℕ JournalFault → Type 0
