@@ -15,7 +15,7 @@ use Rattle.tb_machine.specs.Histories.{State, start as start_state}
 use Rattle.tb_keep.specs.declared.faults.StartFault.{StartFault}
 use Rattle.tb_keep.specs.declared.faults.StartFault.TheVariants as start
 use Rattle.tb_keep.specs.Keeping.{head_record}
-use Rattle.tb_keep.specs.Recovering.{RecordsLead, StopsAt, RestoresRecord, RestoresAll, HeadAnswers, IsRestored, IsRestoredFrom, StopsBehindHead, StopsBeginning, StopsReading}
+use Rattle.tb_keep.specs.Recovering.{RecordsLead, StopsAt, AppliesRecord, AppliesRecords, HeadAnswers, IsRestored, IsRestoredFrom, StopsBehindHead, StopsBeginning, StopsReading}
 use Rattle.tb_keep.specs.declared.recovering.Rules.{Rules}
 use Rattle.tb_keep.specs.private.Entering.{StaysKept, EntersNext, EntersAll, FindsBehind}
 use Rattle.tb_keep.proofs.Opened.{Counts, untouched_then}
@@ -77,7 +77,7 @@ head_stops (start.TornTooLong at bytes) profile clients_max file head begins why
 
 -- the records behind it
 
-pub enters_not : (fault : StartFault) (read : List (List ℕ)) (file bytes : List ℕ) (after : ScanState) (S T : State) → BeginsWith (read ++ bytes ∷ []) file → RestoresRecord (Err fault) S bytes T
+pub enters_not : (fault : StartFault) (read : List (List ℕ)) (file bytes : List ℕ) (after : ScanState) (S T : State) → BeginsWith (read ++ bytes ∷ []) file → AppliesRecord (Err fault) S bytes T
     → EntersNext (Err fault) read file after S T
 enters_not fault read file bytes after S T begins stops = grind (arith, common_steps)
 
@@ -97,7 +97,7 @@ module _ (read records : List (List ℕ)) (file : List ℕ) (scan : ScanState) (
   entered_all (reads, has, to) = (records, reads, has, subst (λ (V : State). RecordsLead S records V) (sym to) leads)
 
   entered_not_more : (fault : StartFault) (bytes : List ℕ) → BeginsWith ((read ++ records) ++ bytes ∷ []) file → StopsAt fault T bytes
-      → (others : List (List ℕ)) × (V : State) × BeginsWith (read ++ others) file × RestoresAll (Err fault) S others V
+      → (others : List (List ℕ)) × (V : State) × BeginsWith (read ++ others) file × AppliesRecords (Err fault) S others V
   entered_not_more fault bytes begins stops = grind (arith, common_steps, append_assoc read records (bytes ∷ []))
 
   pub entered_not : (fault : StartFault) → EntersNext (Err fault) (read ++ records) file scan T U → EntersAll (Err fault) read file scan S U
@@ -134,11 +134,11 @@ module _ (rules : Rules) (file : List ℕ) (scan : ScanState) (S T : State) (emp
   abbrev head : List ℕ
   head = head_record rules.profile rules.clients_max
 
-  behind_stops : (fault : StartFault) (records : List (List ℕ)) (U : State) → BeginsWith (head ∷ records) file → RestoresAll (Err fault) S records U
+  behind_stops : (fault : StartFault) (records : List (List ℕ)) (U : State) → BeginsWith (head ∷ records) file → AppliesRecords (Err fault) S records U
       → BeginsWith (head ∷ []) file × StopsBeginning fault rules.profile rules.clients_max file
   behind_stops fault records U begins stops = (
     begins_shorter (head ∷ []) records file begins,
-    stops_with fault rules.profile rules.clients_max file head records begins (inr (refl, (U, subst (λ (V : State). RestoresAll (Err fault) V records U) empty stops))),
+    stops_with fault rules.profile rules.clients_max file head records begins (inr (refl, (U, subst (λ (V : State). AppliesRecords (Err fault) V records U) empty stops))),
   )
 
   pub behind_not : (fault : StartFault) → EntersAll (Err fault) (head ∷ []) file scan S T → FindsBehind (Err fault) rules file

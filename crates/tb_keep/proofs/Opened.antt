@@ -19,7 +19,7 @@ use Rattle.tb_keep.specs.declared.faults.StartFault.TheVariants as start
 use Rattle.tb_keep.specs.declared.creating.NotKept.{NotKept}
 use Rattle.tb_keep.specs.Keeping.{Keeping}
 use Rattle.tb_keep.specs.Recovering.{IsRestored, IsRestoredFrom, IsNotOfFile, IsTornTooLong, StopsOpening, AreAside, torn_bytes}
-use Rattle.tb_keep.specs.Creating.{OpensFile, StartsFile, IsOpened, IsStarted, IsUntouched, MayBeOpened, MayBeStarted, IsRefused, IsStartRefused}
+use Rattle.tb_keep.specs.Creating.{OpensFile, StartsFile, IsOpened, IsStarted, IsUntouched, MayBeOpened, MayBeStarted, IsOpenRefused, IsStartRefused}
 
 abbrev pub Counts : Disk → Type 0
 Counts disk = (t : ℕ) (c : List ℕ) → t ≤ disk.moment → disk.may_leave c → disk.left_since t c
@@ -38,7 +38,7 @@ module _ (profile : Profile) (clients_max : ℕ) (before mid after : Disk) (coun
       → StopsOpening fault profile clients_max before.seen × IsUntouched before after
   for_before fault is = (subst (λ (file : List ℕ). StopsOpening fault profile clients_max file) first.seen is.0, untouched_then before mid after counts first is.1)
 
-  still_refused : (fault : StartFault) → IsRefused profile clients_max fault mid after → IsRefused profile clients_max fault before after
+  still_refused : (fault : StartFault) → IsOpenRefused profile clients_max fault mid after → IsOpenRefused profile clients_max fault before after
   still_refused (start.Journal (open_faults.Device fault)) is = tt
   still_refused (start.Journal (open_faults.Refused why)) is = for_before (start.Journal (open_faults.Refused why)) is
   still_refused start.Head is = for_before start.Head is
@@ -48,7 +48,7 @@ module _ (profile : Profile) (clients_max : ℕ) (before mid after : Disk) (coun
   still_refused start.NoMemory is = for_before start.NoMemory is
   still_refused (start.TornTooLong at bytes) is = for_before (start.TornTooLong at bytes) is
 
-  refused_then : is_blank before.seen ≡ false → (fault : StartFault) → IsRefused profile clients_max fault mid after → IsStartRefused profile clients_max fault before after
+  refused_then : is_blank before.seen ≡ false → (fault : StartFault) → IsOpenRefused profile clients_max fault mid after → IsStartRefused profile clients_max fault before after
   refused_then some (start.Journal (open_faults.Device fault)) is = tt
   refused_then some (start.Journal (open_faults.Refused why)) is = (for_before (start.Journal (open_faults.Refused why)) is, some)
   refused_then some start.Head is = (for_before start.Head is, some)
@@ -60,14 +60,14 @@ module _ (profile : Profile) (clients_max : ℕ) (before mid after : Disk) (coun
 
 module _ {D : Type 0} (disk : D → Disk) (profile : Profile) (clients_max : ℕ) (before mid : Disk) where
   pub refused_at_last : (result : Result (Keeping D) (NotKept D)) → Counts mid → IsUntouched before mid → is_blank before.seen ≡ false
-      → IfErr result (λ failed. IsRefused profile clients_max failed.fault mid (disk failed.device))
+      → IfErr result (λ failed. IsOpenRefused profile clients_max failed.fault mid (disk failed.device))
       → IfErr result (λ failed. IsStartRefused profile clients_max failed.fault before (disk failed.device))
   refused_at_last (Ok keeper) counts first some is = tt
   refused_at_last (Err failed) counts first some is = refused_then profile clients_max before mid (disk failed.device) counts first some failed.fault is
 
   pub refused_still : (result : Result (Keeping D) (NotKept D)) → Counts mid → IsUntouched before mid
-      → IfErr result (λ failed. IsRefused profile clients_max failed.fault mid (disk failed.device))
-      → IfErr result (λ failed. IsRefused profile clients_max failed.fault before (disk failed.device))
+      → IfErr result (λ failed. IsOpenRefused profile clients_max failed.fault mid (disk failed.device))
+      → IfErr result (λ failed. IsOpenRefused profile clients_max failed.fault before (disk failed.device))
   refused_still (Ok keeper) counts first is = tt
   refused_still (Err failed) counts first is = still_refused profile clients_max before mid (disk failed.device) counts first failed.fault is
 

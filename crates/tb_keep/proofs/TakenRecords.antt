@@ -17,7 +17,7 @@ use Rattle.tb_keep.specs.declared.faults.StartFault.TheVariants as start
 use Rattle.tb_keep.specs.Keeping.{Keeping}
 use Rattle.tb_keep.specs.Recovering.{RecordsLead, IsTornTooLong, HasStartCause, IsStartCause, torn_bytes}
 use Rattle.tb_keep.specs.Salvaging.{StopsBehind, IsUnsalvaged, old_part}
-use Rattle.tb_keep.specs.private.Taking.{stop_of, of_old, StopsAfter, StopsBy, IsTornStop, IsOldDevice, Breaks, Queues, Taken, TakesAll, CommitsTaken, TakesRest}
+use Rattle.tb_keep.specs.private.Taking.{stop_of, of_old, StopsAfter, StopsBy, IsTornStop, IsOldDevice, FailsWriting, Queues, Taken, TakesAll, CommitsTaken, TakesRest}
 use Rattle.tb_keep.proofs.Causes.{has_start_then}
 use Rattle.tb_keep.proofs.Entered.{extent_found}
 use Rattle.tb_keep.proofs.Taking.{queues_then}
@@ -146,7 +146,7 @@ module _ {N : Type 0} (disk : N → Disk) (tells : Type 0) (holds later : List �
         all.here,
         all.middle,
         all.taken,
-        (f, refl, λ t. subst (λ (j : Kept N). Breaks disk f [] j after.journal) same_journal (breaks t)),
+        (f, refl, λ t. subst (λ (j : Kept N). FailsWriting disk f [] j after.journal) same_journal (breaks t)),
         λ file read of has. tt,
       )
 

@@ -21,7 +21,7 @@ use Rattle.tb_machine.proofs.JournalRecords.{one_record}
 use Rattle.tb_keep.specs.declared.faults.StartFault.{StartFault}
 use Rattle.tb_keep.specs.declared.faults.StartFault.TheVariants as start
 use Rattle.tb_keep.specs.Keeping.{History, head_record, records_of, IsKeepable, AreRecorded, IsLedger}
-use Rattle.tb_keep.specs.Recovering.{IsNoRecord, Fails, StopsAt, RestoresAll, HeadAnswers, StopsBehindHead, StopsBeginning, StopsOpening, torn_bytes, IsNotOfFile, OnlyMemory, FileOnlyMemory}
+use Rattle.tb_keep.specs.Recovering.{IsNoRecord, Fails, StopsAt, AppliesRecords, HeadAnswers, StopsBehindHead, StopsBeginning, StopsOpening, torn_bytes, IsNotOfFile, OnlyMemory, FileOnlyMemory}
 use Rattle.tb_keep.proofs.OneHistory.{one_head}
 use Rattle.tb_keep.proofs.WholeFiles.{whole_stops}
 
@@ -65,7 +65,7 @@ along fault S T front bytes rest (x ∷ xs) (b ∷ before) legal are is also spe
     let same : x ≡ b = one_record (dumped x) x b are.0 (subst (λ (y : List ℕ). IsRecord y b) (sym head) also.0) in
     along fault (step S x) T (map dumped before) bytes rest xs before legal.1 are.1 tail also.1 refl (at ∙ ap (λ (y : Entry). fold step (step S y) before) (sym same)) stops
 
-restored_not : (fault : StartFault) (S T : State) (es : List Entry) → LegalFrom S es → AreRecorded es → RestoresAll (Err fault) S (map dumped es) T → fault ≡ start.NoMemory
+restored_not : (fault : StartFault) (S T : State) (es : List Entry) → LegalFrom S es → AreRecorded es → AppliesRecords (Err fault) S (map dumped es) T → fault ≡ start.NoMemory
 restored_not fault S T es legal are (front, bytes, rest, is, leads, stops) =
     along fault S T front bytes rest es leads.entries legal are is leads.recorded_are leads.spelled leads.state stops
 
@@ -79,7 +79,7 @@ stopped_not fault h head rest keepable is (inl why) =
     head_not fault h keepable (subst (λ (b : List ℕ). HeadAnswers (Err fault) b h.profile h.clients_max) first why)
 stopped_not fault h head rest keepable is (inr (own, (T, why))) =
     let others : rest ≡ map dumped h.entries = sym (cc (is)) in
-    restored_not fault (start_state h.profile h.clients_max) T h.entries keepable.legal keepable.recorded_are (subst (λ (r : List (List ℕ)). RestoresAll (Err fault) (start_state h.profile h.clients_max) r T) others why)
+    restored_not fault (start_state h.profile h.clients_max) T h.entries keepable.legal keepable.recorded_are (subst (λ (r : List (List ℕ)). AppliesRecords (Err fault) (start_state h.profile h.clients_max) r T) others why)
 
 pub only_memory : OnlyMemory
 only_memory (start.Journal f) h keepable (head, rest, is, why) = stopped_not (start.Journal f) h head rest keepable is why

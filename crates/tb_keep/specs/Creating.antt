@@ -142,12 +142,12 @@ module _ (profile : Profile) (clients_max : ℕ) where
   -- why a file is not opened: it is no journal or is damaged, it begins with records of which the last is none of the next entry by
   -- these rules, or too much would have to be cut off. Then, and where there is no memory to restore it, it is as it was. Behind any
   -- other fault the device failed, or was full (IsStartCause)
-  abbrev pub IsRefused : StartFault → Disk → Disk → Type 0
-  IsRefused (start.Journal (open_faults.Device fault)) before after = Unit {0}
-  IsRefused fault before after = StopsOpening fault profile clients_max before.seen × IsUntouched before after
+  abbrev pub IsOpenRefused : StartFault → Disk → Disk → Type 0
+  IsOpenRefused (start.Journal (open_faults.Device fault)) before after = Unit {0}
+  IsOpenRefused fault before after = StopsOpening fault profile clients_max before.seen × IsUntouched before after
 
   -- the same of a start, which is never refused for what is in a blank file
   abbrev pub IsStartRefused : StartFault → Disk → Disk → Type 0
   IsStartRefused (start.Journal (open_faults.Device fault)) before after = Unit {0}
   IsStartRefused start.NoMemory before after = IsUntouched before after
-  IsStartRefused fault before after = IsRefused fault before after × (is_blank before.seen ≡ false)
+  IsStartRefused fault before after = IsOpenRefused fault before after × (is_blank before.seen ≡ false)

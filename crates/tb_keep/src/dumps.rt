@@ -12,7 +12,7 @@ ghost use Rattle.tb_keep.specs.private.Taking.{IsNotTaken};
 
 use crate::creating::torn_behind;
 use crate::faults::{DumpFault, SalvageFault, StartFault};
-use crate::recovering::{Rules, entered_behind, read_head, read_record};
+use crate::recovering::{Rules, replay_behind_head, read_head, read_record};
 use crate::rounds::BATCH_BYTES_MAX;
 use std::alloc::Global;
 use tb_journal::{Device, Extent, OpenFault, Scan};
@@ -109,7 +109,7 @@ fn history_behind<D: Device>(
     ensures cause { D.tells → HeadCause result rules scan.old (D.disk device.old) (D.disk device.new) }
 {
     let same = rules;
-    match entered_behind(global, global, same, scan, device) {
+    match replay_behind_head(global, global, same, scan, device) {
         Ok((machine, extent)) => history_of(rules, machine, extent, device),
         Err(fault) => Err(fault),
     }

@@ -40,6 +40,6 @@ pub use faults::{DumpFault, KeepFault, SalvageFault, StartFault};
 pub use keepers::Keeper;
 pub use quick::read_quick;
 pub use reading_on::{ReadOn, read_on};
-pub use recovering::{Rules, read_head, restored, write_head};
+pub use recovering::{Rules, read_head, replay_journal, write_head};
 pub use rounds::{BATCH_BYTES_MAX, HELD_BYTES_MAX, keep};
 pub use salvaging::{NotSalvaged, Salvaged, backup, salvage};

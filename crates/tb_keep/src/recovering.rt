@@ -2,11 +2,11 @@
 ghost use Rattle.std.specs.Prelude.{◌≡◌, ◌≤◌, ◌+◌, ℕ, true, List, [], Ok, IfOk, IfErr, OnOk};
 ghost use Rattle.tb_journal.specs.Scans.{GoesFurther, IsAt, ScanCause};
 ghost use Rattle.tb_machine.specs.Recording.{IsRecord};
-ghost use Rattle.tb_keep.specs.Recovering.{ReadsRecord, RestoresRecord, Restores, HasStartCause, HeadAnswers};
+ghost use Rattle.tb_keep.specs.Recovering.{ReadsRecord, AppliesRecord, ReplaysJournal, HasStartCause, HeadAnswers};
 ghost use Rattle.tb_keep.specs.Creating.{IsUntouched};
 ghost use Rattle.tb_keep.specs.Reading.{OfRead, NamesRules};
 ghost use Rattle.tb_keep.specs.private.Sources.{IsNext};
-ghost use Rattle.tb_keep.specs.private.Entering.{StaysKept, ReadCause, ReadsHead, EntersNext, EntersAll, FindsBehind, HeadCause, RestoresEmpty, OfBehind, RestoresBy, UnreadCause, head_of};
+ghost use Rattle.tb_keep.specs.private.Entering.{StaysKept, ReadCause, ReadsHead, EntersNext, EntersAll, FindsBehind, HeadCause, ReplaysEmpty, OfBehind, UnreadCause, head_of};
 ghost use Rattle.tb_keep.specs.Keeping.{head_record};
 ghost use Rattle.tb_journal.specs.Device.{KeepsRead, OfHeld};
 
@@ -17,7 +17,7 @@ use tb_machine::{Entry, Machine, Unfit, read_entry, restore};
 use tb_records::{ClientsMax, FrameFault, Profile};
 
 /// Reads the record that is behind the entries of a machine.
-fn read_next<A: Allocator + Clone>(
+fn entry_of_record<A: Allocator + Clone>(
     global: Global,
     machine: &Machine<A>,
     bytes: &[u8],
@@ -33,13 +33,13 @@ fn read_next<A: Allocator + Clone>(
 }
 
 /// Enters the next entry into a machine.
-fn restore_next<A: Allocator + Clone>(
+fn enter_entry<A: Allocator + Clone>(
     machine: &mut Machine<A>,
     bytes: &[u8],
     entry: Entry,
 ) -> Result<(), StartFault>
     requires { IsRecord bytes.now entry }
-    ensures { RestoresRecord result machine.old bytes.now machine.new }
+    ensures { AppliesRecord result machine.old bytes.now machine.new }
 {
     match restore(machine, entry) {
         Ok(()) => Ok(()),
@@ -51,15 +51,15 @@ fn restore_next<A: Allocator + Clone>(
 }
 
 /// Enters the entry of a record into a machine. On a fault the machine is as it was.
-pub(crate) fn restore_record<A: Allocator + Clone>(
+pub(crate) fn enter_record<A: Allocator + Clone>(
     global: Global,
     machine: &mut Machine<A>,
     bytes: &[u8],
 ) -> Result<(), StartFault>
-    ensures { RestoresRecord result machine.old bytes.now machine.new }
+    ensures { AppliesRecord result machine.old bytes.now machine.new }
 {
-    match read_next(global, machine, bytes) {
-        Ok(entry) => restore_next(machine, bytes, entry),
+    match entry_of_record(global, machine, bytes) {
+        Ok(entry) => enter_entry(machine, bytes, entry),
         Err(fault) => Err(fault),
     }
 }
@@ -78,7 +78,7 @@ pub(crate) fn read_record<D: Device>(scan: &mut Scan, device: &mut D) -> Result<
 }
 
 /// Reads the head of a file of which nothing was read, and answers whether there is one.
-fn read_first<D: Device>(scan: &mut Scan, device: &mut D, rules: Rules) -> Result<bool, StartFault>
+fn read_head_record<D: Device>(scan: &mut Scan, device: &mut D, rules: Rules) -> Result<bool, StartFault>
     ensures head { OfBehind (D.holds device.old) [] scan.old (ReadsHead result rules scan.new) }
     ensures same { (file : List ℕ) → D.holds device.old file → D.holds device.new file }
     ensures stays { D.tells → StaysKept (D.disk device.old) (D.disk device.new) }
@@ -109,7 +109,7 @@ fn enter_next<D: Device, A: Allocator + Clone>(
     ensures further { IfOk result (λ more. more ≡ true → GoesFurther scan.old scan.new) }
 {
     match read_record(scan, device) {
-        Ok(true) => match restore_record(global, machine, scan.record()) {
+        Ok(true) => match enter_record(global, machine, scan.record()) {
             Ok(()) => Ok(true),
             Err(fault) => Err(fault),
         },
@@ -142,7 +142,7 @@ fn enter_all<D: Device, A: Allocator + Clone>(
 }
 
 /// The machine after the entries of a file of these rules of which the head was read, and where its records end.
-pub(crate) fn entered_behind<D: Device, A: Allocator + Clone>(
+pub(crate) fn replay_behind_head<D: Device, A: Allocator + Clone>(
     global: Global,
     alloc: A,
     rules: Rules,
@@ -169,14 +169,14 @@ pub(crate) fn entered_behind<D: Device, A: Allocator + Clone>(
 }
 
 /// The machine of a file without records.
-fn without_entries<A: Allocator + Clone>(
+fn new_machine<A: Allocator + Clone>(
     global: Global,
     alloc: A,
     rules: Rules,
     extent: Extent,
 ) -> Result<(Machine<A>, Extent), StartFault>
     requires few { extent.count ≤ extent.end }
-    ensures found { (file : List ℕ) → RestoresEmpty result rules extent file }
+    ensures found { (file : List ℕ) → ReplaysEmpty result rules extent file }
     ensures fault { IfErr result (λ fault. fault ≡ StartFault.NoMemory) }
     ensures few { IfOk result (λ found. found.1.count ≤ found.1.end) }
 {
@@ -188,23 +188,23 @@ fn without_entries<A: Allocator + Clone>(
 }
 
 /// The machine after the entries of a file of which nothing was read.
-fn restored_by<D: Device, A: Allocator + Clone>(
+fn replay_records<D: Device, A: Allocator + Clone>(
     global: Global,
     alloc: A,
     rules: Rules,
     scan: &mut Scan,
     device: &mut D,
 ) -> Result<(Machine<A>, Extent), StartFault>
-    ensures found { OfBehind (D.holds device.old) [] scan.old (RestoresBy result rules) }
+    ensures found { OfBehind (D.holds device.old) [] scan.old (ReplaysJournal result rules.profile rules.clients_max) }
     ensures few { IfOk result (λ found. found.1.count ≤ found.1.end) }
     ensures same { (file : List ℕ) → D.holds device.old file → D.holds device.new file }
     ensures stays { D.tells → StaysKept (D.disk device.old) (D.disk device.new) }
     ensures cause { D.tells → UnreadCause result scan.old (D.disk device.old) (D.disk device.new) }
 {
     let same = rules;
-    match read_first(scan, device, same) {
-        Ok(true) => entered_behind(global, alloc, rules, scan, device),
-        Ok(false) => without_entries(global, alloc, rules, scan.extent()),
+    match read_head_record(scan, device, same) {
+        Ok(true) => replay_behind_head(global, alloc, rules, scan, device),
+        Ok(false) => new_machine(global, alloc, rules, scan.extent()),
         Err(fault) => Err(fault),
     }
 }
@@ -213,14 +213,14 @@ fn restored_by<D: Device, A: Allocator + Clone>(
 /// where its records end. The machine is that of the empty history where the file has no record. What was read is on the
 /// disk; nothing is written. The first record of the file that is damaged, or none of the next entry, is reported. The machine's records
 /// take their memory of `alloc`.
-pub fn restored<D: Device, A: Allocator + Clone>(
+pub fn replay_journal<D: Device, A: Allocator + Clone>(
     global: Global,
     alloc: A,
     rules: Rules,
     device: &mut D,
 ) -> Result<(Machine<A>, Extent), StartFault>
     // Of any device, by the file that its reads are of.
-    ensures found { OfHeld (D.holds device.old) (Restores result rules.profile rules.clients_max) }
+    ensures found { OfHeld (D.holds device.old) (ReplaysJournal result rules.profile rules.clients_max) }
     ensures few { IfOk result (λ found. found.1.count ≤ found.1.end) }
     // Where no sync has failed before.
     ensures kept { D.tells → KeepsRead result (D.disk device.old) (D.disk device.new) }
@@ -230,7 +230,7 @@ pub fn restored<D: Device, A: Allocator + Clone>(
     ensures cause { D.tells → HasStartCause result (D.disk device.old) (D.disk device.new) }
 {
     match Scan::start(global, device) {
-        Ok(mut scan) => restored_by(global, alloc, rules, &mut scan, device),
+        Ok(mut scan) => replay_records(global, alloc, rules, &mut scan, device),
         Err(fault) => Err(StartFault::Journal(fault)),
     }
 }

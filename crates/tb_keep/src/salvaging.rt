@@ -14,7 +14,7 @@ use crate::creating::{create, torn_behind};
 use crate::dumps::first_rules;
 use crate::faults::{SalvageFault, StartFault};
 use crate::keepers::Keeper;
-use crate::recovering::{Rules, read_record, restore_record};
+use crate::recovering::{Rules, read_record, enter_record};
 use crate::rounds::{BATCH_BYTES_MAX, BLOCK_BYTES_MAX};
 use std::alloc::Global;
 use tb_journal::{Device, Extent, Journal, JournalFault, OpenFault, Scan};
@@ -96,7 +96,7 @@ pub(crate) fn take_record<N: Device>(
     ensures takes { TakesRecord N.disk N.tells result bytes.now keeper.old keeper.new }
     ensures stays_used { StaysUsed keeper.old keeper.new }
 {
-    match restore_record(global, &mut keeper.machine, bytes) {
+    match enter_record(global, &mut keeper.machine, bytes) {
         Ok(()) => match append_short(&mut keeper.journal, bytes) {
             Ok(()) => Ok(()),
             Err(fault) => Err(new_fault(fault)),

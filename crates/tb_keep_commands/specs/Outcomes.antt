@@ -170,7 +170,7 @@ module _ {D : Type 0} (its : devices.Ghosts D) where
   -- the same of one over a file in which a ledger is to be: none is created
   pub record Takes (result : Result (Keeping D) (NotKept D)) (rules : Rules) (device : D) : Type 0 where
     pub answers : MatchResult result (λ keeper. (its.disk device).sound ≡ true → IsOpened its.disk rules.profile rules.clients_max (its.disk device).seen keeper)
-        (λ failed. kept.IsRefused rules.profile rules.clients_max failed.fault (its.disk device) (its.disk failed.device))
+        (λ failed. kept.IsOpenRefused rules.profile rules.clients_max failed.fault (its.disk device) (its.disk failed.device))
     pub cause : HasStartCause (why_left result) (its.disk device) (its.disk (device_left result))
     pub any_moment : (its.disk device).sound ≡ true → LeavesOnly (its.disk device) (its.disk (device_left result)) (MayBeOpened rules.profile rules.clients_max (its.disk device))
 

@@ -13,7 +13,7 @@ use Rattle.tb_journal.specs.Scans.{BeginsWith, HasRead, ScanState, ReadsNext, Is
 use Rattle.tb_journal.proofs.Causes.{none_since}
 use Rattle.tb_log.specs.Following.{Following, Item, Entry, Question, with_item, after_items, AllAnswered}
 use Rattle.tb_log.specs.Follows.{ItemFits}
-use Rattle.tb_keep.specs.private.Taking.{Puts, Queues, Breaks}
+use Rattle.tb_keep.specs.private.Taking.{Puts, Queues, FailsWriting}
 use Rattle.tb_keep.proofs.Entered.{Latest, extent_found}
 use Rattle.tb_keep.proofs.Taking.{queues_none, queues_then}
 use Rattle.tb_keep_log.specs.declared.checking.Reached.{Reached}
@@ -25,7 +25,7 @@ use Rattle.tb_keep_log.specs.Checking.{IsTornStop}
 use Rattle.tb_keep_log.specs.Copying.{StopsBehind, IsUncopied, old_part}
 use Rattle.tb_keep_log.specs.Keeping.{Leads, records_from}
 use Rattle.tb_keep_log.specs.Rereading.{HasLogCause, IsLogCause, StopsAt}
-use Rattle.tb_keep_log.specs.private.CopySteps.{stop_of, of_old, StopsAfter, StopsBy, Unwritten, TakesRecord, Taken, Ends, TakesNext, TakesAll, TakesWhole, IsUntaken, TakesPart}
+use Rattle.tb_keep_log.specs.private.CopySteps.{stop_of, of_old, StopsAfter, StopsBy, Unwritten, TakesRecord, Taken, EndsCopy, TakesNext, TakesAll, TakesWhole, IsUntaken, TakesPart}
 use Rattle.tb_keep_log.proofs.Entering.{has_log_then, record_cause}
 use Rattle.tb_keep_log.proofs.Leading.{leads_none, leads_one, leads_then}
 
@@ -144,8 +144,8 @@ module _ (tells : Type 0) {N : Type 0} (disk : N → Disk) (profile : Profile) (
     }),
   )
 
-  pub ends_by : (result : Result (Unit {0}) CopyLogFault) (here : ScanState) (F : Following) (mid after : Kept N) → Ends tells disk profile clients_max later result here F mid after
-      → Ends tells disk profile clients_max holds result here F mid after
+  pub ends_by : (result : Result (Unit {0}) CopyLogFault) (here : ScanState) (F : Following) (mid after : Kept N) → EndsCopy tells disk profile clients_max later result here F mid after
+      → EndsCopy tells disk profile clients_max holds result here F mid after
   ends_by (Ok done) here F mid after ends = (ends.0, λ file read of has. ends.1 file read (same file of) has)
   ends_by (Err (Old fault)) here F mid after ends = (ends.0, λ file read of has. ends.1 file read (same file of) has)
   ends_by (Err (New fault)) here F mid after ends = ends
@@ -275,7 +275,7 @@ module _ (tells : Type 0) {N : Type 0} (disk : N → Disk) (profile : Profile) (
         last = all.last;
         middle = all.middle;
         taken = all.taken;
-        untaken = record { own = f; named = refl; breaks = λ t. subst (λ (j : Kept N). Breaks disk f [] j after) is (breaks t) };
+        untaken = record { own = f; named = refl; breaks = λ t. subst (λ (j : Kept N). FailsWriting disk f [] j after) is (breaks t) };
         uncopied = λ file read of has. tt;
       })
 

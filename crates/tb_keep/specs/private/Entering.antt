@@ -10,7 +10,7 @@ use Rattle.tb_keep.specs.declared.faults.StartFault.{StartFault}
 use Rattle.tb_keep.specs.declared.faults.StartFault.TheVariants as start
 use Rattle.tb_keep.specs.declared.recovering.Rules.{Rules}
 use Rattle.tb_keep.specs.Keeping.{head_record}
-use Rattle.tb_keep.specs.Recovering.{RecordsLead, StopsAt, RestoresRecord, RestoresAll, StopsReading, HasStartCause, Restores}
+use Rattle.tb_keep.specs.Recovering.{RecordsLead, StopsAt, AppliesRecord, AppliesRecords, StopsReading, HasStartCause, ReplaysJournal}
 use Rattle.tb_keep.specs.Creating.{IsUntouched}
 use Rattle.tb_keep.specs.Reading.{HasRules, RulesAnswer}
 use Rattle.tb_journal.specs.Reading.{extent_of}
@@ -45,10 +45,6 @@ OfBehind holds records scan Says = (file : List ℕ) → holds file → HasRead 
 abbrev pub OfExtent : (List ℕ → Type 0) → Extent → (List ℕ → Type 0) → Type 0
 OfExtent holds extent Says = (file : List ℕ) → holds file → extent_of (contents file) ≡ Ok extent → Says file
 
--- the machine after the entries of a file of these rules, or why not
-abbrev pub RestoresBy : Result (State × Extent) StartFault → Rules → List ℕ → Type 0
-RestoresBy result rules file = Restores result rules.profile rules.clients_max file
-
 -- the head was read, or there is none
 abbrev pub ReadsHead : Result Bool StartFault → Rules → ScanState → List ℕ → Type 0
 ReadsHead (Ok true) rules after file = HasRead (head_of rules) file after
@@ -57,7 +53,7 @@ ReadsHead (Err fault) rules after file = StopsReading fault rules.profile rules.
 
 -- behind the records that were read one more was read and entered, or there is none
 abbrev pub EntersNext : Result Bool StartFault → List (List ℕ) → List ℕ → ScanState → State → State → Type 0
-EntersNext (Ok true) read file after S T = (bytes : List ℕ) × HasRead (read ++ bytes ∷ []) file after × RestoresRecord (Ok tt) S bytes T
+EntersNext (Ok true) read file after S T = (bytes : List ℕ) × HasRead (read ++ bytes ∷ []) file after × AppliesRecord (Ok tt) S bytes T
 EntersNext (Ok false) read file after S T = (contents file ≡ Records read) × HasRead read file after × (T ≡ S)
 EntersNext (Err (start.Journal fault)) read file after S T = RefusesFile fault file × BeginsWith read file
 EntersNext (Err fault) read file after S T = (bytes : List ℕ) × BeginsWith (read ++ bytes ∷ []) file × StopsAt fault S bytes
@@ -68,11 +64,11 @@ EntersAll (Ok done) read file after S T =
     (records : List (List ℕ)) × (contents file ≡ Records (read ++ records)) × HasRead (read ++ records) file after × RecordsLead S records T
 EntersAll (Err (start.Journal fault)) read file after S T = RefusesFile fault file × BeginsWith read file
 EntersAll (Err fault) read file after S T =
-    (records : List (List ℕ)) × (U : State) × BeginsWith (read ++ records) file × RestoresAll (Err fault) S records U
+    (records : List (List ℕ)) × (U : State) × BeginsWith (read ++ records) file × AppliesRecords (Err fault) S records U
 
 -- the machine after the records behind the head of a file of these rules
 abbrev pub FindsBehind : Result (State × Extent) StartFault → Rules → List ℕ → Type 0
-FindsBehind result rules file = HasRules rules file × RestoresBy result rules file
+FindsBehind result rules file = HasRules rules file × ReplaysJournal result rules.profile rules.clients_max file
 
 -- the head was read, and names rules
 abbrev pub FindsRules : Result Rules StartFault → ScanState → List ℕ → Type 0
@@ -80,6 +76,6 @@ FindsRules (Ok rules) after file = HasRead (head_of rules) file after
 FindsRules (Err fault) after file = RulesAnswer (Err fault) file
 
 -- a file without records has a new machine
-abbrev pub RestoresEmpty : Result (State × Extent) StartFault → Rules → Extent → List ℕ → Type 0
-RestoresEmpty result rules extent file =
-    contents file ≡ Records [] → BeginsWith [] file → extent_of (contents file) ≡ Ok extent → RestoresBy result rules file
+abbrev pub ReplaysEmpty : Result (State × Extent) StartFault → Rules → Extent → List ℕ → Type 0
+ReplaysEmpty result rules extent file =
+    contents file ≡ Records [] → BeginsWith [] file → extent_of (contents file) ≡ Ok extent → ReplaysJournal result rules.profile rules.clients_max file

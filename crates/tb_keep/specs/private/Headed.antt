@@ -67,13 +67,9 @@ IsEmpty disk journal = IsOver disk [] journal × (journal.waiting ≡ [])
 abbrev pub WasRead : {D : Type 0} → (D → Disk) → D → Extent → Type 0
 WasRead disk device extent = ((disk device).sound ≡ true → IsOnDisk (disk device)) × (extent_of (contents (disk device).seen) ≡ Ok extent)
 
--- the machine was restored from a file of these rules, whose records end there
-abbrev pub IsRestoredBy : Rules → List ℕ → State → Extent → Type 0
-IsRestoredBy rules file S extent = IsRestoredFrom rules.profile rules.clients_max file S extent
-
--- the same of a file that was read; where no sync has failed before, what was read is durable
+-- the machine was restored from a file of these rules, whose records end there; where no sync has failed before, what was read is durable
 abbrev pub WasRestored : {D : Type 0} → (D → Disk) → Rules → D → State → Extent → Type 0
-WasRestored disk rules device S extent = ((disk device).sound ≡ true → IsOnDisk (disk device)) × IsRestoredBy rules (disk device).seen S extent
+WasRestored disk rules device S extent = ((disk device).sound ≡ true → IsOnDisk (disk device)) × IsRestoredFrom rules.profile rules.clients_max (disk device).seen S extent
 
 -- the keeper may serve: no call of it has failed, and where no sync has, its journal is ready
 abbrev pub MayServe : {D : Type 0} → Type 0 → (D → Disk) → D → Result (Keeping D) (NotKept D) → Type 0
@@ -86,7 +82,7 @@ IsOf S cut keeper = (keeper.state ≡ S) × (keeper.cut ≡ cut)
 -- a file of which this machine was restored is opened by it, or it is reported why not
 abbrev pub OpensRestored : {D : Type 0} → Result (Keeping D) (NotKept D) → Rules → State → Extent → List ℕ → Type 0
 OpensRestored result rules S extent file =
-    IsRestoredBy rules file S extent → OpensFile result rules.profile rules.clients_max file
+    IsRestoredFrom rules.profile rules.clients_max file S extent → OpensFile result rules.profile rules.clients_max file
 
 -- while a head is written to a journal that is ready, a crash at any moment leaves no record, or this head and nothing behind it
 abbrev pub HeadLeaves : {D : Type 0} → (D → Disk) → Rules → Kept D → D → Type 0

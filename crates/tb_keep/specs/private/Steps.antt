@@ -94,9 +94,9 @@ pub record Ceases {D : Type 0} (answer : Result (Option (ℕ × Message)) FrameF
   pub holds : grown ≡ held
 
 -- whether there was one
-abbrev pub GoesOn : {D : Type 0} → Bool → Keeping D → Keeping D → Input → Input → List ℕ → List ℕ → Type 0
-GoesOn true before after first last held grown = Next (Ok tt) before after first last held grown
-GoesOn false before after first last held grown = Ceases (Ok None) before after first last held grown
+abbrev pub MayBeNext : {D : Type 0} → Bool → Keeping D → Keeping D → Input → Input → List ℕ → List ℕ → Type 0
+MayBeNext true before after first last held grown = Next (Ok tt) before after first last held grown
+MayBeNext false before after first last held grown = Ceases (Ok None) before after first last held grown
 
 -- the bytes were sent and nothing is held any more, or the device failed and left a prefix of them
 abbrev pub HandsOut : Result (Unit {0}) KeepFault → List ℕ → List ℕ → Output → Output → Type 0
@@ -143,7 +143,7 @@ module _ (tells : Type 0) {D : Type 0} (disk : D → Disk) where
       ⊎ ((stop : KeepFault) × IsStop stop before.state first last × EndsReplying stop f before after held left start written)
 
   abbrev pub KeepsNext : Result Bool KeepFault → Keeping D → Keeping D → Input → Input → List ℕ → List ℕ → Output → Output → Type 0
-  KeepsNext (Ok more) before after first last held left start written = GoesOn more before after first last held left × (written ≡ start)
+  KeepsNext (Ok more) before after first last held left start written = MayBeNext more before after first last held left × (written ≡ start)
   KeepsNext (Err f) before after first last held left start written = EndsNext f before after first last held left start written
 
 -- the same of replies that are held, and of a reader and a writer

@@ -14,7 +14,7 @@ use Rattle.tb_keep.specs.declared.faults.StartFault.{StartFault}
 use Rattle.tb_keep.specs.declared.faults.StartFault.TheVariants as start
 use Rattle.tb_keep.specs.declared.recovering.Rules.{Rules}
 use Rattle.tb_keep.specs.Keeping.{Keeping}
-use Rattle.tb_keep.specs.Recovering.{RecordsLead, RestoresRecord, IsTornTooLong, torn_bytes}
+use Rattle.tb_keep.specs.Recovering.{RecordsLead, AppliesRecord, IsTornTooLong, torn_bytes}
 use Rattle.tb_keep.specs.Salvaging.{StopsBehind, IsUnsalvaged, IsWriteCause, old_part, new_part}
 use Rattle.tb_keep.specs.private.Entering.{head_of, OfExtent}
 
@@ -100,7 +100,7 @@ module _ {N : Type 0} (disk : N → Disk) where
     pub any_moment : LeavesOnly (disk before.device) (disk after.device) (IsBetween (recorded (disk before.device).seen) (line before ++ records))
 
   -- or a call has failed meanwhile, or there is no memory
-  pub record Breaks (fault : JournalFault) (records : List (List ℕ)) (before after : Kept N) : Type 0 where
+  pub record FailsWriting (fault : JournalFault) (records : List (List ℕ)) (before after : Kept N) : Type 0 where
     pub cause : IsWriteCause (disk before.device) (disk after.device) fault
     pub any_moment : LeavesOnly (disk before.device) (disk after.device) (IsBetween (recorded (disk before.device).seen) (line before ++ records))
 
@@ -108,26 +108,26 @@ module _ {N : Type 0} (disk : N → Disk) where
     -- these records wait, or were committed; or the journal was not written to
     abbrev pub Puts : Result (Unit {0}) JournalFault → List (List ℕ) → Kept N → Kept N → Type 0
     Puts (Ok done) records before after = (after.usable ≡ true) × (tells → Queues records before after)
-    Puts (Err fault) records before after = tells → Breaks fault [] before after
+    Puts (Err fault) records before after = tells → FailsWriting fault [] before after
 
     -- or the record is none of the next entry, and all is as it was
     abbrev pub TakesRecord : Result (Unit {0}) SalvageFault → List ℕ → Keeping N → Keeping N → Type 0
     TakesRecord (Ok done) bytes before after =
-        RestoresRecord (Ok tt) before.state bytes after.state × (after.journal.usable ≡ true) × (tells → Queues (bytes ∷ []) before.journal after.journal)
-    TakesRecord (Err (Old fault)) bytes before after = RestoresRecord (Err fault) before.state bytes after.state × (after.journal ≡ before.journal)
+        AppliesRecord (Ok tt) before.state bytes after.state × (after.journal.usable ≡ true) × (tells → Queues (bytes ∷ []) before.journal after.journal)
+    TakesRecord (Err (Old fault)) bytes before after = AppliesRecord (Err fault) before.state bytes after.state × (after.journal ≡ before.journal)
     TakesRecord (Err (New fault)) bytes before after =
-        (f : JournalFault) × (fault ≡ start.Journal (open_faults.Device f)) × (tells → Breaks f [] before.journal after.journal)
+        (f : JournalFault) × (fault ≡ start.Journal (open_faults.Device f)) × (tells → FailsWriting f [] before.journal after.journal)
 
     -- what waited was committed
     abbrev pub CommitsTaken : Result (Unit {0}) SalvageFault → Keeping N → Keeping N → Type 0
     CommitsTaken (Ok done) before after =
         (after.state ≡ before.state) × (after.journal.usable ≡ true) × (after.journal.waiting ≡ []) × (tells → Queues [] before.journal after.journal)
-    CommitsTaken (Err fault) before after = (f : JournalFault) × (fault ≡ by_device f) × (tells → Breaks f [] before.journal after.journal)
+    CommitsTaken (Err fault) before after = (f : JournalFault) × (fault ≡ by_device f) × (tells → FailsWriting f [] before.journal after.journal)
 
     -- no more is written, or the new file is the reason
     abbrev pub IsUntaken : SalvageFault → Keeping N → Keeping N → Type 0
     IsUntaken (Old fault) before after = after.journal ≡ before.journal
-    IsUntaken (New fault) before after = (f : JournalFault) × (fault ≡ start.Journal (open_faults.Device f)) × (tells → Breaks f [] before.journal after.journal)
+    IsUntaken (New fault) before after = (f : JournalFault) × (fault ≡ start.Journal (open_faults.Device f)) × (tells → FailsWriting f [] before.journal after.journal)
 
     module _ (holds : List ℕ → Type 0) where
       -- these records were taken over, and a scan is behind them that was at a place before
@@ -139,19 +139,19 @@ module _ {N : Type 0} (disk : N → Disk) where
 
       -- no more were taken behind that place: the file ends there; or it is the reason, or its device or memory, and all is as it was; or the
       -- new file is the reason
-      abbrev pub Ends : Result (Unit {0}) SalvageFault → ScanState → Keeping N → Keeping N → Type 0
-      Ends (Ok done) here before after =
+      abbrev pub EndsTaking : Result (Unit {0}) SalvageFault → ScanState → Keeping N → Keeping N → Type 0
+      EndsTaking (Ok done) here before after =
           (after ≡ before) × ((file : List ℕ) (read : List (List ℕ)) → holds file → HasRead read file here → contents file ≡ Records read)
-      Ends (Err (Old fault)) here before after =
+      EndsTaking (Err (Old fault)) here before after =
           (after.state ≡ before.state) × (after.journal ≡ before.journal)
           × ((file : List ℕ) (read : List (List ℕ)) → holds file → HasRead read file here → StopsAfter fault read before.state file)
-      Ends (Err (New fault)) here before after =
-          (f : JournalFault) × (fault ≡ start.Journal (open_faults.Device f)) × (tells → Breaks f [] before.journal after.journal)
+      EndsTaking (Err (New fault)) here before after =
+          (f : JournalFault) × (fault ≡ start.Journal (open_faults.Device f)) × (tells → FailsWriting f [] before.journal after.journal)
 
       abbrev pub TakesNext : Result Bool SalvageFault → ScanState → ScanState → Keeping N → Keeping N → Type 0
       TakesNext (Ok true) first last before after = (bytes : List ℕ) × Taken (bytes ∷ []) first last before after
-      TakesNext (Ok false) first last before after = Ends (Ok tt) first before after
-      TakesNext (Err fault) first last before after = Ends (Err fault) first before after
+      TakesNext (Ok false) first last before after = EndsTaking (Ok tt) first before after
+      TakesNext (Err fault) first last before after = EndsTaking (Err fault) first before after
 
       -- all records up to a place were taken over, and no more
       pub record TakesAll (extent : Extent) (result : Result (Unit {0}) SalvageFault) (first : ScanState) (before after : Keeping N) : Type 0 where
@@ -161,7 +161,7 @@ module _ {N : Type 0} (disk : N → Disk) where
         pub taken : Taken records first here before middle
         pub end : extent.end ≡ here.end
         pub count : extent.count ≡ here.count
-        pub ends : Ends result here middle after
+        pub ends : EndsTaking result here middle after
 
       -- and they were committed; or not, where the old file is not read on for a reason that is not its own, or the new one was not written
       abbrev pub TakesRest : Result (Extent × Option StartFault) SalvageFault → ScanState → Keeping N → Keeping N → Type 0

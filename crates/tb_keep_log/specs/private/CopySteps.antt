@@ -12,7 +12,7 @@ use Rattle.tb_journal.specs.Scans.{HasRead, ScanState}
 use Rattle.tb_log.specs.Following.{Following}
 use Rattle.tb_keep.specs.Salvaging.{IsWriteCause}
 use Rattle.tb_keep.specs.private.Entering.{OfExtent}
-use Rattle.tb_keep.specs.private.Taking.{Breaks, Queues}
+use Rattle.tb_keep.specs.private.Taking.{FailsWriting, Queues}
 use Rattle.tb_keep_log.specs.declared.checking.Reached.{Reached}
 use Rattle.tb_keep_log.specs.declared.faults.CopyLogFault.{CopyLogFault}
 use Rattle.tb_keep_log.specs.declared.faults.CopyLogFault.TheVariants.{Old, New}
@@ -101,7 +101,7 @@ module _ (tells : Type 0) {N : Type 0} (disk : N → Disk) where
   pub record Unwritten (fault : CopyLogFault) (before after : Kept N) : Type 0 where
     pub own : JournalFault
     pub named : fault ≡ New (open_faults.Device own)
-    pub breaks : tells → Breaks disk own [] before after
+    pub breaks : tells → FailsWriting disk own [] before after
 
   module _ (profile : Profile) (clients_max : ℕ) where
     -- a record is that of the next entry, and waits or was committed; or it is not, and nothing was written
@@ -120,18 +120,18 @@ module _ (tells : Type 0) {N : Type 0} (disk : N → Disk) where
         pub read : (file : List ℕ) (read : List (List ℕ)) → holds file → HasRead read file first → HasRead (read ++ records) file here
 
       -- no more were taken behind that place: the file ends there; or it is the reason, or its device or memory; or the new file is
-      abbrev pub Ends : Result (Unit {0}) CopyLogFault → ScanState → Following → Kept N → Kept N → Type 0
-      Ends (Ok done) here F before after =
+      abbrev pub EndsCopy : Result (Unit {0}) CopyLogFault → ScanState → Following → Kept N → Kept N → Type 0
+      EndsCopy (Ok done) here F before after =
           (after ≡ before) × ((file : List ℕ) (read : List (List ℕ)) → holds file → HasRead read file here → contents file ≡ Records read)
-      Ends (Err (Old fault)) here F before after =
+      EndsCopy (Err (Old fault)) here F before after =
           (after ≡ before)
           × ((file : List ℕ) (read : List (List ℕ)) → holds file → HasRead read file here → StopsAfter fault profile clients_max read F file)
-      Ends (Err (New fault)) here F before after = Unwritten (New fault) before after
+      EndsCopy (Err (New fault)) here F before after = Unwritten (New fault) before after
 
       abbrev pub TakesNext : Result Bool CopyLogFault → ScanState → ScanState → Following → Following → Kept N → Kept N → Type 0
       TakesNext (Ok true) first last F G before after = (bytes : List ℕ) × Taken (bytes ∷ []) first last F G before after
-      TakesNext (Ok false) first last F G before after = Ends (Ok tt) first F before after
-      TakesNext (Err fault) first last F G before after = Ends (Err fault) first F before after
+      TakesNext (Ok false) first last F G before after = EndsCopy (Ok tt) first F before after
+      TakesNext (Err fault) first last F G before after = EndsCopy (Err fault) first F before after
 
       -- all records up to a place were taken over, and no more
       pub record TakesAll (reached : Reached) (result : Result (Unit {0}) CopyLogFault) (first : ScanState) (F : Following) (before after : Kept N) : Type 0 where
@@ -143,7 +143,7 @@ module _ (tells : Type 0) {N : Type 0} (disk : N → Disk) where
         pub reached_is : reached ≡ reached_by last reached.extent
         pub end : reached.extent.end ≡ here.end
         pub count : reached.extent.count ≡ here.count
-        pub ends : Ends result here last middle after
+        pub ends : EndsCopy result here last middle after
 
       -- and they were committed
       pub record TakesWhole (reached : Reached) (stop : Option LogStartFault) (first : ScanState) (F : Following) (before after : Kept N) : Type 0 where

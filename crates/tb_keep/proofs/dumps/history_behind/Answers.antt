@@ -15,11 +15,11 @@ returns-in-Err-clause-found g c file holds has =
 
 pub returns-in-Ok-clause-stays : goal.returns-in-Ok-clause-stays
 returns-in-Ok-clause-stays g c t =
-    stays_then (g.D.Device.disk c.args.device.now) (g.D.Device.disk c.entered_behind.new.device) (g.D.Device.disk c.history_of.new.device) (g.met.D.Device.counts_now c.entered_behind.new.device)
-    (c.entered_behind.ensures.stays t) (c.history_of.ensures.stays t)
+    stays_then (g.D.Device.disk c.args.device.now) (g.D.Device.disk c.replay_behind_head.new.device) (g.D.Device.disk c.history_of.new.device) (g.met.D.Device.counts_now c.replay_behind_head.new.device)
+    (c.replay_behind_head.ensures.stays t) (c.history_of.ensures.stays t)
 
 pub returns-in-Ok-clause-cause : goal.returns-in-Ok-clause-cause
 returns-in-Ok-clause-cause g c t has =
     let old = g.D.Device.disk c.args.device.now in
-    let mid = g.D.Device.disk c.entered_behind.new.device in
-    has_start_then old mid (g.D.Device.disk c.history_of.new.device) (c.in-Ok.ensures.cause t has).ok (c.entered_behind.ensures.stays t).untouched.seen c.history_of.result (c.history_of.ensures.cause t)
+    let mid = g.D.Device.disk c.replay_behind_head.new.device in
+    has_start_then old mid (g.D.Device.disk c.history_of.new.device) (c.in-Ok.ensures.cause t has).ok (c.replay_behind_head.ensures.stays t).untouched.seen c.history_of.result (c.history_of.ensures.cause t)

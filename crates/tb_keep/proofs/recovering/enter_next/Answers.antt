@@ -13,12 +13,12 @@ returns-in-Ok-clause-enters g c file read holds has =
     let next = (rw c.in-Ok-true.field-0-test at c.in-Ok-true.ensures.reads) file read holds has in
     (c.read_record.new.scan.last, next.reads, rw c.record.ensures at c.in-Ok.ensures)
 
-pub returns-in-Err-restore_record-clause-enters : goal.returns-in-Err-restore_record-clause-enters
-returns-in-Err-restore_record-clause-enters g c file read holds has =
+pub returns-in-Err-enter_record-clause-enters : goal.returns-in-Err-enter_record-clause-enters
+returns-in-Err-enter_record-clause-enters g c file read holds has =
     let new = c.read_record.new.scan in
     let next = (rw c.in-Ok-true.field-0-test at c.in-Ok-true.ensures.reads) file read holds has in
-    enters_not c.in-Err-restore_record.fault read file new.last new c.args.machine.now c.restore_record.new.machine next.reads.begins
-    (rw c.record.ensures at c.in-Err-restore_record.ensures)
+    enters_not c.in-Err-enter_record.fault read file new.last new c.args.machine.now c.enter_record.new.machine next.reads.begins
+    (rw c.record.ensures at c.in-Err-enter_record.ensures)
 
 pub returns-in-Err-clause-enters : goal.returns-in-Err-clause-enters
 returns-in-Err-clause-enters g c file read holds has =

@@ -1,6 +1,6 @@
 use Rattle.std.proofs.Common.{arith, refl}
 use Rattle.tb_keep.proofs.Opened.{opens_file, too_long, were_aside}
-use Rattle.tb_keep.proofs.creating.open_short.Goals as goal
+use Rattle.tb_keep.proofs.creating.open_unless_torn_long.Goals as goal
 
 pub returns-then-torn-clause-refused : goal.returns-then-torn-clause-refused
 returns-then-torn-clause-refused g c t =
@@ -19,9 +19,9 @@ returns-then-torn-clause-handed g c file holds found =
 pub returns-else-torn-clause-handed : goal.returns-else-torn-clause-handed
 returns-else-torn-clause-handed g c file holds found =
     opens_file c.args.rules.profile c.args.rules.clients_max file c.args.machine c.args.extent c.in-Ok.torn found
-    (c.in-Ok.ensures.torn file holds found.extent_is) (omega arith) c.open_restored.result c.open_restored.ensures.any_device
+    (c.in-Ok.ensures.torn file holds found.extent_is) (omega arith) c.open_keeper.result c.open_keeper.ensures.any_device
 
 pub returns-else-torn-clause-aside : goal.returns-else-torn-clause-aside
 returns-else-torn-clause-aside g c file holds read =
     were_aside g.D.Device.aside file c.args.machine c.args.extent c.in-Ok.torn read (c.in-Ok.ensures.torn file holds read)
-    c.open_restored.result c.open_restored.ensures.any_device (c.open_restored.ensures.aside file (c.in-Ok.ensures.same file holds))
+    c.open_keeper.result c.open_keeper.ensures.any_device (c.open_keeper.ensures.aside file (c.in-Ok.ensures.same file holds))

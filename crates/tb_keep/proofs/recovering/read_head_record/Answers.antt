@@ -2,7 +2,7 @@ use Rattle.std.proofs.Common.{[], sym, ◌∙◌}
 use Rattle.tb_keep.proofs.Causes.{head_cause}
 use Rattle.tb_keep.proofs.Sources.{stops_by_read}
 use Rattle.tb_keep.proofs.Entered.{head_read, head_stops}
-use Rattle.tb_keep.proofs.recovering.read_first.Goals as goal
+use Rattle.tb_keep.proofs.recovering.read_head_record.Goals as goal
 
 pub returns-in-Ok-clause-head : goal.returns-in-Ok-clause-head
 returns-in-Ok-clause-head g c file holds has =
