@@ -163,8 +163,9 @@ pub fn create<D: Device>(alloc: Global, device: D) -> Result<Journal<D>, NotOpen
     }
 }
 
-// Says whether a file is blank. One that is longer than the first bytes is not, and is not read.
-fn finds_blank<D: Device>(device: &mut D) -> Result<bool, JournalFault>
+/// Says whether a file is blank: empty, or such as a crash leaves of a creation. One that is longer than the first bytes
+/// is not, and is not read.
+pub fn finds_blank<D: Device>(device: &mut D) -> Result<bool, JournalFault>
     ensures found { OfHeld (D.holds device.old) (λ file. IfOk result (λ found. found ≡ is_blank file)) }
     ensures same { (file : List ℕ) → D.holds device.old file → D.holds device.new file }
     ensures other { IfErr result (λ fault. fault ≡ JournalFault.NotEmpty → ⊥) }

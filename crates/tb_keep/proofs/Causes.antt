@@ -1,14 +1,15 @@
 -- The cause of a fault, where no call failed before.
-use Rattle.std.proofs.Common.{arith, ◌≡◌, ◌⊎◌, inl, inr, ℕ, List, true, Result, Ok, Err, IfErr, refl, sym, subst}
+use Rattle.std.proofs.Common.{arith, ◌≡◌, ◌⊎◌, inl, inr, ℕ, List, true, Result, Ok, Err, IfErr, refl, sym, ◌∙◌, subst}
 use Rattle.std.proofs.lemmas.Grind.{common_steps}
+use Rattle.std.proofs.lemmas.Bool.{false≢true}
 use Rattle.tb_journal.specs.declared.faults.JournalFault.{JournalFault}
 use Rattle.tb_journal.specs.declared.faults.JournalFault.TheVariants as faults
 use Rattle.tb_journal.specs.declared.opening.OpenFault.{OpenFault}
 use Rattle.tb_journal.specs.declared.opening.OpenFault.TheVariants as open_faults
 use Rattle.tb_journal.specs.Device.{Disk, FailsNone, IsCause, IsOfCall, IsOfSync}
-use Rattle.tb_journal.specs.Creating.{is_blank, IsCreateCause}
+use Rattle.tb_journal.specs.Creating.{is_blank, IsCreateCause, IsOwnCreateCause}
 use Rattle.tb_journal.specs.Opening.{IsOpenCause}
-use Rattle.tb_journal.proofs.Causes.{none_since, cause_since, has_open_cause_since}
+use Rattle.tb_journal.proofs.Causes.{none_since, failed_since, cause_since, has_open_cause_since}
 use Rattle.tb_records.specs.declared.limits.Profile.{Profile}
 use Rattle.tb_keep.specs.declared.faults.StartFault.{StartFault}
 use Rattle.tb_keep.specs.declared.faults.StartFault.TheVariants as start
@@ -104,14 +105,16 @@ module _ (before mid after : Disk) (first : FailsNone before mid) where
     has_create_of_device {T} (Ok value) has = record { ok = none_since before mid after first has.ok; cause = tt }
     has_create_of_device {T} (Err fault) has = record { ok = tt; cause = create_of_device fault has.cause }
 
--- a start: where something is in the file no call failed
+-- a start
 
-pub not_empty_none : (before after : Disk) → IsCreateStartCause before after (start.Journal (open_faults.Device faults.NotEmpty)) → FailsNone before after
-not_empty_none before after (inl failed) = absurd (other failed.named)
+-- in a file that is blank a creation is never refused for what is there
+not_empty : (before after : Disk) → is_blank before.seen ≡ true → IsCreateStartCause before after (start.Journal (open_faults.Device faults.NotEmpty)) → ⊥
+not_empty before after blank (inl failed) = absurd (other failed.named)
   where
     other : IsOfCall faults.NotEmpty ⊎ IsOfSync faults.NotEmpty → ⊥
     other named = grind (arith, common_steps)
-not_empty_none before after (inr (own, none)) = none
+not_empty before after blank (inr (inl (is, some), none)) = absurd (false≢true (sym some ∙ blank))
+not_empty before after blank (inr (inr (is, some), none)) = absurd (cc)
 
 either_of_create : (before after : Disk) (fault : StartFault) → (fault ≡ start.Journal (open_faults.Device faults.NotEmpty) → ⊥) → IsCreateStartCause before after fault → IsEitherCause before after fault
 either_of_create before after (start.Journal (open_faults.Device faults.NotEmpty)) other cause = absurd (other refl)
@@ -127,6 +130,26 @@ either_of_create before after (start.Record place fault) other cause = inl cause
 either_of_create before after (start.Entry fault) other cause = inl cause
 either_of_create before after start.NoMemory other cause = inl cause
 either_of_create before after (start.TornTooLong at bytes) other cause = inl cause
+
+module _ (before mid after : Disk) (first : FailsNone before mid) (seen : mid.seen ≡ before.seen) (blank : is_blank mid.seen ≡ true) where
+  create_cause_then : (fault : StartFault) → IsCreateStartCause mid after fault → IsCreateStartCause before after fault
+  create_cause_then (start.Journal (open_faults.Refused why)) cause = absurd cause
+  create_cause_then (start.Journal (open_faults.Device fault)) (inl failed) = inl (failed_since before mid after fault first failed)
+  create_cause_then (start.Journal (open_faults.Device fault)) (inr (own, none)) =
+      inr (subst (λ (file : List ℕ). IsOwnCreateCause file fault) seen own, none_since before mid after first none)
+  create_cause_then start.Head none = none_since before mid after first none
+  create_cause_then start.OtherRules none = none_since before mid after first none
+  create_cause_then (start.Record place fault) none = none_since before mid after first none
+  create_cause_then (start.Entry fault) none = none_since before mid after first none
+  create_cause_then start.NoMemory none = none_since before mid after first none
+  create_cause_then (start.TornTooLong at bytes) none = none_since before mid after first none
+
+  pub has_either_of_created : {T : Type 0} (result : Result T StartFault) → HasCreateStartCause result mid after → HasEitherCause result before after
+  has_either_of_created {T} (Ok value) has = record { ok = none_since before mid after first has.ok; cause = tt }
+  has_either_of_created {T} (Err fault) has = record {
+    ok = tt;
+    cause = either_of_create before after fault (λ is. not_empty mid after blank (subst (IsCreateStartCause mid after) is has.cause)) (create_cause_then fault has.cause);
+  }
 
 pub has_either_of_create : (before after : Disk) (fault : StartFault) → (fault ≡ start.Journal (open_faults.Device faults.NotEmpty) → ⊥) → IsCreateStartCause before after fault
     → HasEitherCause {T = Unit {0}} (Err fault) before after

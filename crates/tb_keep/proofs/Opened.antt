@@ -1,25 +1,26 @@
 -- Why a file is not opened.
-use Rattle.std.proofs.Common.{arith, ◌≡◌, inl, inr, ℕ, ◌+◌, ◌<◌, ◌≤◌, ◌^◌, false, List, Result, Ok, Err, IfOk, IfErr, MatchResult, sym, ap, ◌∙◌, subst}
+use Rattle.std.proofs.Common.{arith, ◌≡◌, inl, inr, ℕ, ◌+◌, ◌<◌, ◌≤◌, ◌^◌, Bool, true, false, List, [], Result, Ok, Err, IfOk, IfErr, MatchResult, sym, ap, ◌∙◌, subst}
 use Rattle.std.proofs.lemmas.Grind.{common_steps}
 use Rattle.tb_records.specs.declared.limits.Profile.{Profile}
 use Rattle.std.specs.Prelude.{drop}
 use Rattle.tb_journal.specs.Device.{Disk, LeavesOnly, SetsAside}
 use Rattle.tb_journal.specs.Reading.{extent_of}
 use Rattle.tb_journal.specs.Contents.{Records, contents, recorded}
-use Rattle.tb_journal.specs.Creating.{is_blank}
+use Rattle.tb_journal.specs.Creating.{is_blank, FindsBlank}
+use Rattle.tb_journal.specs.declared.faults.JournalFault.{JournalFault}
 use Rattle.tb_journal.specs.Opening.{IsAsBefore}
 use Rattle.tb_journal.specs.declared.reading.Extent.{Extent}
 use Rattle.tb_journal.proofs.Moments.{then, weaker}
 use Rattle.tb_journal.proofs.Opened.{is_told}
 use Rattle.tb_journal.proofs.BlockWalks.{whole_begins}
-use Rattle.tb_machine.specs.Histories.{State}
+use Rattle.tb_machine.specs.Histories.{State, start as start_state}
 use Rattle.tb_journal.specs.declared.opening.OpenFault.TheVariants as open_faults
 use Rattle.tb_keep.specs.declared.faults.StartFault.{StartFault}
 use Rattle.tb_keep.specs.declared.faults.StartFault.TheVariants as start
 use Rattle.tb_keep.specs.declared.creating.NotKept.{NotKept}
-use Rattle.tb_keep.specs.Keeping.{Keeping}
+use Rattle.tb_keep.specs.Keeping.{Keeping, Keeps}
 use Rattle.tb_keep.specs.Recovering.{IsRestored, IsRestoredFrom, IsNotOfFile, IsTornTooLong, StopsOpening, AreAside, torn_bytes}
-use Rattle.tb_keep.specs.Creating.{OpensFile, StartsFile, IsOpened, IsStarted, IsUntouched, MayBeOpened, MayBeStarted, IsOpenRefused, IsStartRefused}
+use Rattle.tb_keep.specs.Creating.{OpensFile, StartsFile, CreatesIn, IsOpened, IsStarted, IsUntouched, MayBeOpened, MayBeCreated, MayBeStarted, IsOpenRefused, IsCreateRefused, IsStartRefused, history_of}
 
 abbrev pub Counts : Disk → Type 0
 Counts disk = (t : ℕ) (c : List ℕ) → t ≤ disk.moment → disk.may_leave c → disk.left_since t c
@@ -132,3 +133,60 @@ pub starts_file : {D : Type 0} (profile : Profile) (clients_max : ℕ) (file : L
     → StartsFile result profile clients_max file
 starts_file profile clients_max file (Ok keeper) some opens = inl opens
 starts_file profile clients_max file (Err failed) some opens = inr (opens, some)
+
+-- one that finds a blank file
+
+module _ {D : Type 0} (disk : D → Disk) (profile : Profile) (clients_max : ℕ) where
+  pub created_as_started : (before mid : List ℕ) (result : Result (Keeping D) (NotKept D)) → mid ≡ before → is_blank mid ≡ true
+      → IfOk result (Keeps disk (history_of profile clients_max [])) → IfOk result (λ keeper. keeper.cut ≡ 0)
+      → IfOk result (IsStarted disk profile clients_max before)
+  created_as_started before mid (Ok keeper) same blank keeps uncut = inr (ap is_blank (sym same) ∙ blank, keeps, uncut)
+  created_as_started before mid (Err failed) same blank keeps uncut = tt
+
+  not_created : (before mid after : Disk) → Counts mid → IsUntouched before mid → (fault : StartFault) → IsCreateRefused fault mid after
+      → IsStartRefused profile clients_max fault before after
+  not_created before mid after counts first (start.Journal (open_faults.Device fault)) is = tt
+  not_created before mid after counts first start.NoMemory is = untouched_then before mid after counts first is
+  not_created before mid after counts first (start.Journal (open_faults.Refused why)) is = absurd is
+  not_created before mid after counts first start.Head is = absurd is
+  not_created before mid after counts first start.OtherRules is = absurd is
+  not_created before mid after counts first (start.Record place fault) is = absurd is
+  not_created before mid after counts first (start.Entry fault) is = absurd is
+  not_created before mid after counts first (start.TornTooLong at bytes) is = absurd is
+
+  pub not_created_at_last : (before mid : Disk) (result : Result (Keeping D) (NotKept D)) → Counts mid → IsUntouched before mid
+      → IfErr result (λ failed. IsCreateRefused failed.fault mid (disk failed.device))
+      → IfErr result (λ failed. IsStartRefused profile clients_max failed.fault before (disk failed.device))
+  not_created_at_last before mid (Ok keeper) counts first is = tt
+  not_created_at_last before mid (Err failed) counts first is = not_created before mid (disk failed.device) counts first failed.fault is
+
+  pub creates_file : (holds : D → List ℕ → Type 0) (file : List ℕ) (result : Result (Keeping D) (NotKept D)) → CreatesIn holds result file
+      → IfOk result (λ keeper. keeper.state ≡ start_state profile clients_max) → IfOk result (λ keeper. keeper.cut ≡ 0)
+      → IfErr result (λ failed. IsNotOfFile failed.fault) → StartsFile result profile clients_max file
+  creates_file holds file (Ok keeper) blank empty uncut outside = inr (blank, empty, uncut)
+  creates_file holds file (Err failed) creates empty uncut outside = inl outside
+
+pub none_aside : {D : Type 0} (saved : ℕ → List ℕ → Type 0) (file : List ℕ) (result : Result (Keeping D) (NotKept D))
+    → IfOk result (λ keeper. keeper.cut ≡ 0) → IfOk result (λ keeper. AreAside saved keeper.cut file)
+none_aside saved file (Ok keeper) uncut = λ some. absurd (omega (arith, uncut, some))
+none_aside saved file (Err failed) uncut = tt
+
+may_be_created : (profile : Profile) (clients_max : ℕ) (before mid : Disk) → Counts mid → IsUntouched before mid → (c : List ℕ)
+    → MayBeCreated profile clients_max mid c → MayBeStarted profile clients_max before c
+may_be_created profile clients_max before mid counts first c (inl was) = inl (inl (still_before before mid counts first c was))
+may_be_created profile clients_max before mid counts first c (inr (blank, none)) = inr (inr (ap is_blank (sym first.seen) ∙ blank, none))
+
+pub created_at_last : (profile : Profile) (clients_max : ℕ) (before mid after : Disk) → Counts mid → IsUntouched before mid
+    → LeavesOnly mid after (MayBeCreated profile clients_max mid) → LeavesOnly before after (MayBeStarted profile clients_max before)
+created_at_last profile clients_max before mid after counts first second =
+    then before mid after (MayBeStarted profile clients_max before)
+    (weaker before mid (IsAsBefore before) (MayBeStarted profile clients_max before) (λ c was. inl (inl was)) first.any_moment)
+    (weaker mid after (MayBeCreated profile clients_max mid) (MayBeStarted profile clients_max before) (may_be_created profile clients_max before mid counts first) second)
+
+-- what a look at a file leaves
+
+pub looked : (result : Result Bool JournalFault) (before after : Disk) → FindsBlank result before after → IsUntouched before after
+looked result before after finds = record { seen = finds.seen; any_moment = finds.any_moment }
+
+pub looked_at_last : (profile : Profile) (clients_max : ℕ) (before after : Disk) → IsUntouched before after → LeavesOnly before after (MayBeStarted profile clients_max before)
+looked_at_last profile clients_max before after first = weaker before after (IsAsBefore before) (MayBeStarted profile clients_max before) (λ c was. inl (inl was)) first.any_moment
