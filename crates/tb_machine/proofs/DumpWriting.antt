@@ -1,5 +1,5 @@
 -- A whole dump: the pairs so far, and one more.
-use Rattle.std.proofs.Common.{◌≡◌, ℕ, ◌+◌, ◌<◌, ◌≤◌, ◌⊎◌, Bool, true, false, cond, ◌&&◌, List, [], ◌∷◌, ◌++◌, length, Option, Some, None, Ok, inl, inr, eq-eqb, ne_eqb, ltb, ltb-true, leb-true, refl, sym, ap, subst, ◌∙◌, arith, append_assoc, append-nil, length-append}
+use Rattle.std.proofs.Common.{◌≡◌, ℕ, ◌+◌, ◌<◌, ◌≤◌, ◌⊎◌, Bool, true, false, cond, ◌&&◌, List, [], ◌∷◌, ◌++◌, length, Option, Some, None, inl, inr, eq-eqb, ne_eqb, ltb, ltb-true, leb-true, refl, sym, ap, subst, ◌∙◌, arith, append_assoc, append-nil, length-append}
 use Rattle.std.proofs.lemmas.Bool.{lt-ltb, le-ltb, cases_lt}
 use Rattle.tb_records.specs.declared.limits.Profile.TheVariants.{One}
 use Rattle.tb_records.specs.DumpBytes.{head_bytes, mark_bytes, entry_bytes, IsClients}
@@ -13,7 +13,6 @@ use Rattle.tb_machine.specs.declared.entries.Entry.{Entry}
 use Rattle.tb_machine.specs.Histories.{State, start, step, to_two, row_at}
 use Rattle.tb_machine.specs.Scripts.{Pair, entry_of, has_time}
 use Rattle.tb_machine.specs.Runs.{Reads, is_new_in, PairAnswered}
-use Rattle.tb_machine.specs.private.Serving.{EntersPair}
 use Rattle.tb_machine.specs.Dumps.{dumped, history_bytes, IsDumpedEntry, IsPlace, DumpSpells, after_with, place_in, after_at}
 use Rattle.tb_machine.specs.DumpRuns.{marks_at, mark_before, changed_profile, added_bytes, DumpsPair, history_of, DumpsHistory}
 use Rattle.tb_machine.proofs.Rows.{some_one, each_snoc}
@@ -22,42 +21,24 @@ use Rattle.tb_machine.proofs.Running.{reads_none, reads_one, reads_snoc, sends_n
 use Rattle.tb_machine.proofs.Marked.{profile_step, bytes_snoc, spells_more, with_snoc, bytes_marked, with_marked}
 use Rattle.tb_machine.proofs.DumpReading.{entry_stored}
 
--- one pair
+-- one entry
 
--- whether profile 1 or 2 serves, a pair is as new and has the same time and entry
+module _ (at : Option ℕ) (S U T : State) (e : Entry) (due : Bool) (due_is : due ≡ marks_at at S.commit) (changes : U ≡ changed_profile due S) (entered : T ≡ step U e) where
+  stepped : T ≡ step (changed_profile due S) e
+  stepped = entered ∙ ap (λ (V : State). step V e) changes
 
-changed_time : (due : Bool) (S : State) (p : Pair) → has_time (changed_profile due S) p ≡ has_time S p
-changed_time true S p = refl
-changed_time false S p = refl
+  -- the state behind an entry, and what is written of it
+  pub entry_made : T ≡ step (changed_profile (marks_at at S.commit) S) e
+  entry_made = stepped ∙ ap (λ (b : Bool). step (changed_profile b S) e) due_is
 
-changed_entry : (due : Bool) (S : State) (p : Pair) → entry_of (changed_profile due S) p ≡ entry_of S p
-changed_entry true S p = refl
-changed_entry false S p = refl
+  pub row_made : (client : ℕ) → client ≡ e.request.client → row_of T.rows client ≡ Some (row_at (changed_profile due S) e)
+  row_made client is = entry_stored (changed_profile due S) T e client stepped is
 
--- the entry that a new pair made, and what is written of it
-pub record Made (at : Option ℕ) (S T : State) (p : Pair) (bytes : List ℕ) : Type 0 where
-  pub timely : has_time S p ≡ true
-  pub stepped : T ≡ step (changed_profile (marks_at at S.commit) S) (entry_of S p)
-  pub bytes_are : bytes ≡ added_bytes at S p
-
-module _ (at : Option ℕ) (S U T : State) (p : Pair) (due : Bool) (due_is : due ≡ marks_at at S.commit) (changes : U ≡ changed_profile due S) (entered : EntersPair (Ok tt) U T p) where
-  stepped_by : T ≡ step (changed_profile due S) (entry_of S p)
-  stepped_by = entered.1 ∙ ap (λ (V : State). step V (entry_of V p)) changes ∙ ap (step (changed_profile due S)) (changed_entry due S p)
-
-  pub made_stored : (client : ℕ) → client ≡ p.1.client → row_of T.rows client ≡ Some (row_at (changed_profile due S) (entry_of S p))
-  made_stored client is = entry_stored (changed_profile due S) T (entry_of S p) client stepped_by is
-
-  pub made : (client commit time : ℕ) (row : Row) → client ≡ p.1.client → row_of T.rows client ≡ Some row → commit ≡ T.commit → time ≡ T.books.time → Made at S T p (mark_before due ++ entry_bytes commit time row.request)
-  made client commit time row is found commit_is time_is =
-      let row_is : row ≡ row_at (changed_profile due S) (entry_of S p) = some_one (sym found ∙ made_stored client is) in
-      let commit_of : commit ≡ S.commit + 1 = commit_is ∙ ap (λ (V : State). V.commit) stepped_by in
-      let time_of_it : time ≡ (entry_of S p).time = time_is ∙ ap (λ (V : State). V.books.time) stepped_by ∙ executed_time (changed_profile due S).books p.1.body (entry_of S p).time in
-      let request_is : row.request ≡ p.1 = ap (λ (r : Row). r.request) row_is in
-      record {
-        timely = sym (changed_time due S p) ∙ ap (λ (V : State). has_time V p) (sym changes) ∙ entered.0;
-        stepped = stepped_by ∙ ap (λ (b : Bool). step (changed_profile b S) (entry_of S p)) due_is;
-        bytes_are = λ i. mark_before (due_is i) ++ entry_bytes (commit_of i) (time_of_it i) (request_is i);
-      }
+  pub bytes_made : (client : ℕ) (row : Row) → client ≡ e.request.client → row_of T.rows client ≡ Some row
+      → mark_before due ++ entry_bytes e.commit e.time row.request ≡ mark_before (marks_at at S.commit) ++ dumped e
+  bytes_made client row is found =
+      let row_is : row ≡ row_at (changed_profile due S) e = some_one (sym found ∙ row_made client is) in
+      λ i. mark_before (due_is i) ++ entry_bytes e.commit e.time (row_is i).request
 
 -- where the mark is
 

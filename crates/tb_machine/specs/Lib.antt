@@ -1,5 +1,6 @@
 pub mod Histories
 pub mod Scripts
+pub mod Judging
 pub mod Answering
 pub mod RunFaults
 pub mod Worked

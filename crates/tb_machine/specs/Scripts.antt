@@ -1,11 +1,11 @@
 -- Scripts: what a server makes of moments and requests, one after another.
-use Rattle.std.specs.Prelude.{ℕ, Bool, ◌&&◌, ◌+◌, nat_le, List, [], ◌∷◌, ◌++◌, if◌then◌else◌, fold, ◌≡◌, true, false, IsTrue, Option, Some, None}
+use Rattle.std.specs.Prelude.{ℕ, Bool, ◌&&◌, ◌+◌, nat_le, List, [], ◌∷◌, ◌++◌, if◌then◌else◌, fold}
 use Rattle.tb_records.specs.declared.limits.Profile.{Profile}
 use Rattle.tb_records.specs.Messages.{Message, Answer}
 use Rattle.tb_ledger.specs.Verdicts.{max_time}
 use Rattle.tb_sessions.specs.Judged.{class_of}
 use Rattle.tb_machine.specs.declared.entries.Entry.{Entry}
-use Rattle.tb_machine.specs.Histories.{State, time_of, is_new, step, after, answer_to, fits}
+use Rattle.tb_machine.specs.Histories.{State, time_of, is_new, step, after, answer_to}
 
 -- the moment at which a request comes, in nanoseconds, and the request
 abbrev pub Pair : Type 0
@@ -17,11 +17,6 @@ entry_of S p = record { commit = S.commit + 1; time = time_of S p.0 p.1; request
 
 abbrev pub has_time : State → Pair → Bool
 has_time S p = nat_le (time_of S p.0 p.1) max_time
-
--- the entry of a pair is made where there is a time for it; that of a new request may come next
-abbrev pub MakesEntry : Option Entry → State → Pair → Type 0
-MakesEntry None S p = has_time S p ≡ false
-MakesEntry (Some e) S p = (has_time S p ≡ true) × (e ≡ entry_of S p) × (is_new (class_of S.rows p.1) ≡ true → IsTrue (fits S e))
 
 -- a pair is entered where its request is new and there is a time for it
 abbrev pub is_entered : State → Pair → Bool

@@ -1,5 +1,5 @@
 //! The dump of a script: its new requests are executed, and the history that they make is written.
-ghost use Rattle.std.specs.Prelude.{◌≡◌, ◌++◌, true, false, IfOk, Some};
+ghost use Rattle.std.specs.Prelude.{◌≡◌, ◌++◌, true, false, IfOk, IsTrue, Some};
 ghost use Rattle.std.specs.Option.{is_some};
 ghost use Rattle.tb_records.specs.declared.limits.Profile.TheVariants.{One};
 ghost use Rattle.tb_records.specs.DumpBytes.{head_bytes, entry_bytes, IsClients};
@@ -7,15 +7,18 @@ ghost use Rattle.tb_records.specs.Transport.{IsSent};
 ghost use Rattle.tb_ledger.specs.Books.{profile_of};
 ghost use Rattle.tb_sessions.specs.Judged.{row_of};
 ghost use Rattle.tb_machine.specs.DumpRuns.{mark_before, marks_at, changed_profile, DumpRan, DumpsPair, DumpsNext};
-ghost use Rattle.tb_machine.specs.private.Serving.{IsPromptForPair, Delivers};
+ghost use Rattle.tb_machine.specs.Histories.{fits};
+ghost use Rattle.tb_machine.specs.private.Serving.{IsPromptForPair, Delivers, DumpsEntry};
 
+use crate::entries::Entry;
+use crate::judgements::Judged;
 use crate::machines::Machine;
-use crate::serving::{RunFault, enter, pass_on_before_waiting};
+use crate::serving::{RunFault, pass_on_before_waiting};
 use std::alloc::Global;
 use tb_records::dumps::{send_entry, send_head, send_mark};
 use tb_records::streams::read_timed_from;
 use tb_records::{ClientsMax, DumpHead, FrameFault, Profile, Request, Sink, Source};
-use tb_sessions::{Class, Row};
+use tb_sessions::Row;
 
 /// Says that the mark is directly before the entry behind `commit` others.
 fn marks_at(at: Option<u64>, commit: u64) -> bool
@@ -83,8 +86,34 @@ fn write_entry<W: Sink>(
     send_entry(writer, commit, time, request)
 }
 
-/// Enters a request that comes at a moment and writes its entry, where it is new. A mark that comes before it is written
-/// with it, so that none is where there is no entry.
+/// Enters the entry of a new request, and writes it. A mark that comes before it is written with it, so that none is where
+/// there is no entry.
+fn dump_entry<W: Sink>(
+    machine: &mut Machine<Global>,
+    at: Option<u64>,
+    writer: &mut W,
+    entry: Entry,
+) -> Result<(), RunFault>
+    requires fits { IsTrue (fits machine.old entry) }
+    requires by_one { marks_at at machine.old.commit ≡ true → profile_of machine.old.books ≡ Profile.One }
+    ensures { DumpsEntry at result machine.old machine.new entry (W.output writer.old) (W.output writer.new) }
+{
+    let (client, commit, time) = (entry.request.client(), entry.commit, entry.time);
+    let due = marks_at(at, machine.commit());
+    change_profile(machine, due);
+    match machine.enter(entry) {
+        Ok(()) => {}
+        Err(back) => {
+            drop(back);
+            return Err(RunFault::NoMemory);
+        }
+    }
+    let row = stored_row(machine, client);
+    write_entry(writer, due, commit, time, &row.request)?;
+    Ok(())
+}
+
+/// Enters a request that comes at a moment and writes its entry, where it is new.
 fn dump_pair<W: Sink>(
     machine: &mut Machine<Global>,
     at: Option<u64>,
@@ -96,16 +125,11 @@ fn dump_pair<W: Sink>(
     ensures { DumpsPair at result machine.old machine.new (moment, request) (W.output writer.old)
         (W.output writer.new) }
 {
-    let Class::New = machine.class(&request) else {
-        return Ok(())
-    };
-    let client = request.client();
-    let due = marks_at(at, machine.commit());
-    change_profile(machine, due);
-    enter(machine, moment, request)?;
-    let row = stored_row(machine, client);
-    write_entry(writer, due, machine.commit(), machine.time(), &row.request)?;
-    Ok(())
+    match machine.judge(moment, request) {
+        Judged::New(entry) => dump_entry(machine, at, writer, entry),
+        Judged::NoTime => Err(RunFault::TimeExhausted),
+        Judged::Known(..) => Ok(()),
+    }
 }
 
 /// Dumps the next pair of a script: false where there is none. The reader is asked only where nothing is held back, or a

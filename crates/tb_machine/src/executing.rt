@@ -1,11 +1,11 @@
-//! The steps of a machine: how a request becomes an entry, what it does to the ledger, what its reply says, and the row that keeps both.
+//! The steps of a machine: what a request does to the ledger, what its reply says, and the row that keeps both.
 ghost use Rattle.std.specs.Prelude.{◌≡◌, ◌+◌, ◌≤◌, max, OnOk, OnErr, ◌<◌, MatchResult, IsTrue, None, Some};
 ghost use Rattle.tb_records.specs.Messages.{count, item_count, items_max, operation, IsRight, IsLawful};
 ghost use Rattle.tb_records.specs.ReplyFrames.{reply_bytes, IsReply};
 ghost use Rattle.tb_ledger.specs.Verdicts.{max_time};
 ghost use Rattle.tb_machine.specs.Histories.{executed, reply_with, session_of, step, fits};
-ghost use Rattle.tb_machine.specs.private.Serving.{made, row_in, IsDelivered, IfWhole, MayBeExecuted, DeliversReply, ExecutesBody, MakesRow, served_as, ServesPair, IfUnserved, EntersAndReplies};
-ghost use Rattle.tb_machine.specs.Scripts.{MakesEntry};
+ghost use Rattle.tb_machine.specs.Judging.{IsDelivered, IfWhole, EntersAndReplies};
+ghost use Rattle.tb_machine.specs.private.Serving.{made, row_in, MayBeExecuted, DeliversReply, ExecutesBody, MakesRow, served_as, ServesPair, IfUnserved};
 
 use crate::entries::Entry;
 use crate::machines::Machine;
@@ -17,7 +17,7 @@ use tb_sessions::{Class, Row};
 
 /// What became of the reply of a request that was executed.
 #[derive(Clone, Copy)]
-pub(crate) enum Delivery {
+pub enum Delivery {
     /// It was written.
     Whole,
     /// The writer's fault left a prefix of it.
@@ -48,21 +48,6 @@ impl Served {
 }
 
 impl<A: Allocator + Clone> Machine<A> {
-    /// The entry that a request makes which comes at a moment: of the next commit number, at its [`Machine::next_time`]. None
-    /// where there is no time for it. That of a new request may come next.
-    pub fn next_entry(&self, request: Request, now: u64) -> Option<Entry>
-        ensures entry { MakesEntry result self.now (now, request) }
-        ensures lawful { IsLawful request }
-    {
-        let events = request.body().event_count() as u64;
-        let time = self.next_time(now, events)?;
-        Some(Entry {
-            commit: self.commit + 1,
-            time,
-            request,
-        })
-    }
-
     /// Enters an entry that may come next: its request is executed, and its client's row keeps the request and the
     /// reply. On a refusal the machine is unchanged.
     pub fn apply(&mut self, entry: &Entry) -> Result<(), AllocError>
@@ -131,7 +116,7 @@ impl<A: Allocator + Clone> Machine<A> {
 
     /// As `enter`, and writes the reply before the row that keeps it goes to the others. Where the writer failed, the
     /// entry has been entered all the same.
-    pub(crate) fn enter_and_reply<W: Sink>(
+    pub fn enter_and_reply<W: Sink>(
         &mut self,
         writer: &mut W,
         entry: Entry,

@@ -5,6 +5,7 @@
 //!
 //! - `entries`: `Entry`, a commit number, a time and a request.
 //! - `machines`: `Machine`, a ledger and its sessions, which entries move on.
+//! - `judgements`: what a request is to it at a moment: new, with its entry, or of another class.
 //! - `executing`: its steps: what a request does to the ledger, the reply to it, the row that it leaves.
 //! - `serving`: `run`, a script read, executed and answered; `serve_pair`, one pair of it.
 //! - `answering`: the answer to a request from a machine that stays as it is.
@@ -16,16 +17,17 @@
 //!
 //! specs/Histories has `step`, legal histories and what an answer is; specs/Worked what `run`, `dump` and `replay` share;
 //! specs/private/Serving what the steps of `run` do with one pair; specs/ScriptLaws what joins `run` to the laws. `run`
-//! serves a request of a session by `Machine::serve_in_session`, at its client's row. Whoever else enters a request has its
-//! entry by `Machine::next_entry`; `replay` tests one by `Machine::fits`, `restore` by its causes; `dump`, `replay` and
-//! `restore` enter it by `Machine::enter`, `run` a register by `enter_and_reply`, which writes the reply before the row that
-//! keeps it goes to the others.
+//! serves a request of a session by `Machine::serve_in_session`, at its client's row. Whoever else takes a request judges it by
+//! `Machine::judge`, which makes the entry of a new one; `replay` tests an entry by `Machine::fits`, `restore` by its causes. `dump`,
+//! `replay` and `restore` enter it by `Machine::enter`, `run` a register by `Machine::enter_and_reply`, which writes the reply before
+//! the row that keeps it goes to the others. `answer_known` answers a request that is not new.
 #![tactic(auto)]
 
 mod answering;
 mod dumping;
 mod entries;
 mod executing;
+mod judgements;
 pub mod laws;
 mod machines;
 mod replaying;
@@ -36,7 +38,9 @@ pub mod worked_rows;
 pub use answering::answer_of;
 pub use dumping::dump;
 pub use entries::Entry;
+pub use executing::Delivery;
+pub use judgements::Judged;
 pub use machines::Machine;
 pub use replaying::replay;
 pub use restoring::{RestoreFault, Unfit, read_entry, restore, write_entry};
-pub use serving::{RunFault, run, serve_pair, status_of};
+pub use serving::{RunFault, answer_known, run, serve_pair, status_of};

@@ -1,19 +1,18 @@
 //! The serving of a script: moments and requests are read, executed and answered, one after another.
-ghost use Rattle.std.specs.Prelude.{◌≡◌, ◌≢◌, true, false, [], IfOk, OnOk, Some};
+ghost use Rattle.std.specs.Prelude.{◌≡◌, true, false, [], IfOk, OnOk, Some};
 ghost use Rattle.std.specs.Option.{is_some};
-ghost use Rattle.tb_records.specs.Messages.{IsLawful};
 ghost use Rattle.tb_records.specs.ReplyFrames.{reply_bytes, IsReply};
-ghost use Rattle.tb_records.specs.Transport.{Sent};
+ghost use Rattle.tb_records.specs.Transport.{IsSent, Sent};
 ghost use Rattle.tb_sessions.specs.Judged.{class_of, row_of};
-ghost use Rattle.tb_machine.specs.Histories.{status_of, answer_to, fits, stored_reply};
+ghost use Rattle.tb_machine.specs.Histories.{status_of, answer_to, stored_reply};
 ghost use Rattle.tb_machine.specs.RunFaults.{run_fault_number, run_fault_name};
-ghost use Rattle.tb_machine.specs.Runs.{is_new_in, AnswersPair, PairAnswered, Ran};
+ghost use Rattle.tb_machine.specs.Runs.{AnswersPair, PairAnswered, Ran};
 ghost use Rattle.tb_machine.specs.PlainRuns.{RanPlain};
-ghost use Rattle.tb_machine.specs.private.Serving.{EntersPair, Delivers, IsPromptForPair};
+ghost use Rattle.tb_machine.specs.private.Serving.{IsPromptForPair};
 ghost use Rattle.tb_machine.specs.Worked.{GoesOn};
 
-use crate::entries::Entry;
 use crate::executing::{Delivery, Served};
+use crate::judgements::Judged;
 use crate::machines::Machine;
 use bumpalo::Bump;
 use std::alloc::{AllocError, Allocator, Global};
@@ -111,22 +110,6 @@ pub fn status_of(class: Class) -> Status
     }
 }
 
-/// Enters a new request that comes at a moment. The time is found before any memory is taken.
-pub(crate) fn enter<A: Allocator + Clone>(
-    machine: &mut Machine<A>,
-    moment: u64,
-    request: Request,
-) -> Result<(), RunFault>
-    requires { is_new_in machine.old (moment, request) ≡ true }
-    ensures entered { EntersPair result machine.old machine.new (moment, request) }
-    ensures lawful { IsLawful request }
-{
-    let Some(entry) = machine.next_entry(request, moment) else {
-        return Err(RunFault::TimeExhausted);
-    };
-    machine.enter(entry).map_err(|_| RunFault::NoMemory)
-}
-
 /// The reply that a client's row keeps.
 pub(crate) fn stored_reply<A: Allocator + Clone>(machine: &Machine<A>, client: u128) -> &Reply
     requires { is_some (row_of machine.now.rows client) ≡ true }
@@ -138,52 +121,21 @@ pub(crate) fn stored_reply<A: Allocator + Clone>(machine: &Machine<A>, client: u
     reply
 }
 
-/// Writes a reply.
-fn send<W: Sink>(writer: &mut W, reply: &Reply) -> Result<(), RunFault>
-    ensures fits { OnOk result (IsReply reply.now) }
-    ensures delivers { Delivers result (reply_bytes reply.now) (W.output writer.old) (W.output writer.new) }
-{
-    send_reply(writer, reply)?;
-    Ok(())
-}
-
-/// Enters a new request that comes at a moment, and writes the reply to it.
-fn answer_new<A: Allocator + Clone, W: Sink>(
-    machine: &mut Machine<A>,
-    writer: &mut W,
-    moment: u64,
-    request: Request,
-) -> Result<(), RunFault>
-    requires { class_of machine.old.rows request ≡ Class.New }
-    ensures { AnswersPair result machine.old machine.new (moment, request) (W.output writer.old)
-        (W.output writer.new) }
-{
-    let Some(entry) = machine.next_entry(request, moment) else {
-        return Err(RunFault::TimeExhausted);
-    };
-    match machine.enter_and_reply(writer, entry) {
-        Ok(Delivery::Whole) => Ok(()),
-        Ok(Delivery::Cut(fault)) => Err(RunFault::Frame(fault)),
-        Err(_) => Err(RunFault::NoMemory),
-    }
-}
-
 /// Answers a request that is not new: a repeat by the stored reply, any other by a refusal.
-fn answer_known<A: Allocator + Clone, W: Sink>(
+pub fn answer_known<A: Allocator + Clone, W: Sink>(
     machine: &Machine<A>,
     writer: &mut W,
     request: &Request,
     class: Class,
-) -> Result<(), RunFault>
-    requires class { class ≡ class_of machine.now.rows request.now }
-    requires known { class ≢ Class.New }
-    ensures fits { OnOk result (IsReply (answer_to machine.now request.now)) }
-    ensures delivers { Delivers result (reply_bytes (answer_to machine.now request.now)) (W.output writer.old)
+) -> Result<(), FrameFault>
+    requires { class ≡ class_of machine.now.rows request.now }
+    ensures sent { IsSent result (reply_bytes (answer_to machine.now request.now)) (W.output writer.old)
         (W.output writer.new) }
+    ensures fits { OnOk result (IsReply (answer_to machine.now request.now)) }
 {
     match class {
-        Class::Repeat => send(writer, stored_reply(machine, request.client())),
-        _ => send(writer, &Reply::refusal(request, status_of(class))),
+        Class::Repeat => send_reply(writer, stored_reply(machine, request.client())),
+        _ => send_reply(writer, &Reply::refusal(request, status_of(class))),
     }
 }
 
@@ -200,9 +152,20 @@ fn answer_as<A: Allocator + Clone, W: Sink>(
     ensures { AnswersPair result machine.old machine.new (moment, request) (W.output writer.old)
         (W.output writer.new) }
 {
-    match class {
-        Class::New => answer_new(machine, writer, moment, request),
-        class => answer_known(machine, writer, &request, class),
+    match machine.judge_as(class, moment, request) {
+        Judged::New(entry) => match machine.enter_and_reply(writer, entry) {
+            Ok(Delivery::Whole) => Ok(()),
+            Ok(Delivery::Cut(fault)) => Err(RunFault::Frame(fault)),
+            Err(back) => {
+                drop(back);
+                Err(RunFault::NoMemory)
+            }
+        },
+        Judged::NoTime => Err(RunFault::TimeExhausted),
+        Judged::Known(class, request) => {
+            answer_known(machine, writer, &request, class)?;
+            Ok(())
+        }
     }
 }
 

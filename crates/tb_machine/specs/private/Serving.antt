@@ -1,5 +1,5 @@
 -- What the steps of the server do with one pair: for private functions alone.
-use Rattle.std.specs.Prelude.{true, false, ◌≡◌, ◌+◌, ◌≤◌, max, ℕ, List, Result, Ok, Err, IfOk, MatchResult}
+use Rattle.std.specs.Prelude.{false, ◌≡◌, ◌+◌, ◌++◌, ◌≤◌, max, ℕ, List, Option, Result, Ok, Err, IfOk, MatchResult}
 use Rattle.std.specs.declared.alloc.AllocError.{AllocError}
 use Rattle.tb_records.specs.declared.faults.FrameFault.TheVariants.{Device}
 use Rattle.tb_records.specs.AtHand.{holds_pair, holds_item}
@@ -18,8 +18,11 @@ use Rattle.tb_machine.specs.declared.executing.Served.{Served}
 use Rattle.tb_machine.specs.declared.executing.Served.TheVariants as served
 use Rattle.tb_machine.specs.Runs.{AnswersPair}
 use Rattle.tb_machine.specs.declared.entries.Entry.{Entry}
-use Rattle.tb_machine.specs.Histories.{State, found, row_with, step, executed, reply_at}
-use Rattle.tb_machine.specs.Scripts.{Pair, entry_of, has_time}
+use Rattle.tb_machine.specs.Histories.{State, found, row_with, step, executed}
+use Rattle.tb_machine.specs.DumpRuns.{marks_at, mark_before, changed_profile}
+use Rattle.tb_machine.specs.Dumps.{dumped}
+use Rattle.tb_machine.specs.Scripts.{Pair}
+use Rattle.tb_machine.specs.Judging.{IsDelivered, IfWhole}
 use Rattle.tb_records.specs.declared.bodies.Body.{Body}
 use Rattle.tb_records.specs.declared.bodies.ReplyBody.{ReplyBody}
 
@@ -58,22 +61,6 @@ ExecutesBody result B body time later = MatchResult result (λ answer. (later �
 abbrev pub MakesRow : Result Row Entry → Books → Entry → Books → Type 0
 MakesRow result B e later = MatchResult result (λ row. (later ≡ executed B e.request.body e.time) × (row ≡ row_in B e)) (λ back. (back ≡ e) × (later ≡ B))
 
--- a reply was written, or the device failed and left a prefix of it
-abbrev pub IsDelivered : Delivery → List ℕ → Output → Output → Type 0
-IsDelivered delivery.Whole bytes before after = Sent bytes before after
-IsDelivered (delivery.Cut f) bytes before after = (f ≡ Device) × CutOff bytes before after
-
-abbrev pub IfWhole : Delivery → Type 0 → Type 0
-IfWhole delivery.Whole P = P
-IfWhole (delivery.Cut f) P = Unit {0}
-
--- an entry was entered, and its reply written, or a prefix of it; where there was no memory the entry came back, and nothing changed
-abbrev pub EntersAndReplies : {W : Type 0} → (W → Output) → Result Delivery Entry → State → State → Entry → W → W → Type 0
-EntersAndReplies output result S T e writer later =
-    MatchResult result
-    (λ delivery. (T ≡ step S e) × IsDelivered delivery (reply_bytes (reply_at S e)) (output writer) (output later) × IfWhole delivery (IsReply (reply_at S e)))
-    (λ back. (back ≡ e) × (T ≡ S) × (later ≡ writer))
-
 -- where an entry was executed, its reply was written, or a prefix of it
 pub record DeliversReply (served : Result Delivery AllocError) (reply : Answer) (before after : Output) : Type 0 where
   pub delivery : IfOk served (λ delivery. IsDelivered delivery (reply_bytes reply) before after × IfWhole delivery (IsReply reply))
@@ -94,10 +81,9 @@ abbrev pub IfUnserved : Served → Type 0 → Type 0
 IfUnserved (served.Unserved class) P = P
 IfUnserved other P = Unit {0}
 
--- a new pair is entered: the machine moves on by its entry, or stays
-abbrev pub EntersPair : Result (Unit {0}) RunFault → State → State → Pair → Type 0
-EntersPair (Ok done) S T p = (has_time S p ≡ true) × (T ≡ step S (entry_of S p))
-EntersPair (Err fault.NoMemory) S T p = (has_time S p ≡ true) × (T ≡ S)
-EntersPair (Err fault.TimeExhausted) S T p = (has_time S p ≡ false) × (T ≡ S)
-EntersPair (Err fault.TooLong) S T p = ⊥
-EntersPair (Err (fault.Frame f)) S T p = ⊥
+-- an entry was entered and written, behind a mark where one is due; or there was no memory for it, and nothing was written
+abbrev pub DumpsEntry : Option ℕ → Result (Unit {0}) RunFault → State → State → Entry → Output → Output → Type 0
+DumpsEntry at (Ok done) S T e before after = (T ≡ step (changed_profile (marks_at at S.commit) S) e) × Sent (mark_before (marks_at at S.commit) ++ dumped e) before after
+DumpsEntry at (Err (fault.Frame f)) S T e before after = (f ≡ Device) × CutOff (mark_before (marks_at at S.commit) ++ dumped e) before after
+DumpsEntry at (Err fault.NoMemory) S T e before after = after ≡ before
+DumpsEntry at (Err f) S T e before after = ⊥
