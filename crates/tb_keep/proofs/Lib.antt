@@ -1,4 +1,5 @@
 pub mod Pairs
+pub mod KeptPairs
 pub mod Batches
 pub mod ServedRounds
 pub mod Moments

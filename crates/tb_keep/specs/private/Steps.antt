@@ -1,9 +1,9 @@
 -- What the steps of serving do: for private functions alone.
-use Rattle.std.specs.Prelude.{ℕ, Bool, true, false, ◌≡◌, ◌⊎◌, ◌+◌, ◌<◌, ◌≤◌, ◌^◌, List, [], ◌∷◌, ◌++◌, length, Result, Ok, Err, Option, None, IsTrue}
+use Rattle.std.specs.Prelude.{ℕ, Bool, true, false, ◌≡◌, ◌⊎◌, ◌+◌, ◌<◌, ◌≤◌, ◌^◌, List, [], ◌∷◌, ◌++◌, length, Result, Ok, Err, Option, None}
 use Rattle.tb_records.specs.declared.faults.FrameFault.{FrameFault}
 use Rattle.tb_records.specs.declared.faults.FrameFault.TheVariants.{Device}
-use Rattle.tb_records.specs.Messages.{Message}
-use Rattle.tb_records.specs.ReplyFrames.{IsReply}
+use Rattle.tb_records.specs.Messages.{Answer, Message}
+use Rattle.tb_records.specs.ReplyFrames.{reply_bytes, IsReply}
 use Rattle.tb_records.specs.AtHand.{holds_pair}
 use Rattle.tb_records.specs.Transport.{Input, Output, Sent, CutOff}
 use Rattle.tb_journal.specs.declared.faults.JournalFault.{JournalFault}
@@ -11,10 +11,11 @@ use Rattle.tb_journal.specs.Device.{Disk, LeavesOnly, HasFailed}
 use Rattle.tb_journal.specs.Contents.{at_rest, recorded}
 use Rattle.tb_journal.specs.Steps.{IsBeforeOrAfter}
 use Rattle.tb_journal.specs.Ready.{Kept, IsReady, with_waiting}
+use Rattle.tb_machine.specs.declared.entries.Entry.{Entry}
 use Rattle.tb_machine.specs.declared.serving.RunFault.TheVariants as run
-use Rattle.tb_machine.specs.Histories.{State, fits, answer_to}
+use Rattle.tb_machine.specs.Histories.{step, reply_at}
 use Rattle.tb_machine.specs.Scripts.{Pair, entry_of, has_time, after_pair}
-use Rattle.tb_machine.specs.Runs.{Reads, is_new_in, IsTimely, answer_bytes}
+use Rattle.tb_machine.specs.Runs.{Reads, is_new_in}
 use Rattle.tb_machine.specs.Dumps.{dumped}
 use Rattle.tb_machine.specs.Recording.{IsRecord}
 use Rattle.tb_keep.specs.declared.faults.KeepFault.{KeepFault}
@@ -35,28 +36,20 @@ IsSudden (keep.Journal fault) = Unit {0}
 IsSudden (keep.Serving run.NoMemory) = Unit {0}
 IsSudden fault = ⊥
 
--- the record of the entry of a new pair waits
-pub record Waits {D : Type 0} (p : Pair) (before after : Keeping D) : Type 0 where
-  pub time : has_time before.state p ≡ true
-  pub legal : IsTrue (fits before.state (entry_of before.state p))
-  pub recorded_is : IsRecord (dumped (entry_of before.state p)) (entry_of before.state p)
-  pub state : after.state ≡ before.state
-  pub journal : after.journal ≡ with_waiting before.journal (dumped (entry_of before.state p))
-  pub usable : after.usable ≡ before.usable
+-- a reply is held behind the others, or there is no memory
+abbrev pub HoldsReply : Result (Unit {0}) KeepFault → Answer → List ℕ → List ℕ → Type 0
+HoldsReply (Ok done) a held grown = (grown ≡ held ++ reply_bytes a) × IsReply a
+HoldsReply (Err (keep.Serving run.NoMemory)) a held grown = Unit {0}
+HoldsReply (Err fault) a held grown = ⊥
 
--- the request comes back, or a fault came, and all is as it was
-abbrev pub Appends : {D : Type 0} → Result Message KeepFault → Pair → Keeping D → Keeping D → Type 0
-Appends (Ok request) p before after = (request ≡ p.1) × Waits p before after
-Appends (Err (keep.Serving run.TimeExhausted)) p before after = (has_time before.state p ≡ false) × (after ≡ before)
-Appends (Err fault) p before after =
-    (has_time before.state p ≡ true) × IsRefusal fault before.journal (dumped (entry_of before.state p)) × (after.journal ≡ before.journal)
-
--- the reply to a pair is held behind the others, or there is no memory
-abbrev pub HoldsReply : Result (Unit {0}) KeepFault → Pair → State → State → List ℕ → List ℕ → Type 0
-HoldsReply (Ok done) p S T held grown = IsTimely S p × (T ≡ after_pair S p) × (grown ≡ held ++ answer_bytes S p) × IsReply (answer_to (after_pair S p) p.1)
-HoldsReply (Err (keep.Serving run.NoMemory)) p S T held grown = Unit {0}
-HoldsReply (Err (keep.Serving run.TimeExhausted)) p S T held grown = IsUntimely S p
-HoldsReply (Err fault) p S T held grown = ⊥
+-- the record of an entry waits, the entry is entered, and its reply is held; or a fault came, and the file stays
+abbrev pub KeepsEntry : {D : Type 0} → Result (Unit {0}) KeepFault → Entry → Keeping D → Keeping D → List ℕ → List ℕ → Type 0
+KeepsEntry (Ok done) e before after held grown =
+    IsRecord (dumped e) e × (after.journal ≡ with_waiting before.journal (dumped e)) × (after.usable ≡ before.usable)
+    × (after.state ≡ step before.state e) × (grown ≡ held ++ reply_bytes (reply_at before.state e)) × IsReply (reply_at before.state e)
+KeepsEntry (Err (keep.Journal fault)) e before after held grown = RefusesRecord fault before.journal (dumped e) × (after.journal ≡ before.journal)
+KeepsEntry (Err (keep.Serving run.NoMemory)) e before after held grown = after.journal.device ≡ before.journal.device
+KeepsEntry (Err fault) e before after held grown = ⊥
 
 -- a pair was served: its record waits, and its reply is held
 pub record HoldsPair {D : Type 0} (p : Pair) (before after : Keeping D) (held grown : List ℕ) : Type 0 where
@@ -147,8 +140,8 @@ module _ (tells : Type 0) {D : Type 0} (disk : D → Disk) where
   KeepsNext (Err f) before after first last held left start written = EndsNext f before after first last held left start written
 
 -- the same of replies that are held, and of a reader and a writer
-abbrev pub HoldsReplyOver : Result (Unit {0}) KeepFault → Pair → State → State → Replies → Replies → Type 0
-HoldsReplyOver result p S T held grown = HoldsReply result p S T held.bytes.items grown.bytes.items
+abbrev pub HoldsReplyOver : Result (Unit {0}) KeepFault → Answer → Replies → Replies → Type 0
+HoldsReplyOver result a held grown = HoldsReply result a held.bytes.items grown.bytes.items
 
 abbrev pub HandsOutOver : {W : Type 0} → (W → Output) → Result (Unit {0}) KeepFault → Replies → Replies → W → W → Type 0
 HandsOutOver output result held left writer later = HandsOut result held.bytes.items left.bytes.items (output writer) (output later)
