@@ -2,7 +2,6 @@
 ghost use Rattle.std.specs.Prelude.{◌≡◌, ◌≤◌, true, length, IfOk};
 ghost use Rattle.tb_journal.specs.Scans.{GoesFurther};
 ghost use Rattle.tb_log.specs.Format.{content_max};
-ghost use Rattle.tb_machine.specs.Runs.{is_new_in};
 ghost use Rattle.tb_keep.specs.private.Entering.{StaysKept};
 ghost use Rattle.tb_keep.specs.Creating.{IsUntouched};
 ghost use Rattle.tb_keep_log.specs.Dumping.{DumpsBy, HasDumpCause, no_pair};
@@ -16,11 +15,10 @@ use crate::rereading::read_record;
 use std::alloc::Global;
 use tb_journal::{Device, Scan};
 use tb_keep::Rules;
-use tb_machine::{Entry, Machine, write_entry};
+use tb_machine::{Entry, Judged, Machine, write_entry};
 use tb_records::dumps::send_head;
 use tb_records::streams::read_timed_from;
 use tb_records::{Counting, DumpHead, FrameFault, Request, Sink, put_all};
-use tb_sessions::Class;
 
 /// Says that the entry of this commit number is written: one above a number, or each.
 fn is_wanted(commit: u64, above: Option<u64>) -> bool
@@ -57,33 +55,6 @@ fn send_entry<W: Sink>(
     }
 }
 
-/// Writes the entry of a new pair, if it is wanted, and enters it.
-fn dump_new<W: Sink>(
-    global: Global,
-    machine: &mut Machine<Global>,
-    above: Option<u64>,
-    writer: &mut W,
-    moment: u64,
-    request: Request,
-) -> Result<(), DumpLogFault>
-    requires { is_new_in machine.old (moment, request) ≡ true }
-    ensures { DumpsOne above W.output result machine.old machine.new (moment, request) writer.old writer.new }
-{
-    let Some(entry) = machine.next_entry(request, moment) else {
-        return Err(DumpLogFault::TimeExhausted);
-    };
-    match send_entry(global, &entry, above, writer) {
-        Ok(()) => match machine.enter(entry) {
-            Ok(()) => Ok(()),
-            Err(_) => Err(DumpLogFault::NoMemory),
-        },
-        Err(fault) => {
-            drop(entry);
-            Err(fault)
-        }
-    }
-}
-
 /// Writes the entry of a pair that is new, if it is wanted, and enters it. Of any other pair nothing is written.
 fn dump_pair<W: Sink>(
     global: Global,
@@ -95,9 +66,22 @@ fn dump_pair<W: Sink>(
 ) -> Result<(), DumpLogFault>
     ensures { DumpsOne above W.output result machine.old machine.new (moment, request) writer.old writer.new }
 {
-    match machine.class(&request) {
-        Class::New => dump_new(global, machine, above, writer, moment, request),
-        _ => Ok(()),
+    match machine.judge(moment, request) {
+        Judged::New(entry) => match send_entry(global, &entry, above, writer) {
+            Ok(()) => match machine.enter(entry) {
+                Ok(()) => Ok(()),
+                Err(back) => {
+                    drop(back);
+                    Err(DumpLogFault::NoMemory)
+                }
+            },
+            Err(fault) => {
+                drop(entry);
+                Err(fault)
+            }
+        },
+        Judged::NoTime => Err(DumpLogFault::TimeExhausted),
+        Judged::Known(..) => Ok(()),
     }
 }
 
