@@ -40,8 +40,8 @@ module _ (o : Opening) (h : List Entry) (r : Message) (now : ℕ) where
     where
       entered : (result : Result Taken TakeFault) → EntersBy (after_in o h) h r now result T m → Enters o h r now result m
       entered (Ok (taken.Committed c)) by = (by.0, by.1, by.2 ∙ ap (λ n. n + 1) (commit_is o.profile o.clients_max h legal), by.4)
-      entered (Ok (taken.Repeat c)) by = (by.0.0, held o.profile o.clients_max h r legal (ap is_none by.0.2) by.0.0 c by.0.1, by.2)
-      entered (Ok (taken.Refused s)) by = (by.0.0, by.0.1, by.0.2, by.2)
+      entered (Ok (taken.Repeat c)) by = (by.0, held o.profile o.clients_max h r legal (ap is_none by.2) by.0 c by.1, by.4)
+      entered (Ok (taken.Refused s)) by = (by.0, by.1, by.2, by.4)
       entered (Err fault.NoMemory) by = (by.0, by.1, by.3)
       entered (Err fault.TimeExhausted) by = (by.0, by.1, by.3)
       entered (Err (fault.Unpublished c)) by = by
@@ -66,8 +66,8 @@ module _ {o : Opening} {h : List Entry} {S : State} {offered : Prefix} {copies :
   pub tied_by : (r : Message) (now : ℕ) (result : Result Taken TakeFault) (T : State) (m : List Entry) → Ties o h S offered copies → IsLawful r
       → EntersBy S h r now result T m → Ties o m T offered copies
   tied_by r now (Ok (taken.Committed c)) T m t lawful by = tied_new (entry_of S (now, r)) T m t (fits_new S now r (entry_of S (now, r)) lawful by.0 by.1 refl) by.3 by.4
-  tied_by r now (Ok (taken.Repeat c)) T m t lawful by = tied_same T m t by.1 by.2
-  tied_by r now (Ok (taken.Refused s)) T m t lawful by = tied_same T m t by.1 by.2
+  tied_by r now (Ok (taken.Repeat c)) T m t lawful by = tied_same T m t by.3 by.4
+  tied_by r now (Ok (taken.Refused s)) T m t lawful by = tied_same T m t by.3 by.4
   tied_by r now (Err fault.NoMemory) T m t lawful by = tied_same T m t by.2 by.3
   tied_by r now (Err fault.TimeExhausted) T m t lawful by = tied_same T m t by.2 by.3
   tied_by r now (Err (fault.Unpublished c)) T m t lawful by = absurd by

@@ -1,14 +1,14 @@
-//! How the publisher judges a request by its machine, and enters it.
-ghost use Rattle.std.specs.Prelude.{◌≡◌, ◌<◌, true, false, IsTrue, MatchOption, OnOk, vec_len, vec_capacity};
+//! How the publisher enters a request, which its machine judges.
+ghost use Rattle.std.specs.Prelude.{◌≡◌, ◌<◌, true, false, IsTrue, OnOk, vec_len, vec_capacity};
 ghost use Rattle.tb_records.specs.Messages.{IsLawful};
 ghost use Rattle.tb_sessions.specs.Judged.{class_of};
 ghost use Rattle.tb_sessions.specs.declared.classes.Class.TheVariants as class;
 ghost use Rattle.tb_machine.specs.Histories.{answer_to, fits};
-ghost use Rattle.tb_published.specs.private.Entering.{AddsEntry, IsKnown, EntersBy};
+ghost use Rattle.tb_published.specs.private.Entering.{AddsEntry, EntersBy};
 
 use crate::faults::{TakeFault, Taken};
 use std::alloc::{AllocError, Global};
-use tb_machine::{Entry, Machine, status_of};
+use tb_machine::{Entry, Judged, Machine, status_of};
 use tb_records::Request;
 use tb_sessions::Class;
 
@@ -23,18 +23,6 @@ pub(crate) fn stored_commit(machine: &Machine<Global>, request: &Request) -> u64
         unreachable!()
     };
     reply.commit()
-}
-
-/// What becomes of a request that is not new; None where it is.
-pub(crate) fn known(machine: &Machine<Global>, request: &Request) -> Option<Taken>
-    ensures { MatchOption result (class_of machine.now.rows request.now ≡ class.New)
-        (IsKnown machine.now request.now) }
-{
-    match machine.class(request) {
-        Class::New => None,
-        Class::Repeat => Some(Taken::Repeat(stored_commit(machine, request))),
-        class => Some(Taken::Refused(status_of(class))),
-    }
 }
 
 /// Makes capacity for an entry behind a history, and has its copies share the request's body: the history, the publisher's machine
@@ -84,14 +72,15 @@ pub(crate) fn enter_into(
     ensures entered { EntersBy machine.old history.old.items request now result machine.new history.new.items }
     ensures lawful { IsLawful request }
 {
-    if let Some(taken) = known(machine, &request) {
-        return Ok(taken);
-    }
-    let Some(entry) = machine.next_entry(request, now) else {
-        return Err(TakeFault::TimeExhausted);
-    };
-    match add_to(global, machine, history, entry) {
-        Ok(commit) => Ok(Taken::Committed(commit)),
-        Err(AllocError) => Err(TakeFault::NoMemory),
+    match machine.judge(now, request) {
+        Judged::New(entry) => match add_to(global, machine, history, entry) {
+            Ok(commit) => Ok(Taken::Committed(commit)),
+            Err(AllocError) => Err(TakeFault::NoMemory),
+        },
+        Judged::NoTime => Err(TakeFault::TimeExhausted),
+        Judged::Known(Class::Repeat, request) => {
+            Ok(Taken::Repeat(stored_commit(machine, &request)))
+        }
+        Judged::Known(class, _) => Ok(Taken::Refused(status_of(class))),
     }
 }

@@ -12,22 +12,16 @@ use Rattle.tb_published.specs.declared.faults.Taken.TheVariants as taken
 use Rattle.tb_published.specs.declared.faults.TakeFault.{TakeFault}
 use Rattle.tb_published.specs.declared.faults.TakeFault.TheVariants as fault
 
--- a request that is not new: a repeat names the stored reply's entry, any other is refused by its class
-abbrev pub IsKnown : State → Message → Taken → Type 0
-IsKnown S r (taken.Committed c) = ⊥
-IsKnown S r (taken.Repeat c) = (class_of S.rows r ≡ Repeat) × (c ≡ (answer_to S r).commit) × IsLawful r
-IsKnown S r (taken.Refused s) = (class_of S.rows r ≢ New) × (class_of S.rows r ≢ Repeat) × (s ≡ status_of (class_of S.rows r))
-
 -- an entry comes behind the history and into the state, and its commit number is the answer; where there is no memory, both stay
 abbrev pub AddsEntry : State → List Entry → Entry → Result ℕ AllocError → State → List Entry → Type 0
 AddsEntry S h e result T m = MatchResult result (λ c. (c ≡ e.commit) × (T ≡ step S e) × (m ≡ h ++ e ∷ [])) (λ _. (T ≡ S) × (m ≡ h))
 
--- a new one has the next commit number, and the state is the one after its entry
+-- a new one has the next commit number, and the state is the one after its entry; a repeat names the stored reply's entry, and any other is refused by its class
 abbrev pub EntersBy : State → List Entry → Message → ℕ → Result Taken TakeFault → State → List Entry → Type 0
 EntersBy S h r now (Ok (taken.Committed c)) T m =
     (class_of S.rows r ≡ New) × (has_time S (now, r) ≡ true) × (c ≡ (entry_of S (now, r)).commit) × (T ≡ step S (entry_of S (now, r))) × (m ≡ h ++ entry_of S (now, r) ∷ [])
-EntersBy S h r now (Ok (taken.Repeat c)) T m = IsKnown S r (taken.Repeat c) × (T ≡ S) × (m ≡ h)
-EntersBy S h r now (Ok (taken.Refused s)) T m = IsKnown S r (taken.Refused s) × (T ≡ S) × (m ≡ h)
+EntersBy S h r now (Ok (taken.Repeat c)) T m = (class_of S.rows r ≡ Repeat) × (c ≡ (answer_to S r).commit) × IsLawful r × (T ≡ S) × (m ≡ h)
+EntersBy S h r now (Ok (taken.Refused s)) T m = (class_of S.rows r ≢ New) × (class_of S.rows r ≢ Repeat) × (s ≡ status_of (class_of S.rows r)) × (T ≡ S) × (m ≡ h)
 EntersBy S h r now (Err fault.NoMemory) T m = (class_of S.rows r ≡ New) × (has_time S (now, r) ≡ true) × (T ≡ S) × (m ≡ h)
 EntersBy S h r now (Err fault.TimeExhausted) T m = (class_of S.rows r ≡ New) × (has_time S (now, r) ≡ false) × (T ≡ S) × (m ≡ h)
 EntersBy S h r now (Err (fault.Unpublished c)) T m = ⊥

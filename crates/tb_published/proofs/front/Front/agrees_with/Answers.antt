@@ -1,7 +1,7 @@
-use Rattle.std.proofs.Common.{◌≡◌, ◌⊎◌, inl, inr, ⊎_elim, sym, ap, subst, List}
+use Rattle.std.proofs.Common.{inl, inr, ⊎_elim, sym, ap, subst, List}
 use mathlib.Core.List.{IsPrefix}
 use Rattle.tb_machine.specs.declared.entries.Entry.{Entry}
-use Rattle.tb_published.specs.private.Prefixes.{Prefix, Agree}
+use Rattle.tb_published.specs.private.Prefixes.{Prefix}
 use Rattle.tb_published.proofs.Prefixes.{prefix_either}
 use Rattle.tb_published.proofs.front.Front.agrees_with.Goals as goal
 

@@ -1,4 +1,4 @@
-use Rattle.std.proofs.Common.{◌≡◌, ◌≤◌, length, ap, arith}
+use Rattle.std.proofs.Common.{◌≤◌, length, ap, arith}
 use Rattle.tb_published.specs.private.Prefixes.{Prefix}
 use Rattle.tb_published.proofs.Shown.{shorter_begins, agree_back}
 use Rattle.tb_published.proofs.front.Front.longer.Goals as goal
