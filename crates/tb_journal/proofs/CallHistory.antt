@@ -18,10 +18,6 @@ use Rattle.tb_journal.specs.declared.memory.Failures.{Failures}
 cases_le : (k n : ℕ) → (k ≤ n) ⊎ (n + 1 ≤ k)
 cases_le k n = ⊎_elim (λ less. inr (omega (arith, less))) (λ le. inl le) (cases_lt n k)
 
-pub same_elapses : (first : List ℕ) (calls : List Call) (old new : List ℕ) (f g : Failures) (s t : Bool)
-    → Elapses (disk_after first calls old f s) (disk_after first calls new g t)
-same_elapses first calls old new f g s t = record { later = omega arith; nothing_else = λ t c le since. inl since; keeps = λ t c le since. since }
-
 -- the newest call comes first
 pub newest : (calls : List Call) (call : Call) → reverse (calls ++ call ∷ []) ≡ call ∷ reverse calls
 newest calls call = reverse-append calls (call ∷ [])

@@ -89,19 +89,6 @@ module _ (count at end len : ℕ) (file read : List ℕ) (there : end ≤ length
   abbrev left : ℕ
   left = end - at
 
-  -- where the end of the blocks is not reached
-  pub blocks_alone : length read ≤ left → 1 ≤ length read → ReadsAt count at shown read
-  blocks_alone short some =
-      let place : at + left ≡ end = omega (arith, short, some) in
-      let blocks : drop at (take end file) ≡ take left (drop at file) = ap (λ (k : ℕ). drop at (take k file)) (sym place) ∙ drop-take at left file in
-      let all : drop at shown ≡ take left (drop at file) ++ behind_blocks others = drop_within at (take end file) (behind_blocks others) (omega (arith, long, place)) ∙ ap (λ (l : List ℕ). l ++ behind_blocks others) blocks in
-      let few : count ≤ left = omega (arith, reads.counts, short) in
-      let long_left : length (take left (drop at file)) ≡ left = length-take-le left (drop at file) (omega (arith, length-drop at file, there, place)) in
-      record {
-        counts = omega (arith, reads.counts, short, length-drop at file, length-drop at shown, size, there, place);
-        bytes = reads.bytes ∙ sym (take-take count left (drop at file) few) ∙ sym (take_within count (take left (drop at file)) (behind_blocks others) (omega (arith, long_left, few))) ∙ ap (take count) (sym all);
-      }
-
   -- where it is
   module _ (into put : List ℕ) (told : ℕ) (room : left < length read) (enough : left ≤ count) (is : told ≡ min (length read) (max len (end + 4) - at)) where
     abbrev behind : List ℕ

@@ -5,10 +5,10 @@ use Rattle.tb_journal.specs.declared.hops.Hop.{Hop}
 use Rattle.tb_journal.specs.declared.hops.Hop.TheVariants as hops
 use Rattle.tb_journal.specs.declared.snapshots.Found.{Found}
 use Rattle.tb_journal.specs.Device.{ReadsAt}
-use Rattle.tb_journal.specs.Contents.{Ends, front, NotAJournal, contents}
+use Rattle.tb_journal.specs.Contents.{Ends, front, contents}
 use Rattle.tb_journal.specs.Scans.{BeginsWith}
 use Rattle.tb_journal.specs.Growing.{Later, Grown}
-use Rattle.tb_journal.specs.Snapshots.{Snapped, behind_blocks, LeadsTo, IsFinal, ShowsBlocks, ShowsAll, ShowsOf, IsHeld, TakesSnapshot, Refreshes}
+use Rattle.tb_journal.specs.Snapshots.{Snapped, behind_blocks, LeadsTo, ShowsBlocks, ShowsAll, ShowsOf, IsHeld, TakesSnapshot, Refreshes}
 use Rattle.tb_journal.specs.private.Hops.{LeadsFrom, HasPiece, IsFound, IsFoundOn, HopsOn, HopsSized, WasClosed, FindsLatch, FindsEnd, Grows, HopsFrom, Finds, FindsMore, ReadsBlocks}
 use Rattle.tb_journal.proofs.Growths.{final_later, later_same, later_then, leads_within, leads_kept, leads_later}
 use Rattle.tb_journal.proofs.Showing.{room, shown_length, shown_contents, shown_size, closed_before, shows_still, shows_more, held_grown, reads_ahead}
@@ -124,17 +124,6 @@ module _ (grows : List ℕ → Type 0) (a b : List ℕ) (before : Later a b) whe
 
 pub starts_leads : (file : List ℕ) → BeginsWith [] file → LeadsTo 8 file
 starts_leads file begins = inl (record { records = []; begins = begins; is = refl })
-
-pub found_foreign : (grows : List ℕ → Type 0) (bytes : List ℕ) → Grown grows bytes (λ later. contents later ≡ NotAJournal) → IsFound grows bytes (record { end = 0; len = 0; closed = false })
-found_foreign grows bytes first = record {
-  met = first.later;
-  after = first.after;
-  shown = first.later;
-  shows = record { final = subst IsFinal (sym first.has) tt; is = refl };
-  later = first.later;
-  since = later_same first.later;
-  now = first.now;
-}
 
 -- from a latch on that was closed
 
@@ -257,13 +246,6 @@ pub record IsSought (before now : List ℕ → Type 0) (from end : ℕ) (piece :
   pub some : 11 ≤ length piece
   pub leads : (bytes : List ℕ) → before bytes → LeadsTo from bytes → Grown now bytes (LeadsTo end)
   pub same : (bytes : List ℕ) → before bytes → Grown now bytes (λ later. Unit {0})
-
-pub sought_first : (before : List ℕ → Type 0) (from : ℕ) (piece : List ℕ) → 11 ≤ length piece → IsSought before before from from piece
-sought_first before from piece some = record {
-  some = some;
-  leads = λ bytes now leads. record { later = bytes; after = later_same bytes; now = now; has = leads };
-  same = λ bytes now. record { later = bytes; after = later_same bytes; now = now; has = tt };
-}
 
 module _ (before mid now : List ℕ → Type 0) (from end : ℕ) (piece : List ℕ) (sought : IsSought before mid from end piece) where
   pub sought_same : Grows mid now → Grows before now

@@ -66,9 +66,6 @@ later_then a b c first second = by (contents a) refl first
     by (Damaged at) is first = as_same first
     by (Records records) is first = later_extends records a c is (extends_then records a b c first second)
 
-pub grown_then : (grows : List ℕ → Type 0) (P : List ℕ → Type 0) (a b : List ℕ) → Later a b → Grown grows b P → Grown grows a P
-grown_then grows P a b first second = record { later = second.later; after = later_then a b second.later first second.after; now = second.now; has = second.has }
-
 -- a call at which nothing is appended
 pub same_grown : {grows : List ℕ → Type 0} {file : List ℕ} {P : List ℕ → Type 0} → grows file → P file → Grown grows file P
 same_grown {grows} {file} {P} now has = record { later = file; after = later_same file; now = now; has = has }

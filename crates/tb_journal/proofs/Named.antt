@@ -15,10 +15,6 @@ call_other fault named is = grind (arith, common_steps)
 pub sync_other : (fault : JournalFault) → IsOfSync fault → fault ≡ NotEmpty → ⊥
 sync_other fault named is = grind (arith, common_steps)
 
-pub calls_other : {T : Type 0} (result : Result T JournalFault) → IfErr result IsOfCall → IfErr result (λ fault. fault ≡ NotEmpty → ⊥)
-calls_other (Ok value) named = tt
-calls_other (Err fault) named = call_other fault named
-
 pub syncs_other : {T : Type 0} (result : Result T JournalFault) → IfErr result IsOfSync → IfErr result (λ fault. fault ≡ NotEmpty → ⊥)
 syncs_other (Ok value) named = tt
 syncs_other (Err fault) named = sync_other fault named

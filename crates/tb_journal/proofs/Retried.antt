@@ -1,5 +1,5 @@
 -- A call that is made again as long as a signal interrupts it.
-use Rattle.std.proofs.Common.{◌≡◌, ◌≢◌, ◌⊎◌, inl, inr, ⊎_elim, ℕ, ◌+◌, ◌-◌, ◌^◌, ◌<◌, ◌≤◌, List, length, take, drop, refl, sym, ◌∙◌, ap, subst, arith, Result, Ok, Err}
+use Rattle.std.proofs.Common.{◌≡◌, ◌≢◌, ◌⊎◌, inl, inr, ⊎_elim, ℕ, ◌+◌, ◌<◌, ◌≤◌, List, length, take, drop, sym, ◌∙◌, ap, subst, arith, Result, Ok, Err}
 use Rattle.std.specs.Prelude.{IsErrOf}
 use Rattle.std.specs.declared.io.ErrorKind.{ErrorKind}
 use Rattle.std.specs.declared.io.ErrorKind.TheVariants as kinds
@@ -7,7 +7,7 @@ use Rattle.tb_journal.specs.declared.faults.JournalFault.{JournalFault}
 use Rattle.tb_journal.specs.Device.{Disk, Only, Torn, Cut, Elapses, FailsNone, HasFailed, HasCause, IsLookedAt, Cuts, Syncs, overwritten}
 use Rattle.tb_journal.specs.System.{Counts, Changes, Preads, Pwrites, Ftruncates, Fdatasyncs, fault_of, sync_fault_of}
 use Rattle.tb_journal.specs.private.Posix.{ReadsSome, WritesSome}
-use Rattle.tb_journal.proofs.SystemCalls.{CountsNow, none_same, none_then, failed_then, elapses_same, elapses_then, looked_then, changes_then, torn_then, cut_then}
+use Rattle.tb_journal.proofs.SystemCalls.{CountsNow, none_then, failed_then, elapses_then, looked_then, changes_then, torn_then, cut_then}
 
 pub interrupted_is : {T : Type 0} (kind : ErrorKind) → kind ≡ kinds.Interrupted → IsErrOf {T = T} (Err kind) kinds.Interrupted
 interrupted_is kind is = ap (λ (k : ErrorKind). Err k) is
@@ -23,9 +23,6 @@ pub record Waits (before now : Disk) (first left tries : ℕ) : Type 0 where
   pub none : FailsNone before now
   pub fewer : left + tries ≤ first
 
-pub waits_none : (a : Disk) (n : ℕ) → Waits a a n n 0
-waits_none a n = record { none = none_same a; fewer = omega arith }
-
 pub waits_again : {T : Type 0} (fault : ErrorKind → JournalFault) (kind : ErrorKind) (a b c : Disk) (first left later tries : ℕ)
     → kind ≡ kinds.Interrupted → Counts {T = T} fault (Err kind) b c → later < left → Waits a b first left tries
     → Waits a c first later (tries + 1)
@@ -33,11 +30,6 @@ waits_again fault kind a b c first left later tries is counts less waits = recor
   none = none_then a b c waits.none (counts.interrupted (interrupted_is kind is));
   fewer = omega (arith, less, waits.fewer);
 }
-
--- 2^64 - 1 interruptions in a row do not come
-pub too_many : (a b : Disk) (first left tries : ℕ) → Waits a b first left tries → first < 2 ^ 64 - 1
-    → 18446744073709551615 ≤ tries → ⊥
-too_many a b first left tries waits ends given_up = omega (arith, waits.fewer, ends, given_up)
 
 ok_cause : {T U : Type 0} (fault : ErrorKind → JournalFault) (x : T) (y : U) (a b c : Disk) → FailsNone a b
     → Counts {T = T} fault (Ok x) b c → HasCause {T = U} (Ok y) a c
@@ -123,9 +115,6 @@ pub record IsPartlySynced (before now : Disk) : Type 0 where
   pub crash : (c : List ℕ) → now.may_leave c → before.may_leave c ⊎ (c ≡ before.seen)
   pub time : Elapses before now
   pub sound : now.sound ≡ before.sound
-
-pub partly_none : (a : Disk) → IsPartlySynced a a
-partly_none a = record { seen = refl; crash = λ x left. inl left; time = elapses_same a; sound = refl }
 
 module _ (a b c : Disk) (now : CountsNow a) (stays : a.may_leave a.seen) (partly : IsPartlySynced a b) where
   leaves : (later : (x : List ℕ) → c.may_leave x → b.may_leave x ⊎ (x ≡ b.seen)) (x : List ℕ) → c.may_leave x

@@ -236,6 +236,3 @@ reads_ahead count at file into some reads =
           (λ less. inr (reads.bytes ∙ take_all count (drop at file) (omega (arith, reads.counts, less, some))))
           (λ le. inl (omega (arith, le, long))) (cases_lt count 11);
     }
-
-pub reads_none : (at : ℕ) (shown into : List ℕ) → length shown ≤ at → ReadsAt 0 at shown into
-reads_none at shown into le = record { counts = omega (arith, le, length-drop at shown); bytes = refl }

@@ -1,15 +1,11 @@
 -- Calls on a system's file, one behind the other.
-use Rattle.std.proofs.Common.{◌≡◌, ◌⊎◌, inl, inr, ⊎_elim, ℕ, ◌+◌, ◌≤◌, List, length, take, drop, refl, sym, ◌∙◌, ap, subst, arith, Result, Ok, Err, length-take}
+use Rattle.std.proofs.Common.{◌≡◌, ◌⊎◌, inl, inr, ⊎_elim, ℕ, ◌+◌, ◌≤◌, List, length, take, drop, sym, ◌∙◌, ap, subst, arith, Result, Ok, Err, length-take}
 use Rattle.std.proofs.lemmas.List.{take-take}
-use Rattle.std.proofs.Math.Seq.{take-length}
 use Rattle.tb_journal.specs.declared.faults.JournalFault.{JournalFault}
 use Rattle.tb_journal.specs.Device.{Disk, Torn, Cut, Elapses, Rises, FailsNone, HasFailed, HasCause, IsLookedAt}
 use Rattle.tb_journal.specs.System.{Changes}
 
 -- failures
-
-pub none_same : (a : Disk) → FailsNone a a
-none_same a = λ fault. refl
 
 pub none_then : (a b c : Disk) → FailsNone a b → FailsNone b c → FailsNone a c
 none_then a b c first second = λ fault. second fault ∙ first fault
@@ -32,9 +28,6 @@ cause_then (Err fault) a b c none cause = record { ok = tt; cause = failed_then 
 abbrev pub CountsNow : Disk → Type 0
 CountsNow a = (t : ℕ) (x : List ℕ) → t ≤ a.moment → a.may_leave x → a.left_since t x
 
-pub elapses_same : (a : Disk) → Elapses a a
-elapses_same a = record { later = omega arith; nothing_else = λ t x le left. inl left; keeps = λ t x le left. left }
-
 -- what a crash may leave between two calls, it might have left before them, or may leave behind them
 pub elapses_then : (a b c : Disk) → ((t : ℕ) (x : List ℕ) → t ≤ a.moment → b.may_leave x → a.left_since t x ⊎ c.may_leave x)
     → Elapses a b → Elapses b c → Elapses a c
@@ -49,9 +42,6 @@ elapses_then a b c between first second = record {
 
 -- calls that look
 
-pub looked_same : (a : Disk) → IsLookedAt a a
-looked_same a = record { seen = refl; crash = λ x left. left; time = elapses_same a; sound = refl }
-
 pub looked_then : (a b c : Disk) → CountsNow a → IsLookedAt a b → IsLookedAt b c → IsLookedAt a c
 looked_then a b c now first second = record {
   seen = second.seen ∙ first.seen;
@@ -61,9 +51,6 @@ looked_then a b c now first second = record {
 }
 
 -- calls that change
-
-pub changes_same : (step : List ℕ → List ℕ → Type 0) (a : Disk) → ((x : List ℕ) → step x x) → Changes step a a
-changes_same step a here = record { crash = λ x left. (x, left, here x); still = λ x left. left; time = elapses_same a; sound = refl }
 
 pub changes_then : (step : List ℕ → List ℕ → Type 0) (a b c : Disk)
     → ((x y z : List ℕ) → step x y → step y z → step x z) → Changes step a b → Changes step b c → Changes step a c
@@ -88,9 +75,6 @@ changes_as step wider a b widens change = record {
 
 -- writes and cuts
 
-pub torn_none : (at n : ℕ) (x : List ℕ) → Torn at n x x
-torn_none at n x = record { before = refl; after = refl; no_shorter = omega arith; no_longer = omega arith }
-
 pub torn_then : (at n : ℕ) (x y z : List ℕ) → Torn at n x y → Torn at n y z → Torn at n x z
 torn_then at n x y z first second = record {
   before = second.before ∙ first.before;
@@ -109,9 +93,6 @@ torn_wider at k n m sum x y torn =
       no_shorter = torn.no_shorter;
       no_longer = omega (arith, torn.no_longer, far);
     }
-
-pub cut_none : (n : ℕ) (x : List ℕ) → Cut n x x
-cut_none n x = record { no_shorter = omega arith; front = take-length x }
 
 pub cut_then : (n : ℕ) (x y z : List ℕ) → Cut n x y → Cut n y z → Cut n x z
 cut_then n x y z first second =

@@ -1,12 +1,12 @@
 -- Whole reads and writes, of calls that take a part.
-use Rattle.std.proofs.Common.{◌≡◌, ◌⊎◌, ℕ, ◌+◌, ◌-◌, ◌^◌, ◌<◌, ◌≤◌, List, [], ◌++◌, length, take, drop, refl, sym, ◌∙◌, ap, subst, arith, append_assoc, length-append, length-take, length-drop, Result, Ok, Err}
-use Rattle.std.proofs.lemmas.List.{take-append-le, take-append-drop, take_all, length-take-le, drop-drop}
+use Rattle.std.proofs.Common.{◌≡◌, ℕ, ◌+◌, ◌-◌, ◌^◌, ◌<◌, ◌≤◌, List, ◌++◌, length, take, drop, sym, ◌∙◌, ap, subst, arith, append_assoc, length-append, length-take, length-drop, Result, Ok, Err}
+use Rattle.std.proofs.lemmas.List.{take-append-le, take_all, length-take-le, drop-drop}
 use Rattle.std.proofs.Math.Seq.{take-add, take-append-add, take-append_seam, drop-append-add}
 use Rattle.tb_journal.specs.declared.faults.JournalFault.{JournalFault}
-use Rattle.tb_journal.specs.Device.{Disk, Torn, FailsNone, IsLookedAt, Looks, ReadsAt, Writes, overwritten}
+use Rattle.tb_journal.specs.Device.{Disk, Torn, FailsNone, IsLookedAt, Looks, Writes, overwritten}
 use Rattle.tb_journal.specs.System.{Changes}
 use Rattle.tb_journal.specs.private.Posix.{ReadsSome, WritesSome}
-use Rattle.tb_journal.proofs.SystemCalls.{CountsNow, none_same, none_then, cause_then, looked_same, looked_then, changes_same, changes_then, changes_as, torn_none, torn_then, torn_wider}
+use Rattle.tb_journal.proofs.SystemCalls.{CountsNow, none_then, cause_then, looked_then, changes_then, changes_as, torn_then, torn_wider}
 
 -- reads
 
@@ -15,9 +15,6 @@ pub record HasReadSome (at count : ℕ) (into : List ℕ) (before now : Disk) : 
   pub looks : IsLookedAt before now
   pub none : FailsNone before now
   pub same : take count into ≡ take count (drop at before.seen)
-
-pub read_none : (at : ℕ) (into : List ℕ) (a : Disk) → HasReadSome at 0 into a a
-read_none at into a = record { looks = looked_same a; none = none_same a; same = refl }
 
 -- those that were read are there
 pub within_file : (at count : ℕ) (into file : List ℕ) → count ≤ length into → take count into ≡ take count (drop at file)
@@ -63,20 +60,6 @@ module _ (at count : ℕ) (into : List ℕ) (a b c : Disk) (now : CountsNow a) (
     cause = cause_then (Err why) a b c so_far.none reads.looks.cause;
   }
 
-  -- none are given where there is space: this is the end
-  pub read_ends : (part : List ℕ) → 1 ≤ length part → ReadsSome (at + count) part (Ok 0) b c → length a.seen ≤ at + count
-  read_ends part room reads =
-      let end : (length part ≡ 0) ⊎ (length b.seen ≤ at + count) = reads.end refl in
-      omega (arith, room, end, ap length so_far.looks.seen)
-
--- what was read is all, as there is no more space or nothing is left
-pub read_all : (at count : ℕ) (into file : List ℕ) → count ≤ length into → take count into ≡ take count (drop at file)
-    → (length into ≤ count) ⊎ (length file ≤ at + count) → ReadsAt count at file into
-read_all at count into file fits same why = record {
-  counts = omega (arith, fits, why, within_file at count into file fits same, length-drop at file);
-  bytes = same;
-}
-
 -- writes
 
 pub rest_is : (count : ℕ) (bytes : List ℕ) → take (length bytes - count) (drop count bytes) ≡ drop count bytes
@@ -112,16 +95,6 @@ pub record HasWrittenSome (at count : ℕ) (bytes : List ℕ) (before now : Disk
   pub seen : now.seen ≡ overwritten before.seen at (take count bytes)
   pub changes : Changes (Torn at (length bytes)) before now
   pub none : FailsNone before now
-
-over_none : (at : ℕ) (file : List ℕ) → overwritten file at [] ≡ file
-over_none at file = ap (λ (n : ℕ). take at file ++ drop n file) (omega arith) ∙ take-append-drop at file
-
-pub written_none : (at : ℕ) (bytes : List ℕ) (a : Disk) → HasWrittenSome at 0 bytes a a
-written_none at bytes a = record {
-  seen = sym (over_none at a.seen);
-  changes = changes_same (Torn at (length bytes)) a (torn_none at (length bytes));
-  none = none_same a;
-}
 
 module _ (at count : ℕ) (bytes : List ℕ) (a b : Disk) (within : at ≤ length a.seen) (some : count ≤ length bytes) (so_far : HasWrittenSome at count bytes a b) where
   long : length (take count bytes) ≡ count

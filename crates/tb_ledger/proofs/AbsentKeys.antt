@@ -1,5 +1,5 @@
 -- What a table knows of its keys.
-use Rattle.tb_ledger.proofs.Common.{◌≡◌, ◌≢◌, ℕ, ◌<◌, map, Bool, cond, eqb, ◌==◌, ltb, ◌&&◌, ◌||◌, get_or, length, true, false, List, [], ◌∷◌, find, is_some, Option, Some, None, IfSome, IfNone, subst, sym, refl, ◌∙◌, arith, nat_tests, false≢true, list_any, Mut, MutBor, put, replaced, Each, each-map, each-all, each-both, each-put, none-found, none-fails, AbsentIds, ChangedRow, ChangedRows, MayBeKey, unfound, without_id}
+use Rattle.tb_ledger.proofs.Common.{◌≡◌, ◌≢◌, ℕ, ◌<◌, map, Bool, cond, eqb, ◌==◌, ltb, ◌&&◌, ◌||◌, get_or, length, true, false, List, [], ◌∷◌, find, is_some, Option, Some, None, subst, sym, refl, ◌∙◌, arith, nat_tests, false≢true, list_any, put, replaced, Each, each-map, each-all, each-both, each-put, none-found, none-fails, AbsentIds, MayBeKey, unfound, without_id}
 
 -- a list of eight
 pub eight : {X : Type 0} (d : X) (xs : List X) → length xs ≡ 8 → xs ≡ get_or xs 0 d ∷ get_or xs 1 d ∷ get_or xs 2 d ∷ get_or xs 3 d ∷ get_or xs 4 d ∷ get_or xs 5 d ∷ get_or xs 6 d ∷ get_or xs 7 d ∷ []
@@ -77,19 +77,6 @@ module _ {V : Type 0} (key : V → ℕ) where
       by : (b : Bool) → eqb (key y) (key row) ≡ b → OfKeys P (replaced key row ys) → OfKeys P (cond b (row ∷ ys) (y ∷ replaced key row ys))
       by true e later = let same : key y ≡ key row = grind (arith, nat_tests) in (subst P same known.0, known.1)
       by false e later = (known.0, later)
-
-  -- where a row was changed, or none
-  pub known-changed_one : {F R : Type 0} (A : Type 0) (c : Mut F (MutBor V × Unit {0}) (R × (MutBor V × Unit {0}))) (id : ℕ) (P : ℕ → Type 0) (rows later : List V) (f f' : F) (o : Option R)
-      → IfSome o (λ r. ChangedRow key c id rows f r f' later) → IfNone o (A × (later ≡ rows)) → OfKeys P rows → OfKeys P later
-  known-changed_one A c id P rows later f f' (Some r) changed absent known = subst (OfKeys P) (sym changed.written) (known-replaced P changed.left rows known)
-  known-changed_one A c id P rows later f f' None changed absent known = subst (OfKeys P) (sym absent.1) known
-
-  -- where two rows were changed, or none
-  pub known-changed : {F R : Type 0} (A : Type 0) (c : Mut F (MutBor V × (MutBor V × Unit {0})) (R × (MutBor V × (MutBor V × Unit {0})))) (a b : ℕ) (P : ℕ → Type 0) (rows later : List V) (f f' : F) (o : Option R)
-      → IfSome o (λ r. ChangedRows key c a b rows f r f' later) → IfNone o (A × (f' ≡ f) × (later ≡ rows)) → OfKeys P rows → OfKeys P later
-  known-changed A c a b P rows later f f' (Some r) changed absent known =
-      subst (OfKeys P) (sym changed.written) (known-replaced P changed.other_left (replaced key changed.left rows) (known-replaced P changed.left rows known))
-  known-changed A c a b P rows later f f' None changed absent known = subst (OfKeys P) (sym absent.2) known
 
   -- a search
 

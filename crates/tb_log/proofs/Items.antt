@@ -1,38 +1,19 @@
 -- The items of a log, one more at a time.
-use Rattle.std.proofs.Common.{◌≡◌, ◌≢◌, ℕ, ◌+◌, ◌-◌, ◌^◌, ◌⊎◌, inl, inr, List, [], ◌∷◌, ◌++◌, length, fold, Option, Some, None, Result, Ok, Err, refl, sym, ap, subst, ◌∙◌, arith, append_assoc, append-nil, length-append}
+use Rattle.std.proofs.Common.{◌≡◌, ℕ, ◌+◌, ◌-◌, inl, inr, List, [], ◌∷◌, ◌++◌, length, Option, Some, None, Result, Ok, Err, refl, sym, ap, subst, ◌∙◌, arith, append_assoc, append-nil, length-append}
 use Rattle.std.specs.Io.KnownBytes.{Consumes}
 use Rattle.tb_records.specs.declared.limits.Profile.{Profile}
 use Rattle.tb_records.specs.Ordered.{Each}
-use Rattle.tb_records.specs.Transport.{Input, Output, Sent, CutOff}
-use Rattle.tb_machine.specs.Scripts.{Pair}
+use Rattle.tb_records.specs.Transport.{Input, Output, Sent}
 use Rattle.tb_machine.proofs.Legal.{fold_snoc}
 use Rattle.tb_machine.proofs.Rows.{each_snoc}
 use Rattle.tb_machine.proofs.Running.{sends_none, sends_then}
 use Rattle.tb_log.specs.declared.faults.LogFault.{LogFault}
-use Rattle.tb_log.specs.declared.faults.LogFault.TheVariants.{Device, NoMemory, UnknownKind, TooMany}
-use Rattle.tb_log.specs.Format.{content_of, checksum_of, summed, standing_item}
-use Rattle.tb_log.specs.Following.{Following, begun, with_pair, with_content, AreAnswered, replies_from, Item, Entry, Question, with_item, item_bytes, given_to, IsAnswered, after_items, bytes_of, given, AllAnswered}
-use Rattle.tb_log.specs.Entries.{Breaks, ReadsEntry, RefusesEntry}
-use Rattle.tb_log.specs.Follows.{Serves, ItemFits, Refuses, Halts, Ended, Followed}
-use Rattle.tb_log.specs.Steps.{Takes, WritesStanding, StopsEntry, ServesEntry, TakesItem, TakesNone}
+use Rattle.tb_log.specs.declared.faults.LogFault.TheVariants.{NoMemory}
+use Rattle.tb_log.specs.Format.{content_of, checksum_of, summed}
+use Rattle.tb_log.specs.Following.{Following, begun, Item, Entry, with_item, item_bytes, given_to, IsAnswered, after_items, bytes_of, given, AllAnswered}
+use Rattle.tb_log.specs.Follows.{ItemFits, Refuses, Halts, Ended, Followed}
+use Rattle.tb_log.specs.Steps.{Takes, ServesEntry, TakesItem, TakesNone}
 use Rattle.tb_log.proofs.Taking.{takes_then}
-
--- an entry
-
-pub entry_served : (F G : Following) (content : List ℕ) (before after : Input) (start written : Output) → ReadsEntry content F.position before after
-    → (ps : List Pair) × Serves ps (with_content F content) G content [] start written
-    → ServesEntry F G before after start written
-entry_served F G content before after start written read (ps, serves) = record {
-  pairs = ps;
-  read = subst (λ (bs : List ℕ). ReadsEntry bs F.position before after) same read;
-  fit = serves.fit;
-  answered = subst (λ (bs : List ℕ). AreAnswered (with_content F bs) ps) same serves.answered;
-  state = serves.state ∙ ap (λ (bs : List ℕ). fold with_pair (with_content F bs) ps) same;
-  sent = subst (λ (bs : List ℕ). Sent (replies_from (with_content F bs) 0 ps) start written) same serves.sent;
-}
-  where
-    same : content ≡ content_of ps
-    same = serves.spelled ∙ append-nil (content_of ps)
 
 -- an item by its first byte
 
@@ -46,39 +27,6 @@ entry_item F G a b c start written kind serves = record {
   state = serves.state;
   sent = serves.sent;
 }
-
-pub entry_fails : (fault : LogFault) (F : Following) (a b c : Input) (start written : Output) → Takes (1 ∷ []) a b
-    → (RefusesEntry fault F.position b c × (written ≡ start)) ⊎ StopsEntry fault F b c start written
-    → Refuses fault F a c start written
-entry_fails fault F a b c start written kind (inl (refused, silent)) =
-    inl (inr (inr (record { middle = b; kind = kind.consumed; counted = kind.counted; refused = refused })), silent)
-entry_fails fault F a b c start written kind (inr stopped) = inr (inl (record {
-  content = stopped.content;
-  few = stopped.read.few;
-  whole = stopped.whole;
-  read = (takes_then (1 ∷ []) (summed (F.position + 1) (checksum_of (F.position + 1) stopped.content) stopped.content) a b c kind
-      (record { consumed = stopped.read.bytes; counted = stopped.read.counted })).consumed;
-  counted = stopped.read.counted ∙ kind.counted;
-  stops = stopped.stops;
-}))
-
-pub question_item : (F : Following) (a b : Input) (start written : Output) → Takes (2 ∷ []) a b → WritesStanding (Ok tt) F start written → TakesItem F F a b start written
-question_item F a b start written kind wrote = record { item = Question; fit = tt; read = kind; answered = tt; state = refl; sent = wrote }
-
-pub question_fails : (fault : LogFault) (F : Following) (a b : Input) (start written : Output) → Takes (2 ∷ []) a b → WritesStanding (Err fault) F start written → Refuses fault F a b start written
-question_fails fault F a b start written kind wrote = inr (inr (record { read = kind.consumed; counted = kind.counted; failed = by fault wrote }))
-  where
-    by : (f : LogFault) → WritesStanding (Err f) F start written → ((f ≡ NoMemory) × (written ≡ start)) ⊎ ((f ≡ Device) × CutOff (standing_item F.position F.log F.replies) start written)
-    by NoMemory silent = inl (refl, silent)
-    by Device cut = inr (refl, cut)
-    by f none = absurd none
-
-pub unknown_item : (kind : ℕ) (F : Following) (a b : Input) (start written : Output) → Takes (kind ∷ []) a b → kind ≢ 1 → kind ≢ 2 → written ≡ start → Refuses (UnknownKind kind) F a b start written
-unknown_item kind F a b start written byte entry question silent =
-    inl (inr (inl (record { kind = kind; byte = byte.consumed; entry = entry; question = question; fault_is = refl; counted = byte.counted })), silent)
-
-pub item_breaks : (fault : LogFault) (F : Following) (a b : Input) (start written : Output) → Breaks fault a b → written ≡ start → Refuses fault F a b start written
-item_breaks fault F a b start written breaks silent = inl (inl breaks, silent)
 
 -- all items
 
@@ -169,9 +117,6 @@ module _ (profile : Profile) (clients_max : ℕ) where
 
     pub worked_halted : (fault : LogFault) → Halts fault w.items → Followed profile clients_max (Err fault) before middle start made
     worked_halted fault halts = ended (Err fault) middle made (inr (halts, refl, refl))
-
-    pub worked_many : k ≡ 2 ^ 64 - 1 → Followed profile clients_max (Err TooMany) before middle start made
-    worked_many is = worked_halted TooMany (w.count ∙ is)
 
   -- at the end nothing more was written, and what was written was passed on
   pub worked_out : (k : ℕ) (F G : Following) (before middle after : Input) (start made next passed : Output) (position : ℕ) → Working profile clients_max k F before middle start made

@@ -16,11 +16,6 @@ use Rattle.tb_log.specs.Steps.{Frames, Writes}
 use Rattle.tb_log.proofs.Pairs.{begins_on, begins_few}
 use Rattle.tb_log.specs.Follows.{Answers, Serves, Stops}
 
--- pairs leave the position as it is
-pub same_position : (F : Following) (ps : List Pair) → (fold with_pair F ps).position ≡ F.position
-same_position F [] = refl
-same_position F (p ∷ ps) = same_position (with_pair F p) ps
-
 answered_snoc : (F : Following) (ps : List Pair) (p : Pair) → AreAnswered F ps → IsTimely (fold with_pair F ps).state p → IsReply (answer_of (fold with_pair F ps) p) → AreAnswered F (ps ++ p ∷ [])
 answered_snoc F [] p all timely reply = (timely, reply, tt)
 answered_snoc F (q ∷ qs) p all timely reply = (all.0, all.1, answered_snoc (with_pair F q) qs p all.2 timely reply)

@@ -28,13 +28,6 @@ impl Chain {
         Chain { hash: [0; 32] }
     }
 
-    /// A hash that goes on from its 32 bytes.
-    pub fn from_bytes(hash: [u8; 32]) -> Chain
-        ensures { result ≡ hash }
-    {
-        Chain { hash }
-    }
-
     /// The 32 bytes.
     pub fn as_bytes(&self) -> &[u8; 32]
         ensures { result.now ≡ self.now }

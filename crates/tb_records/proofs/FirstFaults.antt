@@ -18,15 +18,6 @@ none_each (test ∷ tests) e = grind (arith, none_each tests)
 pub both_zero : (x y : ℕ) → not (x == 0 && y == 0) ≡ false → (x ≡ 0) × (y ≡ 0)
 both_zero x y e = grind (arith, nat_tests)
 
--- a number that is tested to be 0
-pub is_zero : (x : ℕ) → not (x == 0) ≡ false → x ≡ 0
-is_zero x e = grind (arith, nat_tests)
-
--- where no test holds there is no fault
-pub all_none : (tests : List (Bool × FrameFault)) → NoneHolds tests → first_fault tests ≡ None
-all_none [] h = refl
-all_none (test ∷ tests) h = grind (arith, all_none tests)
-
 -- a fault among the first tests is that of all
 pub first_fault-some : (tests more : List (Bool × FrameFault)) (f : FrameFault) → first_fault tests ≡ Some f → first_fault (tests ++ more) ≡ Some f
 first_fault-some [] more f e = cc

@@ -1,5 +1,5 @@
 -- Buffers that are filled or emptied piece by piece, and counts that rise.
-use Rattle.std.proofs.Common.{◌≡◌, ℕ, ◌*◌, [], ◌∷◌, get_or, flat_map, All, refl, subst, Option, true, false, ◌+◌, ◌-◌, ◌<◌, ◌≤◌, min, List, ◌++◌, length, take, drop, ◌==◌, sym, ap, ◌∙◌, arith, length-append}
+use Rattle.std.proofs.Common.{◌≡◌, ℕ, ◌*◌, [], ◌∷◌, get_or, flat_map, All, subst, Option, ◌+◌, ◌-◌, ◌<◌, ◌≤◌, min, List, ◌++◌, length, take, drop, sym, ap, ◌∙◌, arith, length-append}
 use Rattle.std.proofs.lemmas.List.{take-append-le, take-append-drop, take_min, drop_more}
 use Rattle.std.proofs.lemmas.Grind.{common_steps, flat_map-append}
 use Rattle.std.proofs.lemmas.List.Elements.{All-append, All-cons, All-nil}
@@ -10,12 +10,11 @@ use Rattle.tb_records.proofs.ItemBytes.{length_items}
 use Rattle.tb_records.specs.declared.faults.FrameFault.{FrameFault}
 use Rattle.tb_records.specs.declared.faults.FrameFault.TheVariants.{Short, Device}
 use Rattle.std.proofs.Math.Seq.{take-add, take-append-add}
-use Rattle.std.proofs.lemmas.Bool.{ne_eqb}
 use Rattle.std.proofs.lemmas.Bool.Decides.{nat_tests}
 use Rattle.std.proofs.lemmas.Slice.{between_to_end}
 use Rattle.std.specs.List.{between}
 use borrow.Rule.Slice.PartMut.{put_mid}
-use Rattle.tb_records.specs.Transport.{Input, Output, Fails, Takes, Refuses, CutOff}
+use Rattle.tb_records.specs.Transport.{Output, Takes, Refuses, CutOff}
 use Rattle.tb_records.specs.private.Reading.{ReadFault, BodyFault}
 
 -- a beginning that was filled, and then a part of the rest
@@ -26,17 +25,9 @@ filled at n k xs ys h hn = grind (arith, common_steps, take-append-add, take-app
 pub taken : (at n end : ℕ) (xs : List ℕ) → length xs ≤ end → take (at + n) xs ≡ take at xs ++ take n (between at end xs)
 taken at n end xs h = grind (arith, take-add, between_to_end)
 
--- an error behind answers that were none
-pub fails_since : (old mid new : Input) → mid.failed ≡ old.failed → Fails mid new → Fails old new
-fails_since old mid new same fails = grind arith
-
 -- a writer that takes something does not stall
 pub flows : (n : ℕ) (bytes : List ℕ) (mid new : Output) → (n ≡ 0 → ⊥) → Takes n bytes mid new → new.stalled ≡ mid.stalled
 flows n bytes mid new h takes = grind (arith, nat_tests)
-
--- a writer that takes nothing of bytes that are some stalls
-pub stalls : (n : ℕ) (bytes : List ℕ) (mid new : Output) → n ≡ 0 → 0 < length bytes → Takes n bytes mid new → Refuses mid new
-stalls n bytes mid new none some takes = grind (arith, nat_tests)
 
 -- a refusal behind answers that were none
 pub refuses_since : (old mid new : Output) → mid.failed ≡ old.failed → mid.stalled ≡ old.stalled → Refuses mid new → Refuses old new
@@ -81,10 +72,6 @@ spellings_in spelling front part rest items parts = grind (arith, flat_map-appen
 -- two parts of a row, cut at one place
 pub rejoined : {X : Type 0} (n : ℕ) (xs front more : List X) → front ≡ take n xs → more ≡ drop n xs → front ++ more ≡ xs
 rejoined n xs front more e f = grind (arith, take-append-drop)
-
-pub none_left : {X : Type 0} (xs : List X) → true ≡ (length xs == 0) → xs ≡ []
-none_left [] none = refl
-none_left (x ∷ xs) none = let never : true ≡ false = none ∙ ne_eqb (length (x ∷ xs)) 0 (omega arith) in absurd (cc)
 
 -- items of one size
 pub length-items : {X : Type 0} (spelling : X → List ℕ) (size : ℕ) (items : List X) → ((x : X) → length (spelling x) ≡ size) → length (flat_map spelling items) ≡ length items * size

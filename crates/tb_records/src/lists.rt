@@ -26,14 +26,6 @@ impl<T: Drop> Items<T> {
         Items { items }
     }
 
-    /// The items, as a vector.
-    pub fn into_vec(self) -> Vec<T>
-        ensures { result.items ≡ self }
-    {
-        let Items { items } = self;
-        items
-    }
-
     /// The items.
     pub fn as_slice(&self) -> &[T]
         ensures { result.now ≡ self.now }

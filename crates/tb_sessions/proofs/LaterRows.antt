@@ -1,7 +1,7 @@
 -- What holds of each row through an admission.
-use Rattle.std.proofs.Common.{◌≡◌, ℕ, ◌<◌, ◌+◌, ◌==◌, true, false, cond, List, Option, Some, None, is_some, arith}
+use Rattle.std.proofs.Common.{◌≡◌, ℕ, ◌==◌, true, false, cond, List, Option, Some, None, is_some}
 use Rattle.tb_records.specs.Ordered.{Each, put, replaced, taken_out}
-use Rattle.tb_records.proofs.ByKey.{each-map, each-put, each-replaced_all, each-taken_out, none-found, none-fails}
+use Rattle.tb_records.proofs.ByKey.{each-put, each-replaced_all, each-taken_out, none-found, none-fails}
 use Rattle.tb_sessions.specs.declared.rows.Row.{Row}
 use Rattle.tb_sessions.specs.Judged.{client_of, row_of}
 use Rattle.tb_sessions.specs.Admission.{driven_out, without, admitted}
@@ -16,10 +16,6 @@ each_admitted P clients_max rows row here each =
       | true ↦ each-replaced_all client_of P row rows here each
       | false ↦ each-put client_of P row (without (driven_out clients_max rows) rows) here (each_without P (driven_out clients_max rows) rows each)
     ]
-
--- no row is later than the one that was taken in
-pub later_admitted : (clients_max : ℕ) (rows : List Row) (row : Row) (commit : ℕ) → row.commit ≡ commit → Each (λ (other : Row). other.commit < commit) rows → Each (λ (other : Row). other.commit < commit + 1) (admitted clients_max rows row)
-later_admitted clients_max rows row commit is each = each_admitted (λ (other : Row). other.commit < commit + 1) clients_max rows row (omega (arith, is)) (each-map (λ (other : Row). other.commit < commit) (λ (other : Row). other.commit < commit + 1) rows (λ other less. omega (arith, less)) each)
 
 -- a client without a row has none where another's is taken out
 pub absent_without : (rows : List Row) (client gone : ℕ) → row_of rows client ≡ None → row_of (taken_out client_of gone rows) client ≡ None
