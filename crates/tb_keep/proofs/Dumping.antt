@@ -1,5 +1,5 @@
 -- What is read of a file and sent as a dump.
-use Rattle.std.proofs.Common.{rules, arith, ℕ, zero, suc, ◌≡◌, ◌≤◌, ◌<◌, ◌+◌, ◌-◌, inr, true, false, List, [], ◌∷◌, ◌++◌, length, drop, Result, Ok, Err, refl, sym, ap, ◌∙◌, subst, append_assoc, append-nil, length-append}
+use Rattle.std.proofs.Common.{rules, arith, ℕ, zero, suc, ◌≡◌, ◌+◌, ◌-◌, inr, true, false, List, [], ◌∷◌, ◌++◌, length, drop, Result, Ok, Err, refl, sym, ap, ◌∙◌, subst, append_assoc, append-nil, length-append}
 use Rattle.std.proofs.lemmas.Grind.{common_steps}
 use Rattle.tb_records.specs.declared.faults.FrameFault.{FrameFault}
 use Rattle.tb_records.specs.DumpBytes.{head_bytes}
@@ -15,7 +15,7 @@ use Rattle.tb_keep.specs.declared.faults.StartFault.TheVariants as start
 use Rattle.tb_keep.specs.declared.recovering.Rules.{Rules}
 use Rattle.tb_keep.specs.Reading.{RulesIn, RulesAnswer, joined, behind_head, dump_with, Dumps}
 use Rattle.tb_keep.specs.private.Entering.{FindsRules}
-use Rattle.tb_keep.specs.Following.{entries_above, WritesEntries, EntriesOnce}
+use Rattle.tb_keep.specs.Following.{entries_above, EntriesOnce}
 use Rattle.tb_keep.specs.private.Sending.{SendsNext, SendsAll}
 
 pub finds_rules : (result : Result Rules StartFault) (file head : List ℕ) (scan : ScanState) → HasRead (head ∷ []) file scan → RulesIn result head → FindsRules result scan file
@@ -56,19 +56,6 @@ entries_once after read more later =
     ∙ ap joined (sym (drop_join n more later))
 
 -- one record: it is passed over, or sent
-
-passed_over : (n : ℕ) (bytes : List ℕ) → 1 ≤ n → joined (drop n (bytes ∷ [])) ≡ []
-passed_over zero bytes some = absurd (omega (arith, some))
-passed_over (suc n) bytes some = ap joined (drop_none n)
-
-pub none_above : (commit after : ℕ) (bytes : List ℕ) (old : Output) → commit ≤ after → Sent (joined (drop (after + 1 - commit) (bytes ∷ []))) old old
-none_above commit after bytes old early = subst (λ (l : List ℕ). Sent l old old) (sym (passed_over (after + 1 - commit) bytes (omega (arith, early)))) (sends_none old)
-
-pub one_above : (commit after : ℕ) (bytes : List ℕ) (old new : Output) (result : Result (Unit {0}) FrameFault) → after < commit → IsSent result bytes old new
-    → IsSent result (joined (drop (after + 1 - commit) (bytes ∷ []))) old new
-one_above commit after bytes old new result late sent =
-    let none : 0 ≡ after + 1 - commit = omega (arith, late) in
-    subst (λ (l : List ℕ). IsSent result l old new) (sym (append-nil bytes) ∙ ap (λ (n : ℕ). joined (drop n (bytes ∷ []))) none) sent
 
 -- one more record was sent, or a prefix of it
 send_one : (after : ℕ) (read front : List (List ℕ)) (bytes : List ℕ) (old mid new : Output) → Sent (entries_above after read front) old mid → (result : Result (Unit {0}) FrameFault)
@@ -111,15 +98,6 @@ module _ (after : ℕ) (read records : List (List ℕ)) (file : List ℕ) (scan 
   )
 
 -- how many they are
-
-pub writes_not : (fault : DumpFault) (after : ℕ) (read : List (List ℕ)) (file : List ℕ) (scan : ScanState) (old new : Output)
-    → SendsAll (Err fault) after read file scan old new → WritesEntries (Err fault) after read file scan old new
-writes_not (dump.Journal f) after read file scan old new sends = sends
-writes_not (dump.Writer f) after read file scan old new sends = sends
-
-pub wrote_entries : (count after : ℕ) (read : List (List ℕ)) (file : List ℕ) (scan : ScanState) (old new : Output) → count ≡ scan.count - 1
-    → SendsAll (Ok tt) after read file scan old new → WritesEntries (Ok count) after read file scan old new
-wrote_entries count after read file scan old new is (more, reads, at, sent) = (more, reads, at, is ∙ ap (λ (n : ℕ). n - 1) at.count, sent)
 
 -- a head and records behind it
 

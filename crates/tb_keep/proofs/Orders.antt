@@ -1,5 +1,5 @@
 -- Records whose entries are in order, by their numbers and times.
-use Rattle.std.proofs.Common.{arith, ℕ, suc, ◌≡◌, ◌+◌, ◌<◌, ◌≤◌, ◌^◌, Bool, true, cond, not, ◌==◌, ◌&&◌, fold, List, [], ◌∷◌, ◌++◌, map, length, Some, None, Ok, Err, refl, sym, ap, ◌∙◌, subst, append_assoc, append-nil, length-append}
+use Rattle.std.proofs.Common.{arith, ℕ, suc, ◌≡◌, ◌+◌, ◌<◌, ◌≤◌, ◌^◌, Bool, true, cond, not, ◌==◌, ◌&&◌, fold, List, [], ◌∷◌, ◌++◌, map, length, Some, None, Ok, Err, refl, sym, ap, ◌∙◌, subst, append_assoc, length-append}
 use Rattle.std.proofs.lemmas.Grind.{common_steps}
 use Rattle.std.proofs.lemmas.List.{length-map}
 use Rattle.std.specs.Prelude.{nat_le}
@@ -42,9 +42,6 @@ order_snoc place time (x ∷ xs) e are next =
     let here : place + suc (length xs) ≡ place + 1 + length xs = omega arith in
     (are.0, order_snoc (place + 1) x.time xs e are.1 (subst (λ (n : ℕ). misplaced n (last_time x.time xs) e ≡ None) here next))
 
-pub ordered_none : (place time : ℕ) → AreOrdered place time [] time
-ordered_none place time = record { entries = []; in_order = tt; recorded_are = tt; spelled = refl; last_is = refl }
-
 pub ordered_more : (place time last next : ℕ) (records : List (List ℕ)) (bytes : List ℕ) → AreOrdered place time records last
     → ReadsPlaced (Ok next) (place + length records) last bytes → AreOrdered place time (records ++ bytes ∷ []) next
 ordered_more place time last next records bytes are (e, is, fits, time_is) =
@@ -61,9 +58,6 @@ ordered_more place time last next records bytes are (e, is, fits, time_is) =
 -- records that were read: so far these are in order
 abbrev pub Passing : List (List ℕ) → List ℕ → ScanState → ℕ → Type 0
 Passing read file scan time = (records : List (List ℕ)) × HasRead (read ++ records) file scan × AreOrdered (length read) 0 records time
-
-pub passing_none : (read : List (List ℕ)) (file : List ℕ) (scan : ScanState) → HasRead read file scan → Passing read file scan 0
-passing_none read file scan has = ([], subst (λ (r : List (List ℕ)). HasRead r file scan) (sym (append-nil read)) has, ordered_none (length read) 0)
 
 module _ (read records : List (List ℕ)) (file : List ℕ) (scan : ScanState) (time : ℕ) (are : AreOrdered (length read) 0 records time) where
   pub passing_more : (next : ℕ) → PassesNext (Ok (Some next)) time (read ++ records) file scan → Passing read file scan next
