@@ -83,6 +83,8 @@ class Run:
                 self.steps(slower(self.all_steps, factor))
             finally:
                 self.connections.close()
+                for server in servers.values():
+                    server.close()
         return self.unrepresentable
 
     def steps(self, steps):

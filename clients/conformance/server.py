@@ -19,12 +19,17 @@ class Failed(Exception):
 
 
 class Server:
-    """One listening socket, at a Unix path or at a port of the loopback interface."""
+    """One listening socket, at a Unix path or at a port of the loopback interface. The port is its
+    own until `close`, also while it does not listen: else another scenario's server may get it, and
+    this one's client calls that."""
 
     def __init__(self, name, folder, over, context=None):
         self.name, self.over, self.context = name, over, context
         self.path = os.path.join(folder, f"{name}.sock")
-        self.port, self.socket = 0, None
+        self.port, self.holder, self.socket = 0, None, None
+        if over != "unix":
+            self.holder = bound_to(0)
+            self.port = self.holder.getsockname()[1]
         self.listen()
 
     def listen(self):
@@ -34,11 +39,13 @@ class Server:
             self.socket = socket.socket(socket.AF_UNIX)
             self.socket.bind(self.path)
         else:
-            self.socket = socket.socket(socket.AF_INET)
-            self.socket.setsockopt(socket.SOL_SOCKET, socket.SO_REUSEADDR, 1)
-            self.socket.bind(("127.0.0.1", self.port))
-            self.port = self.socket.getsockname()[1]
+            self.socket = bound_to(self.port)
         self.socket.listen(16)
+
+    def close(self):
+        self.unlisten()
+        if self.holder is not None:
+            self.holder.close()
 
     def unlisten(self):
         """Ends it for everyone: a process that another thread starts has its descriptor for a
@@ -64,6 +71,14 @@ class Server:
         if self.over == "unix":
             return {"unix": self.path}
         return {"host": "127.0.0.1", "port": self.port}
+
+
+def bound_to(port):
+    """A socket at a port of the loopback interface, or at a free one, that does not listen."""
+    it = socket.socket(socket.AF_INET)
+    it.setsockopt(socket.SOL_SOCKET, socket.SO_REUSEADDR, 1)
+    it.bind(("127.0.0.1", port))
+    return it
 
 
 def readable(it, seconds):

@@ -324,6 +324,19 @@ class Kit(unittest.TestCase):
                     client.connect(at)
                 os.close(copy)
 
+    def test_the_port_of_a_server_that_listens_no_more(self):
+        """Nobody else gets it, so that no client calls another scenario's server; it listens there
+        again."""
+        with tempfile.TemporaryDirectory() as folder, socket.socket() as other:
+            server = Server("a", folder, "tcp")
+            at = ("127.0.0.1", server.port)
+            server.unlisten()
+            with self.assertRaises(OSError):
+                other.bind(at)
+            server.listen()
+            socket.create_connection(at).close()
+            server.close()
+
 
 class Waiting(unittest.TestCase):
     """How long the kit waits: seconds of an idle client, more for one without a processor."""
