@@ -24,8 +24,7 @@ are wrong.
 Time in which the client waits for a processor is not counted. If a scenario whose client has to
 keep a short limit fails, it is tried again with times 10 times as long, then 40 times: on a busy
 computer a right client may miss a short limit, and a wrong one misses all. While the client waits
-for a processor there are up to 9 tries. A drawn scenario that fails is tried once more. Scenarios
-that were tried again are named at the end.
+for a processor there are up to 9 tries. Scenarios that were tried again are named at the end.
 """
 import argparse
 import fnmatch
@@ -139,9 +138,9 @@ class Kit:
             print(f"    with fewer steps: {why}", flush=True)
 
     def tried(self, run, runner):
-        """Runs a scenario until it passes, a timed one by one factor after another, a drawn one
-        twice. The last one's failure counts."""
-        factors = FACTORS if run.is_timed else FACTORS[:1] * (2 if "seed" in run.scenario else 1)
+        """Runs a scenario until it passes, a timed one by one factor after another. The last one's
+        failure counts."""
+        factors = FACTORS if run.is_timed else FACTORS[:1]
         for at in range(TRIES):
             factor, before = factors[min(at, len(factors) - 1)], runner.waited()
             try:
@@ -288,7 +287,7 @@ def report(kit, said, chosen, seconds):
     if kit.unrepresentable:
         print(f"{kit.unrepresentable} values are refused by the types of {said.get('language')}")
     if kit.repeated:
-        print(f"tried again, timed ones with longer times: {', '.join(sorted(set(kit.repeated)))}")
+        print(f"tried again with longer times: {', '.join(sorted(set(kit.repeated)))}")
     skipped = sum(map(len, kit.skipped.values()))
     if kit.passed + len(kit.failed) + skipped != chosen and not kit.given.first:
         print(f"FAILED: {chosen} scenarios were to run")
