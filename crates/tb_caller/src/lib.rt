@@ -3,7 +3,6 @@
 //! - `faults`: `CallFault`, why a call makes no request; `FieldFault`, why stored fields are those of no client.
 //! - `callers`: `Caller`, the state of a session, which calls and replies move on, as values or as frames.
 //! - `laws`: the laws of a client, a network and a server: functions that do nothing.
-//! - `tests`: one client by frames, and stored fields.
 //!
 //! specs/Clients is the model of `Caller`: what each call and each reply makes of it.
 #![tactic(auto)]
@@ -11,8 +10,6 @@
 mod callers;
 mod faults;
 pub mod laws;
-#[cfg(test)]
-mod tests;
 
 pub use callers::{Caller, Heard, Phase};
 pub use faults::{CallFault, FieldFault};

@@ -162,15 +162,13 @@ fn receive(alloc: Global, caller: &mut Caller, bytes: &[u8]) -> Result<Outcome, 
 }
 
 /// The frame of the request that waits, or was left in doubt.
-fn frame_of(alloc: Global, phase: &Phase) -> Result<Vec<u8>, AllocError>
-    ensures { IfOk result (λ frame. frame.items ≡ phase_frame phase.now) }
+fn frame_of(alloc: Global, caller: &Caller) -> Result<Vec<u8>, AllocError>
+    ensures { IfOk result (λ frame. frame.items ≡ phase_frame caller.now.phase) }
 {
     let mut frame = Vec::new(alloc);
-    match phase {
-        Phase::Open(request) => write_request(request, &mut frame)?,
-        Phase::Ended(request) => write_request(request, &mut frame)?,
-        Phase::Unregistered => {}
-        Phase::Idle => {}
+    caller.again(&mut frame)?;
+    if let Phase::Ended(request) = caller.phase() {
+        write_request(request, &mut frame)?;
     }
     Ok(frame)
 }
@@ -179,7 +177,7 @@ fn frame_of(alloc: Global, phase: &Phase) -> Result<Vec<u8>, AllocError>
 fn answer_of(alloc: Global, outcome: Outcome, caller: &Caller) -> Result<Vec<u8>, AllocError>
     ensures { IfOk result (λ bytes. bytes.items ≡ answer_bytes outcome caller.now) }
 {
-    let frame = frame_of(alloc, caller.phase())?;
+    let frame = frame_of(alloc, caller)?;
     let mut bytes = Vec::new(alloc);
     bytes.extend_from_slice(&caller.id().to_le_bytes())?;
     bytes.extend_from_slice(&caller.session().to_le_bytes())?;
