@@ -145,7 +145,7 @@ module _ {D : Type 0} (its : devices.Ghosts D) where
   -- the same of one over a file in which a log is to be: none is created
   pub record Takes (result : Result (Keeping D) (NotStarted D)) (rules : Rules) (device : D) : Type 0 where
     pub answers : MatchResult result (λ keeper. (its.disk device).sound ≡ true → IsOpened its.disk (its.disk device).seen keeper)
-        (λ failed. log.IsRefused failed.fault rules.profile rules.clients_max (its.disk device) (its.disk failed.device))
+        (λ failed. log.IsLogRefused failed.fault rules.profile rules.clients_max (its.disk device) (its.disk failed.device))
     pub cause : HasLogCause (why_left result) (its.disk device) (its.disk (device_left result))
     pub any_moment : (its.disk device).sound ≡ true → LeavesOnly (its.disk device) (its.disk (device_left result)) (MayBeOpened (its.disk device))
 

@@ -18,7 +18,7 @@ use Rattle.tb_keep_log.specs.declared.faults.KeepLogFault.{KeepLogFault}
 use Rattle.tb_keep_log.specs.declared.faults.KeepLogFault.TheVariants as keep
 use Rattle.tb_keep_log.specs.Keeping.{record_of, records_from, IsKept}
 use Rattle.tb_keep_log.specs.Items.{Point, point, Turns, IsUncommitted, Halts, AreTooMany, Served}
-use Rattle.tb_keep_log.specs.Laws.{GoesOn, OpenedGoesOn, HasFirst, AfterKill, AnyCrash, WhileCommitting, TellsTheDone, WhileTelling}
+use Rattle.tb_keep_log.specs.Laws.{FollowsFurther, OpenedGoesOn, HasFirst, AfterKill, AnyCrash, WhileCommitting, TellsTheDone, WhileTelling}
 use Rattle.tb_keep_log.proofs.Leading.{records_join, answered_join, leads_then}
 
 -- going on
@@ -35,7 +35,7 @@ given_join F (x ∷ xs) ys =
     ap (λ (bs : List ℕ). given_to F x ++ bs) (given_join (with_item F x) xs ys)
     ∙ sym (append_assoc (given_to F x) (given (with_item F x) xs) (given (after_items (with_item F x) xs) ys))
 
-pub goes_on : GoesOn
+pub goes_on : FollowsFurther
 goes_on F read more = (bytes_join F read more, given_join F read more, fold_append with_item F read more)
 
 pub opened_goes_on : OpenedGoesOn

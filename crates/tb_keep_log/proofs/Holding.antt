@@ -9,7 +9,7 @@ use Rattle.tb_log.specs.declared.faults.LogFault.TheVariants.{Device, NoMemory, 
 use Rattle.tb_log.specs.Format.{content_max, content_of}
 use Rattle.tb_log.specs.Following.{Following, with_pair, with_content, AreAnswered, replies_from}
 use Rattle.tb_log.specs.Entries.{IsNoPairs}
-use Rattle.tb_log.specs.Follows.{Answers, Serves, Stops}
+use Rattle.tb_log.specs.Follows.{AnswersIndexed, ServesItems, Stops}
 use Rattle.tb_keep_log.specs.declared.faults.LogStartFault.{LogStartFault}
 use Rattle.tb_keep_log.specs.declared.faults.LogStartFault.TheVariants as start
 use Rattle.tb_keep_log.specs.Keeping.{record_bytes}
@@ -17,7 +17,7 @@ use Rattle.tb_keep_log.specs.Rereading.{StopsAt, HasMark, RefusesContent, Refuse
 use Rattle.tb_keep_log.specs.private.Steps.{in_memory, of_log, HoldsEntry, DropsEntry, Enters}
 
 pub holds_entry : (content held : List ℕ) (F G : Following) (start written : Output) → length content ≤ content_max → start.written ≡ Some [] → written.written ≡ Some held
-    → (ps : List Pair) × Serves ps (with_content F content) G content [] start written
+    → (ps : List Pair) × ServesItems ps (with_content F content) G content [] start written
     → HoldsEntry content held F G
 holds_entry content held F G start written few none is (ps, serves) = record {
   pairs = ps;
@@ -37,7 +37,7 @@ holds_entry content held F G start written few none is (ps, serves) = record {
         (subst (λ (o : Option (List ℕ)). Appends o written.written (replies_from (with_content F content) 0 ps)) none serves.sent.grown)
 
 never : (fault : LogFault) (F : Following) (content : List ℕ) (start written : Output) → (fault ≡ NoMemory → ⊥)
-    → ((index : ℕ) (G H : Following) (p : Pair) (a b : Output) → Answers index (Err fault) G H p a b → ⊥)
+    → ((index : ℕ) (G H : Following) (p : Pair) (a b : Output) → AnswersIndexed index (Err fault) G H p a b → ⊥)
     → Stops fault F content start written
     → ⊥
 never fault F content start written not none stops =

@@ -13,8 +13,8 @@ use Rattle.tb_log.specs.declared.faults.LogFault.{LogFault}
 use Rattle.tb_log.specs.declared.faults.LogFault.TheVariants as log
 use Rattle.tb_log.specs.Format.{content_of, checksum_of, summed}
 use Rattle.tb_log.specs.Following.{Following, Item, Entry, Question, with_item}
-use Rattle.tb_log.specs.Entries.{Breaks, IsPairs, ReadsEntry}
-use Rattle.tb_log.specs.Steps.{Takes}
+use Rattle.tb_log.specs.Entries.{ReaderFails, IsPairs, ReadsEntry}
+use Rattle.tb_log.specs.Steps.{ReadsOnly}
 use Rattle.tb_log.proofs.Taking.{takes_then}
 use Rattle.tb_keep.specs.Rounds.{Commits}
 use Rattle.tb_keep_log.specs.declared.faults.KeepLogFault.{KeepLogFault}
@@ -22,7 +22,7 @@ use Rattle.tb_keep_log.specs.declared.faults.KeepLogFault.TheVariants as keep
 use Rattle.tb_keep_log.specs.Keeping.{record_bytes, record_of}
 use Rattle.tb_keep_log.specs.Rereading.{IsHaltedContent}
 use Rattle.tb_keep_log.specs.Items.{point, IsHalted, RefusesItem, IsRead, Turn, IsUncommitted, Halts}
-use Rattle.tb_keep_log.specs.private.Steps.{DropsEntry, TakesEntry, MissesEntry, TellsBytes, Answers, IsPut, IsUnput, PutsAndTells, ReadsWhole, KeepsEntry, FailsEntry, EntersEntry}
+use Rattle.tb_keep_log.specs.private.Steps.{DropsEntry, TakesEntry, MissesEntry, TellsBytes, AnswersStanding, IsPut, IsUnput, PutsAndTells, ReadsWhole, KeepsEntry, FailsEntry, EntersEntry}
 
 -- an entry that is taken
 
@@ -77,8 +77,8 @@ module _ (tells : Type 0) {D : Type 0} (disk : D → Disk) (profile : Profile) (
 
   -- an entry by its first byte
 
-  module _ (F G : Following) (old new : Kept D) (a b c : Input) (start written : Output) (kind : Takes (1 ∷ []) a b) where
-    entry_read : (content : List ℕ) → ReadsEntry content F.position b c → Takes (1 ∷ summed (F.position + 1) (checksum_of (F.position + 1) content) content) a c
+  module _ (F G : Following) (old new : Kept D) (a b c : Input) (start written : Output) (kind : ReadsOnly (1 ∷ []) a b) where
+    entry_read : (content : List ℕ) → ReadsEntry content F.position b c → ReadsOnly (1 ∷ summed (F.position + 1) (checksum_of (F.position + 1) content) content) a c
     entry_read content read =
         takes_then (1 ∷ []) (summed (F.position + 1) (checksum_of (F.position + 1) content) content) a b c kind
         (record { consumed = read.bytes; counted = read.counted })
@@ -160,17 +160,17 @@ module _ (tells : Type 0) {D : Type 0} (disk : D → Disk) (profile : Profile) (
     any_moment = started (disk d) (IsBeforeOrAfter (recorded (disk d).seen) []) (λ c left. inl (ap contents (rest.kept c (only c left)) ∙ rest.reads));
   }
 
-  module _ (F : Following) (journal : Kept D) (a b : Input) (start written : Output) (only : Latest journal.device) (ready : tells → IsReady disk journal) (kind : Takes (2 ∷ []) a b) where
+  module _ (F : Following) (journal : Kept D) (a b : Input) (start written : Output) (only : Latest journal.device) (ready : tells → IsReady disk journal) (kind : ReadsOnly (2 ∷ []) a b) where
     none : tells → Commits [] (disk journal.device) (disk journal.device)
     none t = commits_none journal.device only (ready t).at_rest
 
     is_asked : IsRead tells disk profile clients_max Question (point F journal a start) b
     is_asked = record { fit = tt; read = kind; answered = tt }
 
-    pub question_turn : Answers (Ok tt) F start written → (item : Item) × Turn tells disk profile clients_max item (point F journal a start) (point F journal b written)
+    pub question_turn : AnswersStanding (Ok tt) F start written → (item : Item) × Turn tells disk profile clients_max item (point F journal a start) (point F journal b written)
     question_turn answers = (Question, record { read = is_asked; now = refl; commits = none; told = answers.0; passed = answers.1 })
 
-    pub question_halt : (fault : LogFault) → Answers (Err fault) F start written → Halts tells disk profile clients_max (Err (keep.Log fault)) (point F journal a start) (point F journal b written)
+    pub question_halt : (fault : LogFault) → AnswersStanding (Err fault) F start written → Halts tells disk profile clients_max (Err (keep.Log fault)) (point F journal a start) (point F journal b written)
     question_halt log.Device cut = inr (refl, record { item = Question; read = is_asked; commits = none; cut = cut })
     question_halt log.NoMemory silent = inl (inr (inr (inr (inr (record { bytes = 2 ∷ []; item = inl refl; read = kind; fault_is = refl })))), record { same = refl; silent = silent })
     question_halt fault never = absurd never
@@ -178,12 +178,12 @@ module _ (tells : Type 0) {D : Type 0} (disk : D → Disk) (profile : Profile) (
   -- a byte that begins no item, and none
 
   module _ (F : Following) (journal : Kept D) (a b : Input) (output : Output) where
-    pub unknown_halt : (kind : ℕ) → Takes (kind ∷ []) a b → kind ≢ 1 → kind ≢ 2
+    pub unknown_halt : (kind : ℕ) → ReadsOnly (kind ∷ []) a b → kind ≢ 1 → kind ≢ 2
         → Halts tells disk profile clients_max (Err (keep.Log (log.UnknownKind kind))) (point F journal a output) (point F journal b output)
     unknown_halt kind byte entry question = inl (
       inr (inl (record { kind = kind; byte = byte.consumed; entry = entry; question = question; fault_is = refl; counted = byte.counted })),
       record { same = refl; silent = refl },
     )
 
-    pub breaks_halt : (fault : LogFault) → Breaks fault a b → Halts tells disk profile clients_max (Err (keep.Log fault)) (point F journal a output) (point F journal b output)
+    pub breaks_halt : (fault : LogFault) → ReaderFails fault a b → Halts tells disk profile clients_max (Err (keep.Log fault)) (point F journal a output) (point F journal b output)
     breaks_halt fault breaks = inl (inl breaks, record { same = refl; silent = refl })

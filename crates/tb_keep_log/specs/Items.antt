@@ -12,9 +12,9 @@ use Rattle.tb_log.specs.declared.faults.LogFault.{LogFault}
 use Rattle.tb_log.specs.declared.faults.LogFault.TheVariants as log
 use Rattle.tb_log.specs.Format.{content_max, entry_bytes, question_bytes}
 use Rattle.tb_log.specs.Following.{Following, Item, with_item, item_bytes, given_to, IsAnswered}
-use Rattle.tb_log.specs.Entries.{Breaks, IsPairs}
-use Rattle.tb_log.specs.Follows.{ItemFits, IsUnknown, IsRefused, IsStopped}
-use Rattle.tb_log.specs.Steps.{Takes}
+use Rattle.tb_log.specs.Entries.{ReaderFails, IsPairs}
+use Rattle.tb_log.specs.Follows.{ItemFits, IsUnknown, IsEntryRefused, IsStopped}
+use Rattle.tb_log.specs.Steps.{ReadsOnly}
 use Rattle.tb_keep.specs.Rounds.{Commits, RefusesRecord}
 use Rattle.tb_keep_log.specs.declared.faults.KeepLogFault.{KeepLogFault}
 use Rattle.tb_keep_log.specs.declared.faults.KeepLogFault.TheVariants as keep
@@ -43,20 +43,20 @@ IsItem F bytes = (bytes ≡ question_bytes) ⊎ ((content : List ℕ) × (length
 pub record LacksMemory (fault : LogFault) (F : Following) (before after : Input) : Type 0 where
   pub bytes : List ℕ
   pub item : IsItem F bytes
-  pub read : Takes bytes before after
+  pub read : ReadsOnly bytes before after
   pub fault_is : fault ≡ log.NoMemory
 
 -- why an item is refused: the reader failed before its first byte; this byte begins none; the entry is refused; it cannot be answered;
 -- or there is no memory
 abbrev pub RefusesItem : LogFault → Following → Input → Input → Type 0
 RefusesItem fault F before after =
-    Breaks fault before after ⊎ IsUnknown fault before after ⊎ IsRefused fault F before after ⊎ IsHalted fault F before after ⊎ LacksMemory fault F before after
+    ReaderFails fault before after ⊎ IsUnknown fault before after ⊎ IsEntryRefused fault F before after ⊎ IsHalted fault F before after ⊎ LacksMemory fault F before after
 
 module _ (tells : Type 0) {D : Type 0} (disk : D → Disk) (profile : Profile) (clients_max : ℕ) where
   -- an item was read whole, and each of its pairs can be answered
   pub record IsRead (item : Item) (before : Point D) (after : Input) : Type 0 where
     pub fit : ItemFits item
-    pub read : Takes (item_bytes before.now item) before.input after
+    pub read : ReadsOnly (item_bytes before.now item) before.input after
     pub answered : IsAnswered before.now item
 
   -- one item: it is read, the file grows by its record, whole or not at all, while nothing is sent, and then it is answered
@@ -100,7 +100,7 @@ module _ (tells : Type 0) {D : Type 0} (disk : D → Disk) (profile : Profile) (
   -- why no item more was served behind a point: the input is at its end, or a fault
   abbrev pub Halts : Result ℕ KeepLogFault → Point D → Point D → Type 0
   Halts (Ok position) before after =
-      (position ≡ before.now.position) × (after.now ≡ before.now) × Takes [] before.input after.input × IsAtEnd after.input.left × Quits before after
+      (position ≡ before.now.position) × (after.now ≡ before.now) × ReadsOnly [] before.input after.input × IsAtEnd after.input.left × Quits before after
   Halts (Err (keep.Journal fault)) before after = IsLost fault before after
   Halts (Err (keep.Log fault)) before after =
       (RefusesItem fault before.now before.input after.input × Quits before after) ⊎ ((fault ≡ log.Device) × BreaksOff before after)

@@ -14,8 +14,8 @@ use Rattle.tb_keep_log.specs.Keeping.{record_bytes, record_of, records_from, IsK
 use Rattle.tb_keep_log.specs.Items.{Point, Turns, KeepsLog}
 
 -- a follower that has read some items is answered further on as one that reads them all from the beginning
-abbrev pub GoesOn : Type 0
-GoesOn = (F : Following) (read more : List Item)
+abbrev pub FollowsFurther : Type 0
+FollowsFurther = (F : Following) (read more : List Item)
     → (bytes_of F (read ++ more) ≡ bytes_of F read ++ bytes_of (after_items F read) more)
     × (given F (read ++ more) ≡ given F read ++ given (after_items F read) more)
     × (after_items F (read ++ more) ≡ after_items (after_items F read) more)

@@ -9,7 +9,7 @@ ghost use Rattle.tb_keep.specs.private.Entering.{StaysKept};
 ghost use Rattle.tb_keep.specs.Recovering.{AreAside, torn_bytes};
 ghost use Rattle.tb_keep_log.specs.Keeping.{By, IfSound, IsUsable, OfHeld};
 ghost use Rattle.tb_keep_log.specs.Rereading.{HasLogCause, IsRestored};
-ghost use Rattle.tb_keep_log.specs.Beginning.{CausedBy, HasStartCause, IsOpened, IsRefused, IsStartRefused, IsStarted, LeavesIfSound, MayBeOpened, MayBeStarted, OpensFile, Refuses, StartsFile, device_left};
+ghost use Rattle.tb_keep_log.specs.Beginning.{CausedBy, HasStartCause, IsOpened, IsLogRefused, IsStartRefused, IsStarted, LeavesIfSound, MayBeOpened, MayBeStarted, OpensFile, Refuses, StartsFile, device_left};
 ghost use Rattle.tb_keep_log.specs.private.Steps.{CreatesIn, HasCreatedCause, IsCreated, IsNotCreated, IsReadTo, IsUsableBy, OpensAs};
 ghost use Rattle.tb_journal.specs.Opening.{LeavesSameRecords};
 
@@ -83,7 +83,7 @@ fn open_read<D: Device, A: Allocator + Clone>(
 
 /// The keeper of a file that was read to this extent. Where more torn bytes are behind its records than a commit can leave, it is
 /// refused.
-fn open_short<D: Device, A: Allocator + Clone>(
+fn open_unless_torn_long<D: Device, A: Allocator + Clone>(
     global: Global,
     device: D,
     rules: Rules,
@@ -94,7 +94,7 @@ fn open_short<D: Device, A: Allocator + Clone>(
     requires read { D.tells → IsReadTo rules follower extent (D.disk device) }
     ensures opened { IfSound D.Device device (IfOk result (IsOpened D.disk (D.disk device).seen)) }
     ensures any_moment { D.tells → LeavesIfSound D.disk device (device_left result) MayBeOpened }
-    ensures refused { D.tells → Refuses D.disk device result (λ why. By rules (IsRefused why)) }
+    ensures refused { D.tells → Refuses D.disk device result (λ why. By rules (IsLogRefused why)) }
     ensures cause { D.tells → CausedBy D.disk device result HasLogCause }
     ensures usable { IfOk result (IsUsableBy rules) }
     ensures handed { OfHeld (D.holds device) (λ file. By rules IsRestored file follower extent → By rules (OpensFile result) file) }
@@ -141,7 +141,7 @@ impl<D: Device, A: Allocator + Copy> LogKeeper<D, A> {
         // A crash at any moment of the call leaves the records that were there, so that the call may be made again.
         ensures any_moment { D.tells → LeavesIfSound D.disk device (device_left result) MayBeOpened }
         // A file that is refused stays as it was.
-        ensures refused { D.tells → Refuses D.disk device result (λ why. By rules (IsRefused why)) }
+        ensures refused { D.tells → Refuses D.disk device result (λ why. By rules (IsLogRefused why)) }
         ensures cause { D.tells → CausedBy D.disk device result HasLogCause }
         // Of any device, by the file that its reads are of.
         ensures handed { OfHeld (D.holds device) (By rules (OpensFile result)) }
@@ -151,7 +151,7 @@ impl<D: Device, A: Allocator + Copy> LogKeeper<D, A> {
         let mut device = device;
         let same = rules;
         match read_log(global, alloc, same, &mut device) {
-            Ok((follower, extent)) => open_short(global, device, rules, extent, follower),
+            Ok((follower, extent)) => open_unless_torn_long(global, device, rules, extent, follower),
             Err(fault) => Err(NotStarted { device, fault }),
         }
     }

@@ -3,7 +3,7 @@ ghost use Rattle.std.specs.Prelude.{◌≡◌, true, false, [], IfOk, IfErr, OnO
 ghost use Rattle.tb_journal.specs.Ready.{IsReady};
 ghost use Rattle.tb_keep_log.specs.Keeping.{IsUsable};
 ghost use Rattle.tb_keep_log.specs.Items.{KeepsLog};
-ghost use Rattle.tb_keep_log.specs.private.Steps.{TakesFrom, MissesFrom, TellsBytes, Answers, Puts, PutsAndTells, EntersEntryOn, NextOn, ServedOn};
+ghost use Rattle.tb_keep_log.specs.private.Steps.{TakesFrom, MissesFrom, TellsBytes, AnswersStanding, Puts, PutsAndTells, EntersEntryOn, NextOn, ServedOn};
 
 use crate::entries::serve_entry;
 use crate::faults::KeepLogFault;
@@ -52,7 +52,7 @@ fn tell_standing<A: Allocator + Clone, W: Sink>(
     follower: &Follower<A>,
     writer: &mut W,
 ) -> Result<(), LogFault>
-    ensures { Answers result follower.now (W.output writer.old) (W.output writer.new) }
+    ensures { AnswersStanding result follower.now (W.output writer.old) (W.output writer.new) }
 {
     match follower.write_standing(global, writer) {
         Ok(()) => {

@@ -1,13 +1,13 @@
 //! What holds of every kept log, over the definitions alone. A call does nothing; its promise is the law.
 ghost use Rattle.tb_keep_log.specs.Dumping.{PairsOfLog};
-ghost use Rattle.tb_keep_log.specs.Laws.{AfterKill, AnyCrash, GoesOn, OneLog, OpenedGoesOn, OtherFormat, TellsTheDone, WhileCommitting, WhileTelling};
+ghost use Rattle.tb_keep_log.specs.Laws.{AfterKill, AnyCrash, FollowsFurther, OneLog, OpenedGoesOn, OtherFormat, TellsTheDone, WhileCommitting, WhileTelling};
 
 use tb_journal::Device;
 
 /// What is opened goes on exactly as if it had read all entries up to its position: the same bytes are wanted, and the same answers are
 /// given. And a file has one such follower.
 pub fn goes_on()
-    ensures each { GoesOn }
+    ensures each { FollowsFurther }
     ensures opened { OpenedGoesOn }
     ensures one { OneLog }
 {}

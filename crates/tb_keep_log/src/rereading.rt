@@ -5,7 +5,7 @@ ghost use Rattle.tb_journal.specs.Scans.{GoesFurther, IsAt, ScanCause};
 ghost use Rattle.tb_keep.specs.private.Entering.{StaysKept};
 ghost use Rattle.tb_keep.specs.Creating.{IsUntouched};
 ghost use Rattle.tb_keep.specs.private.Sources.{IsNext};
-ghost use Rattle.tb_keep_log.specs.Rereading.{HasLogCause, Restores};
+ghost use Rattle.tb_keep_log.specs.Rereading.{HasLogCause, ReadsLog};
 ghost use Rattle.tb_keep_log.specs.private.Steps.{ReadCause, EntersNextBy, EntersAllBy};
 ghost use Rattle.tb_keep_log.specs.Keeping.{By, IfSound, OfEachRead, OfHeld, OfUnread};
 
@@ -83,7 +83,7 @@ fn read_by<D: Device, A: Allocator + Clone>(
     scan: &mut Scan,
     device: &mut D,
 ) -> Result<(Follower<A>, Extent), LogStartFault>
-    ensures found { OfUnread (D.holds device.old) scan.old (By rules (Restores result)) }
+    ensures found { OfUnread (D.holds device.old) scan.old (By rules (ReadsLog result)) }
     ensures few { IfOk result (λ found. found.1.count ≤ found.1.end) }
     ensures same { OfHeld (D.holds device.old) (D.holds device.new) }
     ensures stays { D.tells → StaysKept (D.disk device.old) (D.disk device.new) }
@@ -112,7 +112,7 @@ pub fn read_log<D: Device, A: Allocator + Clone>(
     device: &mut D,
 ) -> Result<(Follower<A>, Extent), LogStartFault>
     // Of any device, by the file that its reads are of.
-    ensures found { OfHeld (D.holds device.old) (By rules (Restores result)) }
+    ensures found { OfHeld (D.holds device.old) (By rules (ReadsLog result)) }
     ensures few { IfOk result (λ found. found.1.count ≤ found.1.end) }
     // Where no sync has failed before.
     ensures kept { IfSound D.Device device.old (OnOk result (IsOnDisk (D.disk device.new))) }

@@ -12,12 +12,12 @@ use Rattle.tb_log.specs.declared.faults.LogFault.TheVariants.{NoMemory}
 use Rattle.tb_log.specs.Format.{content_of, checksum_of, summed}
 use Rattle.tb_log.specs.Following.{Following, begun, Item, Entry, with_item, item_bytes, given_to, IsAnswered, after_items, bytes_of, given, AllAnswered}
 use Rattle.tb_log.specs.Follows.{ItemFits, Refuses, Halts, Ended, Followed}
-use Rattle.tb_log.specs.Steps.{Takes, ServesEntry, TakesItem, TakesNone}
+use Rattle.tb_log.specs.Steps.{ReadsOnly, ServesEntry, TakesItem, TakesNone}
 use Rattle.tb_log.proofs.Taking.{takes_then}
 
 -- an item by its first byte
 
-pub entry_item : (F G : Following) (a b c : Input) (start written : Output) → Takes (1 ∷ []) a b → ServesEntry F G b c start written → TakesItem F G a c start written
+pub entry_item : (F G : Following) (a b c : Input) (start written : Output) → ReadsOnly (1 ∷ []) a b → ServesEntry F G b c start written → TakesItem F G a c start written
 entry_item F G a b c start written kind serves = record {
   item = Entry serves.pairs;
   fit = (serves.read.few, serves.fit);
@@ -52,11 +52,11 @@ pub record Working (profile : Profile) (clients_max : ℕ) (k : ℕ) (F : Follow
   pub count : length items ≡ k
   pub state : F ≡ after_items (begun profile clients_max) items
   pub fit : Each ItemFits items
-  pub read : Takes (bytes_of (begun profile clients_max) items) before middle
+  pub read : ReadsOnly (bytes_of (begun profile clients_max) items) before middle
   pub answered : AllAnswered (begun profile clients_max) items
   pub sent : Sent (given (begun profile clients_max) items) start made
 
-takes_none : (i : Input) → Takes [] i i
+takes_none : (i : Input) → ReadsOnly [] i i
 takes_none i = record { consumed = none i.left; counted = refl }
   where
     none : (left : Option (List ℕ)) → Consumes left left []
@@ -90,9 +90,9 @@ module _ (profile : Profile) (clients_max : ℕ) where
           count = omega (arith, w.count, length-append w.items (taken.item ∷ []));
           state = taken.state ∙ ap (λ (K : Following). with_item K taken.item) w.state ∙ sym (fold_snoc with_item F0 w.items taken.item);
           fit = each_snoc ItemFits w.items taken.item w.fit taken.fit;
-          read = subst (λ (bs : List ℕ). Takes bs before after) (sym (bytes_snoc F0 w.items taken.item))
+          read = subst (λ (bs : List ℕ). ReadsOnly bs before after) (sym (bytes_snoc F0 w.items taken.item))
               (takes_then (bytes_of F0 w.items) (item_bytes at taken.item) before middle after w.read
-              (subst (λ (K : Following). Takes (item_bytes K taken.item) middle after) w.state taken.read));
+              (subst (λ (K : Following). ReadsOnly (item_bytes K taken.item) middle after) w.state taken.read));
           answered = all_answered_snoc F0 w.items taken.item w.answered (subst (λ (K : Following). IsAnswered K taken.item) w.state taken.answered);
           sent = subst (λ (bs : List ℕ). Sent bs start next) (sym (given_snoc F0 w.items taken.item))
               (sends_then (given F0 w.items) (given_to at taken.item) start made next w.sent

@@ -14,7 +14,7 @@ use Rattle.tb_log.specs.Following.{Following, answer_of, with_pair, AreAnswered,
 use Rattle.tb_log.specs.Entries.{BeginsWith}
 use Rattle.tb_log.specs.Steps.{Frames, Writes}
 use Rattle.tb_log.proofs.Pairs.{begins_on, begins_few}
-use Rattle.tb_log.specs.Follows.{Answers, Serves, Stops}
+use Rattle.tb_log.specs.Follows.{AnswersIndexed, ServesItems, Stops}
 
 answered_snoc : (F : Following) (ps : List Pair) (p : Pair) → AreAnswered F ps → IsTimely (fold with_pair F ps).state p → IsReply (answer_of (fold with_pair F ps) p) → AreAnswered F (ps ++ p ∷ [])
 answered_snoc F [] p all timely reply = (timely, reply, tt)
@@ -43,7 +43,7 @@ module _ (index : ℕ) (F G : Following) (p : Pair) (frame hashed shown line sen
   whole_line : sent ≡ reply_item F.position index (answer_of F p)
   whole_line = sent_is ∙ line_is ∙ ap (λ (bs : List ℕ). 1 ∷ number_bytes 8 F.position ++ number_bytes 4 index ++ bs) (shown_is ∙ frames.2)
 
-  pub answered : (r : Result (Unit {0}) LogFault) (start written : Output) → Writes r sent start written → Answers index r F G p start written
+  pub answered : (r : Result (Unit {0}) LogFault) (start written : Output) → Writes r sent start written → AnswersIndexed index r F G p start written
   answered (Ok done) start written writes = (frames.0, frames.3, moved, subst (λ (bs : List ℕ). Sent bs start written) whole_line writes)
   answered (Err Device) start written writes = subst (λ (bs : List ℕ). CutOff bs start written) whole_line writes
   answered (Err fault) start written writes = absurd writes
@@ -52,7 +52,7 @@ module _ (index : ℕ) (F G : Following) (p : Pair) (frame hashed shown line sen
 pub record Serving (index : ℕ) (F G : Following) (content left : List ℕ) (before after : Output) : Type 0 where
   pub pairs : List Pair
   pub count : length pairs ≡ index
-  pub served : Serves pairs F G content left before after
+  pub served : ServesItems pairs F G content left before after
 
 pub serving_none : (F : Following) (content : List ℕ) (o : Output) → Serving 0 F F content content o o
 serving_none F content o = record {
@@ -63,7 +63,7 @@ serving_none F content o = record {
 
 -- the pair is read, and answered
 module _ (index : ℕ) (F G H : Following) (p : Pair) (content left rest : List ℕ) (before middle after : Output) (so_far : Serving index F G content left before middle)
-    (read : TimedAnswered (Ok (Some p)) left rest) (answer : Answers index (Ok tt) G H p middle after) where
+    (read : TimedAnswered (Ok (Some p)) left rest) (answer : AnswersIndexed index (Ok tt) G H p middle after) where
   abbrev ps : List Pair
   ps = so_far.pairs
 
@@ -102,8 +102,8 @@ serving_few index F G content left before after so_far =
 -- how it ends
 
 pub serving_done : (index : ℕ) (F G : Following) (content left rest : List ℕ) (before after : Output) → Serving index F G content left before after → TimedAnswered (Ok None) left rest
-    → (ps : List Pair) × Serves ps F G content [] before after
-serving_done index F G content left rest before after so_far end = (so_far.pairs, subst (λ (bs : List ℕ). Serves so_far.pairs F G content bs before after) end.0 so_far.served)
+    → (ps : List Pair) × ServesItems ps F G content [] before after
+serving_done index F G content left rest before after so_far end = (so_far.pairs, subst (λ (bs : List ℕ). ServesItems so_far.pairs F G content bs before after) end.0 so_far.served)
 
 pub serving_lost : (index : ℕ) (F G : Following) (content left : List ℕ) (before after : Output) → Serving index F G content left before after → Stops NoMemory F content before after
 serving_lost index F G content left before after so_far = record {
@@ -117,7 +117,7 @@ serving_lost index F G content left before after so_far = record {
 
 pub serving_unanswered : (index : ℕ) (F G H : Following) (p : Pair) (content left rest : List ℕ) (before middle after : Output) (fault : LogFault) → Serving index F G content left before middle
     → TimedAnswered (Ok (Some p)) left rest
-    → Answers index (Err fault) G H p middle after
+    → AnswersIndexed index (Err fault) G H p middle after
     → Stops fault F content before after
 serving_unanswered index F G H p content left rest before middle after fault so_far read answer = record {
   pairs = so_far.pairs;
@@ -130,6 +130,6 @@ serving_unanswered index F G H p content left rest before middle after fault so_
     rest = rest;
     spelled = read.0;
     later = H;
-    stop = subst (λ (i : ℕ). Answers i (Err fault) G H p middle after) (sym so_far.count) answer;
+    stop = subst (λ (i : ℕ). AnswersIndexed i (Err fault) G H p middle after) (sym so_far.count) answer;
   });
 }

@@ -10,17 +10,17 @@ use Rattle.tb_log.specs.declared.faults.LogFault.{LogFault}
 use Rattle.tb_log.specs.declared.faults.LogFault.TheVariants.{Device, NoMemory, Short, Damaged}
 use Rattle.tb_log.specs.declared.entries.Head.{Head}
 use Rattle.tb_log.specs.Format.{content_max, numbers, checksum_of, summed, number_bytes}
-use Rattle.tb_log.specs.Entries.{Breaks, head_fault, ReadsEntry, IsShort, LacksMemory, IsDamaged, IsNoPairs, RefusesEntry}
-use Rattle.tb_log.specs.Steps.{Filled, Takes, EndsWithin, Misses, head_bytes, ReadsContent, MissesContent}
+use Rattle.tb_log.specs.Entries.{ReaderFails, head_fault, ReadsEntry, IsShort, LacksMemory, IsDamaged, IsNoPairs, RefusesEntry}
+use Rattle.tb_log.specs.Steps.{Filled, ReadsOnly, EndsWithin, Misses, head_bytes, ReadsContent, MissesContent}
 
 -- a buffer that was filled whole
-pub all_filled : (n : ℕ) (buffer : List ℕ) (before after : Input) → length buffer ≤ n → Filled n buffer before after → Takes buffer before after
+pub all_filled : (n : ℕ) (buffer : List ℕ) (before after : Input) → length buffer ≤ n → Filled n buffer before after → ReadsOnly buffer before after
 all_filled n buffer before after long filled = record {
   consumed = subst (Consumes before.left after.left) (take_all n buffer long) filled.bytes;
   counted = filled.counted;
 }
 
-pub none_filled : (buffer : List ℕ) (before after : Input) → Filled 0 buffer before after → Takes [] before after
+pub none_filled : (buffer : List ℕ) (before after : Input) → Filled 0 buffer before after → ReadsOnly [] before after
 none_filled buffer before after filled = record { consumed = filled.bytes; counted = filled.counted }
 
 one_byte : (xs : List ℕ) → length xs ≡ 1 → xs ≡ slice_index xs 0 ∷ []
@@ -28,24 +28,24 @@ one_byte [] long = absurd (omega arith)
 one_byte (x ∷ []) long = refl
 one_byte (x ∷ y ∷ ys) long = absurd (omega arith)
 
-pub one_filled : (n : ℕ) (buffer : List ℕ) (before after : Input) → length buffer ≡ 1 → 1 ≤ n → Filled n buffer before after → Takes (slice_index buffer 0 ∷ []) before after
+pub one_filled : (n : ℕ) (buffer : List ℕ) (before after : Input) → length buffer ≡ 1 → 1 ≤ n → Filled n buffer before after → ReadsOnly (slice_index buffer 0 ∷ []) before after
 one_filled n buffer before after long some filled =
-    subst (λ (bs : List ℕ). Takes bs before after) (one_byte buffer long) (all_filled n buffer before after (omega arith) filled)
+    subst (λ (bs : List ℕ). ReadsOnly bs before after) (one_byte buffer long) (all_filled n buffer before after (omega arith) filled)
 
 -- one part and then another
-pub takes_then : (xs ys : List ℕ) (a b c : Input) → Takes xs a b → Takes ys b c → Takes (xs ++ ys) a c
+pub takes_then : (xs ys : List ℕ) (a b c : Input) → ReadsOnly xs a b → ReadsOnly ys b c → ReadsOnly (xs ++ ys) a c
 takes_then xs ys a b c one two = record {
   consumed = Consumes-trans a.left b.left c.left xs ys one.consumed two.consumed;
   counted = two.counted ∙ one.counted;
 }
 
 -- a fault behind what was read
-pub breaks_since : (fault : LogFault) (a b c : Input) → b.failed ≡ a.failed → Breaks fault b c → Breaks fault a c
+pub breaks_since : (fault : LogFault) (a b c : Input) → b.failed ≡ a.failed → ReaderFails fault b c → ReaderFails fault a c
 breaks_since Device a b c counted breaks = record { rose = breaks.rose ∙ ap risen counted; last = breaks.last }
 breaks_since fault a b c counted breaks = absurd breaks
 
 -- the end of the input behind what was read
-ends_since : (n m : ℕ) (xs : List ℕ) (fault : LogFault) (a b c : Input) → Takes xs a b → length xs + n ≤ m → EndsWithin n fault b c → EndsWithin m fault a c
+ends_since : (n m : ℕ) (xs : List ℕ) (fault : LogFault) (a b c : Input) → ReadsOnly xs a b → length xs + n ≤ m → EndsWithin n fault b c → EndsWithin m fault a c
 ends_since n m xs fault a b c one le ends = record {
   bytes = xs ++ ends.bytes;
   few = omega (arith, ends.few, le, length-append xs ends.bytes);
@@ -58,14 +58,14 @@ ends_since n m xs fault a b c one le ends = record {
 }
 
 -- bytes that were missed behind others are missed of both
-missed_since : (n m : ℕ) (xs : List ℕ) (fault : LogFault) (a b c : Input) → Takes xs a b → length xs + n ≤ m → Misses n fault b c → Misses m fault a c
+missed_since : (n m : ℕ) (xs : List ℕ) (fault : LogFault) (a b c : Input) → ReadsOnly xs a b → length xs + n ≤ m → Misses n fault b c → Misses m fault a c
 missed_since n m xs fault a b c one le (inl breaks) = inl (breaks_since fault a b c one.counted breaks)
 missed_since n m xs fault a b c one le (inr ends) = inr (ends_since n m xs fault a b c one le ends)
 
 pub missed_whole : (n m : ℕ) (fault : LogFault) (a b : Input) → n ≡ m → Misses n fault a b → Misses m fault a b
 missed_whole n m fault a b same misses = subst (λ (k : ℕ). Misses k fault a b) same misses
 
-pub misses_by : (n : ℕ) (fault : LogFault) (a b : Input) → Breaks fault a b → Misses n fault a b
+pub misses_by : (n : ℕ) (fault : LogFault) (a b : Input) → ReaderFails fault a b → Misses n fault a b
 misses_by n fault a b breaks = inl breaks
 
 -- a buffer that was not filled whole
@@ -86,16 +86,16 @@ pub position_missed : (fault : LogFault) (a b : Input) → Misses 8 fault a b �
 position_missed fault a b (inl breaks) = inl breaks
 position_missed fault a b (inr ends) = inr (record { bytes = ends.bytes; few = omega (arith, ends.few); cut = ends.cut })
 
-pub length_missed : (position : ℕ) (fault : LogFault) (a b c : Input) → Takes (number_bytes 8 position) a b → Misses 4 fault b c → Misses 16 fault a c
+pub length_missed : (position : ℕ) (fault : LogFault) (a b c : Input) → ReadsOnly (number_bytes 8 position) a b → Misses 4 fault b c → Misses 16 fault a c
 length_missed position fault a b c one misses =
     missed_since 4 16 (number_bytes 8 position) fault a b c one (omega (arith, number_long 8 position)) misses
 
-pub sum_missed : (position long : ℕ) (fault : LogFault) (a b c d : Input) → Takes (number_bytes 8 position) a b → Takes (number_bytes 4 long) b c → Misses 4 fault c d → Misses 16 fault a d
+pub sum_missed : (position long : ℕ) (fault : LogFault) (a b c d : Input) → ReadsOnly (number_bytes 8 position) a b → ReadsOnly (number_bytes 4 long) b c → Misses 4 fault c d → Misses 16 fault a d
 sum_missed position long fault a b c d one two misses =
     missed_since 4 16 (numbers position long) fault a c d (takes_then (number_bytes 8 position) (number_bytes 4 long) a b c one two)
     (omega (arith, length-append (number_bytes 8 position) (number_bytes 4 long), number_long 8 position, number_long 4 long)) misses
 
-pub takes_head : (head : Head) (a b c d : Input) → Takes (number_bytes 8 head.position) a b → Takes (number_bytes 4 head.length) b c → Takes (number_bytes 4 head.checksum) c d → Takes (head_bytes head) a d
+pub takes_head : (head : Head) (a b c d : Input) → ReadsOnly (number_bytes 8 head.position) a b → ReadsOnly (number_bytes 4 head.length) b c → ReadsOnly (number_bytes 4 head.checksum) c d → ReadsOnly (head_bytes head) a d
 takes_head head a b c d position long sum =
     takes_then (numbers head.position head.length) (number_bytes 4 head.checksum) a c d
     (takes_then (number_bytes 8 head.position) (number_bytes 4 head.length) a b c position long) sum
@@ -114,7 +114,7 @@ sound_of None r x judged is = refl
 sound_of (Some f) r x judged is = absurd cc
 
 -- an entry by its numbers and its content
-module _ (head : Head) (last : ℕ) (a b c : Input) (numbered : Takes (head_bytes head) a b) (sound : head_fault last head.position head.length ≡ None) where
+module _ (head : Head) (last : ℕ) (a b c : Input) (numbered : ReadsOnly (head_bytes head) a b) (sound : head_fault last head.position head.length ≡ None) where
   next : IsNext last head.position head.length
   next = next_entry last head.position head.length sound
 
@@ -199,7 +199,7 @@ pub head_lost : (fault : LogFault) (last : ℕ) (a b : Input) → Misses 16 faul
 head_lost fault last a b (inl breaks) = inl breaks
 head_lost fault last a b (inr ends) = inr (inr (inr (inr (inl (record { bytes = ends.bytes; cut = ends.cut; part = inl ends.few })))))
 
-pub entry_wrong : (head : Head) (fault : LogFault) (last : ℕ) (a b : Input) → Takes (head_bytes head) a b → head_fault last head.position head.length ≡ Some fault → RefusesEntry fault last a b
+pub entry_wrong : (head : Head) (fault : LogFault) (last : ℕ) (a b : Input) → ReadsOnly (head_bytes head) a b → head_fault last head.position head.length ≡ Some fault → RefusesEntry fault last a b
 entry_wrong head fault last a b numbered is = inr (inl (record {
   position = head.position;
   long = head.length;

@@ -13,9 +13,9 @@ use Rattle.tb_log.specs.declared.faults.LogFault.TheVariants.{Device, NoMemory, 
 use Rattle.tb_log.specs.Format.{content_max, content_of, numbers, checksum_of, summed, number_bytes}
 
 -- the reader failed
-abbrev pub Breaks : LogFault → Input → Input → Type 0
-Breaks Device before after = Fails before after
-Breaks fault before after = ⊥
+abbrev pub ReaderFails : LogFault → Input → Input → Type 0
+ReaderFails Device before after = Fails before after
+ReaderFails fault before after = ⊥
 
 -- the input ended within what was asked for: all that was left are these bytes
 pub record IsCutShort (fault : LogFault) (bytes : List ℕ) (before after : Input) : Type 0 where
@@ -117,4 +117,4 @@ pub record IsBad (fault : LogFault) (last : ℕ) (before after : Input) : Type 0
 
 abbrev pub RefusesEntry : LogFault → ℕ → Input → Input → Type 0
 RefusesEntry fault last before after =
-    Breaks fault before after ⊎ IsWrong fault last before after ⊎ IsDamaged fault last before after ⊎ IsBad fault last before after ⊎ IsShort fault last before after ⊎ LacksMemory fault last before after
+    ReaderFails fault before after ⊎ IsWrong fault last before after ⊎ IsDamaged fault last before after ⊎ IsBad fault last before after ⊎ IsShort fault last before after ⊎ LacksMemory fault last before after

@@ -13,7 +13,7 @@ use Rattle.tb_log.specs.declared.faults.LogFault.{LogFault}
 use Rattle.tb_log.specs.declared.faults.LogFault.TheVariants.{Device, NoMemory, UnknownKind, TimeExhausted, TooMany}
 use Rattle.tb_log.specs.Format.{content_max, content_of, entry_bytes, question_bytes, reply_item, standing_item}
 use Rattle.tb_log.specs.Following.{Following, begun, answer_of, with_pair, with_content, AreAnswered, replies_from, Item, Entry, Question, after_items, bytes_of, given, AllAnswered}
-use Rattle.tb_log.specs.Entries.{Breaks, IsPairs, RefusesEntry}
+use Rattle.tb_log.specs.Entries.{ReaderFails, IsPairs, RefusesEntry}
 
 -- one pair of an entry
 
@@ -21,18 +21,18 @@ abbrev pub IsUntimely : State → Pair → Type 0
 IsUntimely S p = (is_new_in S p ≡ true) × (has_time S p ≡ false)
 
 -- a pair is answered with its index; where the writer failed, a prefix of the answer was written, and on any other fault nothing
-abbrev pub Answers : ℕ → Result (Unit {0}) LogFault → Following → Following → Pair → Output → Output → Type 0
-Answers index (Ok done) F G p before after =
+abbrev pub AnswersIndexed : ℕ → Result (Unit {0}) LogFault → Following → Following → Pair → Output → Output → Type 0
+AnswersIndexed index (Ok done) F G p before after =
     IsTimely F.state p × IsReply (answer_of F p) × (G ≡ with_pair F p) × Sent (reply_item F.position index (answer_of F p)) before after
-Answers index (Err Device) F G p before after = CutOff (reply_item F.position index (answer_of F p)) before after
-Answers index (Err NoMemory) F G p before after = after ≡ before
-Answers index (Err (TimeExhausted at)) F G p before after = (at ≡ F.position) × IsUntimely F.state p × (after ≡ before)
-Answers index (Err fault) F G p before after = ⊥
+AnswersIndexed index (Err Device) F G p before after = CutOff (reply_item F.position index (answer_of F p)) before after
+AnswersIndexed index (Err NoMemory) F G p before after = after ≡ before
+AnswersIndexed index (Err (TimeExhausted at)) F G p before after = (at ≡ F.position) × IsUntimely F.state p × (after ≡ before)
+AnswersIndexed index (Err fault) F G p before after = ⊥
 
 -- the content of an entry
 
 -- the first pairs of the content were answered, and the rest of it is left
-pub record Serves (ps : List Pair) (F G : Following) (content left : List ℕ) (before after : Output) : Type 0 where
+pub record ServesItems (ps : List Pair) (F G : Following) (content left : List ℕ) (before after : Output) : Type 0 where
   pub spelled : content ≡ content_of ps ++ left
   pub fit : Each IsTimed ps
   pub state : G ≡ fold with_pair F ps
@@ -45,7 +45,7 @@ pub record IsUnanswered (fault : LogFault) (index : ℕ) (F : Following) (left :
   pub rest : List ℕ
   pub spelled : left ≡ timed_bytes pair ++ rest
   pub later : Following
-  pub stop : Answers index (Err fault) F later pair before after
+  pub stop : AnswersIndexed index (Err fault) F later pair before after
 
 -- a fault among the pairs of an entry: there is no memory to read the next pair, or it is not answered
 pub record Stops (fault : LogFault) (F : Following) (content : List ℕ) (before after : Output) : Type 0 where
@@ -53,7 +53,7 @@ pub record Stops (fault : LogFault) (F : Following) (content : List ℕ) (before
   pub now : Following
   pub left : List ℕ
   pub middle : Output
-  pub served : Serves pairs F now content left before middle
+  pub served : ServesItems pairs F now content left before middle
   pub stop : ((fault ≡ NoMemory) × (after ≡ middle)) ⊎ IsUnanswered fault (length pairs) now left middle after
 
 -- items
@@ -73,7 +73,7 @@ pub record IsUnknown (fault : LogFault) (before after : Input) : Type 0 where
   pub counted : after.failed ≡ before.failed
 
 -- an entry that is refused: nothing of it is served
-pub record IsRefused (fault : LogFault) (F : Following) (before after : Input) : Type 0 where
+pub record IsEntryRefused (fault : LogFault) (F : Following) (before after : Input) : Type 0 where
   pub middle : Input
   pub kind : Consumes before.left middle.left (1 ∷ [])
   pub counted : middle.failed ≡ before.failed
@@ -97,7 +97,7 @@ pub record LeavesQuestion (fault : LogFault) (F : Following) (before after : Inp
 -- a fault of the next item
 abbrev pub Refuses : LogFault → Following → Input → Input → Output → Output → Type 0
 Refuses fault F before after start written =
-    ((Breaks fault before after ⊎ IsUnknown fault before after ⊎ IsRefused fault F before after) × (written ≡ start))
+    ((ReaderFails fault before after ⊎ IsUnknown fault before after ⊎ IsEntryRefused fault F before after) × (written ≡ start))
     ⊎ IsStopped fault F before after start written
     ⊎ LeavesQuestion fault F before after start written
 

@@ -14,8 +14,8 @@ use Rattle.tb_log.specs.declared.faults.LogFault.TheVariants.{Device, NoMemory, 
 use Rattle.tb_log.specs.declared.entries.Head.{Head}
 use Rattle.tb_log.specs.Format.{content_of, numbers, checksum_of, standing_item, number_bytes}
 use Rattle.tb_log.specs.Following.{Following, with_content, Item, Entry, with_item, item_bytes, given_to, IsAnswered}
-use Rattle.tb_log.specs.Entries.{Breaks, IsCutShort, IsPairs, ReadsEntry, RefusesEntry}
-use Rattle.tb_log.specs.Follows.{Answers, IsUntimely, Serves, Stops, ItemFits, Refuses}
+use Rattle.tb_log.specs.Entries.{ReaderFails, IsCutShort, IsPairs, ReadsEntry, RefusesEntry}
+use Rattle.tb_log.specs.Follows.{AnswersIndexed, IsUntimely, ServesItems, Stops, ItemFits, Refuses}
 
 -- reading
 
@@ -27,7 +27,7 @@ pub record Filled (n : ℕ) (buffer : List ℕ) (before after : Input) : Type 0 
   pub counted : after.failed ≡ before.failed
 
 -- just these bytes were read
-pub record Takes (bytes : List ℕ) (before after : Input) : Type 0 where
+pub record ReadsOnly (bytes : List ℕ) (before after : Input) : Type 0 where
   pub consumed : Consumes before.left after.left bytes
   pub counted : after.failed ≡ before.failed
 
@@ -39,11 +39,11 @@ pub record EndsWithin (n : ℕ) (fault : LogFault) (before after : Input) : Type
 
 -- so many bytes were not read: the input ended within them, or the reader failed
 abbrev pub Misses : ℕ → LogFault → Input → Input → Type 0
-Misses n fault before after = Breaks fault before after ⊎ EndsWithin n fault before after
+Misses n fault before after = ReaderFails fault before after ⊎ EndsWithin n fault before after
 
 -- the n bytes of a value were read
 abbrev pub Reads : {X : Type 0} → ℕ → (X → List ℕ) → Result X LogFault → Input → Input → Type 0
-Reads n bytes_of result before after = MatchResult result (λ x. Takes (bytes_of x) before after) (λ fault. Misses n fault before after)
+Reads n bytes_of result before after = MatchResult result (λ x. ReadsOnly (bytes_of x) before after) (λ fault. Misses n fault before after)
 
 -- all bytes of a buffer were read
 abbrev pub Fills : List ℕ → Result (Unit {0}) LogFault → Input → Input → Type 0
@@ -51,14 +51,14 @@ Fills buffer result before after = Reads (length buffer) (λ _. buffer) result b
 
 -- bytes into memory that is taken before the first is read
 abbrev pub ReadsBytes : ℕ → Result (Vec ℕ Global) LogFault → Input → Input → Type 0
-ReadsBytes n (Ok bytes) before after = Takes bytes.items before after
+ReadsBytes n (Ok bytes) before after = ReadsOnly bytes.items before after
 ReadsBytes n (Err fault) before after = Misses n fault before after ⊎ ((fault ≡ NoMemory) × (after ≡ before))
 
 -- the first byte of an item was read, or there is none
 abbrev pub Begins : Result (Option ℕ) LogFault → Input → Input → Type 0
-Begins (Ok None) before after = Takes [] before after × IsAtEnd after.left
-Begins (Ok (Some kind)) before after = Takes (kind ∷ []) before after
-Begins (Err fault) before after = Breaks fault before after
+Begins (Ok None) before after = ReadsOnly [] before after × IsAtEnd after.left
+Begins (Ok (Some kind)) before after = ReadsOnly (kind ∷ []) before after
+Begins (Err fault) before after = ReaderFails fault before after
 
 -- what is wrong with an entry's numbers is answered, and nothing else
 abbrev pub Judges : Result (Unit {0}) LogFault → Option LogFault → Type 0
@@ -70,7 +70,7 @@ head_bytes head = numbers head.position head.length ++ number_bytes 4 head.check
 -- the content behind an entry's numbers, with its checksum or with another
 pub record ReadsContent (head : Head) (content : List ℕ) (before after : Input) : Type 0 where
   pub long : length content ≡ head.length
-  pub read : Takes content before after
+  pub read : ReadsOnly content before after
   pub sum : head.checksum ≡ checksum_of head.position content
 
 -- the content that was read is given
@@ -80,7 +80,7 @@ GivesContent head before after bytes = ReadsContent head bytes.items before afte
 pub record MissesContent (head : Head) (fault : LogFault) (before after : Input) : Type 0 where
   pub content : List ℕ
   pub long : length content ≡ head.length
-  pub read : Takes content before after
+  pub read : ReadsOnly content before after
   pub wrong : head.checksum ≢ checksum_of head.position content
   pub fault_is : fault ≡ Damaged head.position
 
@@ -101,7 +101,7 @@ NoFrame position fault p S = ⊥
 
 -- a pair is answered over a writer
 abbrev pub Replies : {W : Type 0} → (W → Output) → ℕ → Result (Unit {0}) LogFault → Following → Following → Pair → W → W → Type 0
-Replies output index result F G p writer later = Answers index result F G p (output writer) (output later)
+Replies output index result F G p writer later = AnswersIndexed index result F G p (output writer) (output later)
 
 -- bytes were written, or the device failed and left a prefix of them
 abbrev pub Writes : Result (Unit {0}) LogFault → List ℕ → Output → Output → Type 0
@@ -123,7 +123,7 @@ WritesStanding (Err fault) F before after = ⊥
 
 -- the pairs of an entry were all answered, or not
 abbrev pub ServesContent : Result (Unit {0}) LogFault → Following → Following → List ℕ → Output → Output → Type 0
-ServesContent (Ok done) F G content before after = (ps : List Pair) × Serves ps F G content [] before after
+ServesContent (Ok done) F G content before after = (ps : List Pair) × ServesItems ps F G content [] before after
 ServesContent (Err fault) F G content before after = Stops fault F content before after
 
 -- an entry whose pairs are not all served
@@ -151,19 +151,19 @@ TakesEntry (Err fault) F G before after start written =
 pub record TakesItem (F G : Following) (before after : Input) (start written : Output) : Type 0 where
   pub item : Item
   pub fit : ItemFits item
-  pub read : Takes (item_bytes F item) before after
+  pub read : ReadsOnly (item_bytes F item) before after
   pub answered : IsAnswered F item
   pub state : G ≡ with_item F item
   pub sent : Sent (given_to F item) start written
 
 -- there was none
 pub record TakesNone (F G : Following) (before after : Input) (start written : Output) : Type 0 where
-  pub read : Takes [] before after
+  pub read : ReadsOnly [] before after
   pub end : IsAtEnd after.left
   pub state : G ≡ F
   pub silent : written ≡ start
 
-abbrev pub TakesNext : Result Bool LogFault → Following → Following → Input → Input → Output → Output → Type 0
-TakesNext (Ok true) F G before after start written = TakesItem F G before after start written
-TakesNext (Ok false) F G before after start written = TakesNone F G before after start written
-TakesNext (Err fault) F G before after start written = Refuses fault F before after start written
+abbrev pub TakesNextPair : Result Bool LogFault → Following → Following → Input → Input → Output → Output → Type 0
+TakesNextPair (Ok true) F G before after start written = TakesItem F G before after start written
+TakesNextPair (Ok false) F G before after start written = TakesNone F G before after start written
+TakesNextPair (Err fault) F G before after start written = Refuses fault F before after start written

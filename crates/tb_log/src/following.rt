@@ -3,7 +3,7 @@ ghost use Rattle.std.specs.Prelude.{◌≡◌, ◌≤◌, ◌+◌, false, [], le
 ghost use Rattle.tb_records.specs.Transport.{Sent};
 ghost use Rattle.tb_log.specs.Format.{content_max};
 ghost use Rattle.tb_log.specs.Follows.{Followed};
-ghost use Rattle.tb_log.specs.Steps.{ServesContent, TakesEntry, TakesNext};
+ghost use Rattle.tb_log.specs.Steps.{ServesContent, TakesEntry, TakesNextPair};
 
 use crate::entries::entry_from;
 use crate::faults::LogFault;
@@ -58,7 +58,7 @@ fn take_next<A: Allocator + Clone, R: Source, W: Sink>(
     reader: &mut R,
     writer: &mut W,
 ) -> Result<bool, LogFault>
-    ensures { TakesNext result follower.old follower.new (R.input reader.old) (R.input reader.new)
+    ensures { TakesNextPair result follower.old follower.new (R.input reader.old) (R.input reader.new)
         (W.output writer.old) (W.output writer.new) }
 {
     match kind_from(reader)? {

@@ -1,6 +1,6 @@
 //! Bytes and numbers from a reader.
 ghost use Rattle.std.specs.Prelude.{◌≡◌, vec_len, IfOk, IfErr};
-ghost use Rattle.tb_log.specs.Entries.{Breaks};
+ghost use Rattle.tb_log.specs.Entries.{ReaderFails};
 ghost use Rattle.tb_log.specs.Format.{number_bytes};
 ghost use Rattle.tb_log.specs.Steps.{Filled, Fills, Reads, ReadsBytes, Begins};
 
@@ -13,7 +13,7 @@ use tb_records::Source;
 fn fill<S: Source>(source: &mut S, buffer: &mut [u8]) -> Result<usize, LogFault>
     ensures filled { IfOk result
         (λ n. Filled n buffer.new (S.input source.old) (S.input source.new)) }
-    ensures lost { IfErr result (λ f. Breaks f (S.input source.old) (S.input source.new)) }
+    ensures lost { IfErr result (λ f. ReaderFails f (S.input source.old) (S.input source.new)) }
 {
     let mut filled = 0;
     while filled < buffer.len() {

@@ -124,9 +124,9 @@ TellsBytes (Err (keep.Log fault)) bytes before after = (fault ≡ log.Device) ×
 TellsBytes (Err fault) bytes before after = ⊥
 
 -- a question was answered, and the answer passed on
-abbrev pub Answers : Result (Unit {0}) LogFault → Following → Output → Output → Type 0
-Answers (Ok done) F before after = WritesStanding (Ok tt) F before after × (after.held ≡ false)
-Answers (Err fault) F before after = WritesStanding (Err fault) F before after
+abbrev pub AnswersStanding : Result (Unit {0}) LogFault → Following → Output → Output → Type 0
+AnswersStanding (Ok done) F before after = WritesStanding (Ok tt) F before after × (after.held ≡ false)
+AnswersStanding (Err fault) F before after = WritesStanding (Err fault) F before after
 
 module _ (tells : Type 0) {D : Type 0} (disk : D → Disk) where
   -- records were committed

@@ -3,8 +3,8 @@ use Rattle.tb_keep_log.specs.Rereading.{IsRestored}
 use Rattle.tb_keep_log.proofs.Opened.{opened_ready, opens_still, refused_reading, refused_still, stops_opening, untouched_opens}
 use Rattle.tb_keep_log.proofs.keepers.LogKeeper.open.Goals as goal
 
-pub open_short-requires-clause-read : goal.open_short-requires-clause-read
-open_short-requires-clause-read g c t =
+pub open_unless_torn_long-requires-clause-read : goal.open_unless_torn_long-requires-clause-read
+open_unless_torn_long-requires-clause-read g c t =
     let old = g.D.Device.disk c.args.device in (
       λ sound. c.in-Ok.ensures.kept t (sym (c.in-Ok.ensures.sound t) ∙ sound),
       subst (λ (f : List ℕ). IsRestored c.args.rules.profile c.args.rules.clients_max f c.in-Ok.follower c.in-Ok.extent) (sym (c.read_log.ensures.untouched t).seen)
@@ -14,19 +14,19 @@ open_short-requires-clause-read g c t =
 pub returns-in-Ok-clause-ready : goal.returns-in-Ok-clause-ready
 returns-in-Ok-clause-ready g c t sound =
     let disk = g.D.Device.disk in
-    opened_ready disk (disk c.read_log.new.device).seen c.open_short.result (c.open_short.ensures.opened t (c.in-Ok.ensures.sound t ∙ sound))
+    opened_ready disk (disk c.read_log.new.device).seen c.open_unless_torn_long.result (c.open_unless_torn_long.ensures.opened t (c.in-Ok.ensures.sound t ∙ sound))
 
 pub returns-in-Ok-clause-refused : goal.returns-in-Ok-clause-refused
 returns-in-Ok-clause-refused g c t =
     let disk = g.D.Device.disk in
-    refused_still c.args.rules.profile c.args.rules.clients_max disk (disk c.args.device) (disk c.read_log.new.device) c.open_short.result
-    (g.met.D.Device.counts_now c.read_log.new.device) (c.read_log.ensures.untouched t) (c.open_short.ensures.refused t)
+    refused_still c.args.rules.profile c.args.rules.clients_max disk (disk c.args.device) (disk c.read_log.new.device) c.open_unless_torn_long.result
+    (g.met.D.Device.counts_now c.read_log.new.device) (c.read_log.ensures.untouched t) (c.open_unless_torn_long.ensures.refused t)
 
 pub returns-in-Ok-clause-any_moment : goal.returns-in-Ok-clause-any_moment
 returns-in-Ok-clause-any_moment g c t sound =
     let disk = g.D.Device.disk in
     opens_still (disk c.args.device) (disk c.read_log.new.device) _ (g.met.D.Device.counts_now c.read_log.new.device) (c.read_log.ensures.untouched t)
-    (c.open_short.ensures.any_moment t (c.in-Ok.ensures.sound t ∙ sound))
+    (c.open_unless_torn_long.ensures.any_moment t (c.in-Ok.ensures.sound t ∙ sound))
 
 pub returns-in-Err-clause-refused : goal.returns-in-Err-clause-refused
 returns-in-Err-clause-refused g c t =

@@ -1,6 +1,6 @@
 use Rattle.std.proofs.Common.{arith, refl}
 use Rattle.tb_keep_log.proofs.Opened.{opens_file, too_long, were_aside}
-use Rattle.tb_keep_log.proofs.beginning.open_short.Goals as goal
+use Rattle.tb_keep_log.proofs.beginning.open_unless_torn_long.Goals as goal
 
 pub returns-then-torn-gt-TORN_BYTES_MAX-clause-refused : goal.returns-then-torn-gt-TORN_BYTES_MAX-clause-refused
 returns-then-torn-gt-TORN_BYTES_MAX-clause-refused g c t =
