@@ -17,7 +17,7 @@ use crate::faults::LogStartFault;
 use crate::keepers::LogKeeper;
 use crate::rereading::read_log;
 use std::alloc::{Allocator, Global};
-use tb_journal::{Device, Extent, Journal, JournalFault, NotOpened, OpenFault, create};
+use tb_journal::{Device, Extent, Journal, JournalFault, NotOpened, OpenFault, create, finds_blank};
 use tb_keep::Rules;
 use tb_log::Follower;
 
@@ -186,7 +186,7 @@ impl<D: Device, A: Allocator + Copy> LogKeeper<D, A> {
         }
     }
 
-    /// Creates a kept log in an empty file, and opens that of any other one.
+    /// Looks whether the file is empty, and then creates a kept log in it, or opens the one that it has.
     pub fn start(
         global: Global,
         alloc: A,
@@ -206,15 +206,14 @@ impl<D: Device, A: Allocator + Copy> LogKeeper<D, A> {
         // What was cut off was set aside before.
         ensures aside { OfHeld (D.holds device) (λ file. IfOk result (λ keeper. AreAside D.aside keeper.cut file)) }
     {
-        let same = rules;
-        match LogKeeper::create(global, alloc, device, same) {
-            Ok(keeper) => Ok(keeper),
-            Err(failed) => match failed.fault {
-                LogStartFault::Journal(OpenFault::Device(JournalFault::NotEmpty)) => {
-                    LogKeeper::open(global, alloc, failed.device, rules)
-                }
-                _ => Err(failed),
-            },
+        let mut device = device;
+        match finds_blank(&mut device) {
+            Ok(true) => LogKeeper::create(global, alloc, device, rules),
+            Ok(false) => LogKeeper::open(global, alloc, device, rules),
+            Err(fault) => Err(NotStarted {
+                device,
+                fault: LogStartFault::Journal(OpenFault::Device(fault)),
+            }),
         }
     }
 }

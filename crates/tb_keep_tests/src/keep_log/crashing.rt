@@ -137,8 +137,8 @@ fn each_call_fails_once(rt: HostRuntime) {
     let alloc = rt.alloc();
     let log = log(&rt, alloc);
     let whole = answers(&rt, alloc, &log);
-    // Creating takes 5 calls, and keeping 12.
-    for number in 1..=18u64 {
+    // A start takes 8 calls, of which 3 look at the file, and keeping 12.
+    for number in 1..=21u64 {
         expect_failing(&rt, alloc, number, &log, &whole);
     }
     drop(log);

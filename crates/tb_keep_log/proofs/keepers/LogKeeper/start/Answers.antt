@@ -1,65 +1,97 @@
-use Rattle.std.proofs.Common.{inr, refl, ◌∙◌}
+use Rattle.std.proofs.Common.{sym, ap, ◌∙◌}
+use Rattle.tb_journal.specs.Creating.{is_blank}
+use Rattle.tb_keep.proofs.Opened.{looked}
+use Rattle.tb_keep_log.specs.Beginning.{why_left}
 use Rattle.tb_keep_log.proofs.Entering.{has_log_then}
-use Rattle.tb_keep_log.proofs.Opened.{has_start_of_log, not_empty_none, opened_as_started, start_refused, starts_at_last, starts_file}
+use Rattle.tb_keep_log.proofs.Opened.{created_as_started, created_at_last, creates_file, has_start_of_created, has_start_of_log, has_start_of_look, looked_at_last, none_aside, not_created_at_last, opened_as_started, start_refused, starts_at_last, starts_file}
 use Rattle.tb_keep_log.proofs.keepers.LogKeeper.start.Goals as goal
 
-pub returns-in-Journal-Device-NotEmpty-clause-refused : goal.returns-in-Journal-Device-NotEmpty-clause-refused
-returns-in-Journal-Device-NotEmpty-clause-refused g c t =
+-- a file that has something is opened
+
+pub returns-in-Ok-false-clause-refused : goal.returns-in-Ok-false-clause-refused
+returns-in-Ok-false-clause-refused g c t =
     let disk = g.D.Device.disk in
-    let here = c.in-Journal-Device-NotEmpty in
-    let of_device = rw here.is at here.field-0-is in
-    let not_empty = rw (here.is, of_device) at here.field-0-0-is in
-    let untouched = (rw (here.is, of_device, not_empty) at (c.in-Err.ensures.refused t)).0 in
-    let left = (rw (here.is, of_device, not_empty) at (c.in-Err.ensures.handed (disk c.args.device).seen (g.met.D.Device.holds_seen c.args.device t)).0) refl in
-    start_refused c.args.rules.profile c.args.rules.clients_max disk (disk c.args.device) (disk c.in-Err.failed.device) c.open.result
-    (g.met.D.Device.counts_now c.in-Err.failed.device) untouched left.0 (c.open.ensures.refused t)
+    let mid = c.finds_blank.new.device in
+    let finds = c.in-Ok-false.ensures.finds t in
+    start_refused c.args.rules.profile c.args.rules.clients_max disk (disk c.args.device) (disk mid) c.open.result
+    (g.met.D.Device.counts_now mid) (looked _ _ _ finds) (sym finds.ok ∙ c.in-Ok-false.field-0-test) (c.open.ensures.refused t)
 
-pub returns-in-Journal-Device-NotEmpty-clause-cause : goal.returns-in-Journal-Device-NotEmpty-clause-cause
-returns-in-Journal-Device-NotEmpty-clause-cause g c t =
+pub returns-in-Ok-false-clause-cause : goal.returns-in-Ok-false-clause-cause
+returns-in-Ok-false-clause-cause g c t =
     let disk = g.D.Device.disk in
-    let here = c.in-Journal-Device-NotEmpty in
-    let before = disk c.args.device in
-    let mid = disk c.in-Err.failed.device in
-    let of_device = rw here.is at here.field-0-is in
-    let not_empty = rw (here.is, of_device) at here.field-0-0-is in
-    let untouched = (rw (here.is, of_device, not_empty) at (c.in-Err.ensures.refused t)).0 in
-    let none = not_empty_none before mid (rw (here.is, of_device, not_empty) at (c.in-Err.ensures.cause t).cause) in
-    has_start_of_log before _ _ (has_log_then before mid _ none untouched.seen _ (c.open.ensures.cause t))
+    let finds = c.in-Ok-false.ensures.finds t in
+    has_start_of_log (disk c.args.device) _ _ (has_log_then (disk c.args.device) (disk c.finds_blank.new.device) _ finds.cause.ok finds.seen _ (c.open.ensures.cause t))
 
-pub returns-in-Journal-Device-NotEmpty-clause-any_moment : goal.returns-in-Journal-Device-NotEmpty-clause-any_moment
-returns-in-Journal-Device-NotEmpty-clause-any_moment g c t sound =
+pub returns-in-Ok-false-clause-any_moment : goal.returns-in-Ok-false-clause-any_moment
+returns-in-Ok-false-clause-any_moment g c t sound =
     let disk = g.D.Device.disk in
-    let here = c.in-Journal-Device-NotEmpty in
-    let of_device = rw here.is at here.field-0-is in
-    let not_empty = rw (here.is, of_device) at here.field-0-0-is in
-    let left = rw (here.is, of_device, not_empty) at (c.in-Err.ensures.refused t) in
-    starts_at_last (disk c.args.device) (disk c.in-Err.failed.device) _ (g.met.D.Device.counts_now c.in-Err.failed.device)
-    left.0 (c.open.ensures.any_moment t (left.1 ∙ sound))
+    let mid = c.finds_blank.new.device in
+    let finds = c.in-Ok-false.ensures.finds t in
+    starts_at_last (disk c.args.device) (disk mid) _ (g.met.D.Device.counts_now mid) (looked _ _ _ finds)
+    (c.open.ensures.any_moment t (finds.sound ∙ sound))
 
-pub returns-in-Journal-Device-NotEmpty-clause-started : goal.returns-in-Journal-Device-NotEmpty-clause-started
-returns-in-Journal-Device-NotEmpty-clause-started g c t sound =
+pub returns-in-Ok-false-clause-started : goal.returns-in-Ok-false-clause-started
+returns-in-Ok-false-clause-started g c t sound =
     let disk = g.D.Device.disk in
-    let here = c.in-Journal-Device-NotEmpty in
-    let of_device = rw here.is at here.field-0-is in
-    let not_empty = rw (here.is, of_device) at here.field-0-0-is in
-    let left = rw (here.is, of_device, not_empty) at (c.in-Err.ensures.refused t) in
-    opened_as_started disk (disk c.args.device).seen (disk c.in-Err.failed.device).seen c.open.result left.0.seen
-    (c.open.ensures.opened t (left.1 ∙ sound))
+    let finds = c.in-Ok-false.ensures.finds t in
+    opened_as_started disk (disk c.args.device).seen (disk c.finds_blank.new.device).seen c.open.result finds.seen
+    (c.open.ensures.opened t (finds.sound ∙ sound))
 
-pub returns-in-Journal-Device-NotEmpty-clause-ready : goal.returns-in-Journal-Device-NotEmpty-clause-ready
-returns-in-Journal-Device-NotEmpty-clause-ready g c t sound =
-    let here = c.in-Journal-Device-NotEmpty in
-    let of_device = rw here.is at here.field-0-is in
-    let not_empty = rw (here.is, of_device) at here.field-0-0-is in
-    c.open.ensures.ready t ((rw (here.is, of_device, not_empty) at (c.in-Err.ensures.refused t)).1 ∙ sound)
+pub returns-in-Ok-false-clause-ready : goal.returns-in-Ok-false-clause-ready
+returns-in-Ok-false-clause-ready g c t sound = c.open.ensures.ready t ((c.in-Ok-false.ensures.finds t).sound ∙ sound)
 
-pub returns-in-Journal-Device-NotEmpty-clause-handed : goal.returns-in-Journal-Device-NotEmpty-clause-handed
-returns-in-Journal-Device-NotEmpty-clause-handed g c file held =
-    let here = c.in-Journal-Device-NotEmpty in
-    let of_device = rw here.is at here.field-0-is in
-    let not_empty = rw (here.is, of_device) at here.field-0-0-is in
-    let left = (rw (here.is, of_device, not_empty) at (c.in-Err.ensures.handed file held).0) refl in
-    starts_file c.args.rules.profile c.args.rules.clients_max file c.open.result left.0 (c.open.ensures.handed file left.1)
+pub returns-in-Ok-false-clause-handed : goal.returns-in-Ok-false-clause-handed
+returns-in-Ok-false-clause-handed g c file held =
+    starts_file c.args.rules.profile c.args.rules.clients_max file c.open.result (sym (c.in-Ok-false.ensures.found file held) ∙ c.in-Ok-false.field-0-test) (c.open.ensures.handed file (c.in-Ok-false.ensures.same file held))
 
-pub returns-in-Ok-clause-handed : goal.returns-in-Ok-clause-handed
-returns-in-Ok-clause-handed g c file held = inr (c.in-Ok.ensures.handed file held)
+-- in a blank one a log is created
+
+pub returns-in-Ok-true-clause-refused : goal.returns-in-Ok-true-clause-refused
+returns-in-Ok-true-clause-refused g c t =
+    let disk = g.D.Device.disk in
+    let mid = c.finds_blank.new.device in
+    not_created_at_last c.args.rules.profile c.args.rules.clients_max disk (disk c.args.device) (disk mid) c.create.result
+    (g.met.D.Device.counts_now mid) (looked _ _ _ (c.in-Ok-true.ensures.finds t)) (c.create.ensures.refused t)
+
+pub returns-in-Ok-true-clause-cause : goal.returns-in-Ok-true-clause-cause
+returns-in-Ok-true-clause-cause g c t =
+    let disk = g.D.Device.disk in
+    let finds = c.in-Ok-true.ensures.finds t in
+    has_start_of_created (disk c.args.device) (disk c.finds_blank.new.device) _ finds.cause.ok finds.seen (ap is_blank finds.seen ∙ sym finds.ok ∙ c.in-Ok-true.field-0-test)
+    (why_left c.create.result) (c.create.ensures.cause t)
+
+pub returns-in-Ok-true-clause-any_moment : goal.returns-in-Ok-true-clause-any_moment
+returns-in-Ok-true-clause-any_moment g c t sound =
+    let disk = g.D.Device.disk in
+    let mid = c.finds_blank.new.device in
+    let finds = c.in-Ok-true.ensures.finds t in
+    created_at_last (disk c.args.device) (disk mid) _ (g.met.D.Device.counts_now mid) (looked _ _ _ finds)
+    (c.create.ensures.any_moment t (finds.sound ∙ sound))
+
+pub returns-in-Ok-true-clause-started : goal.returns-in-Ok-true-clause-started
+returns-in-Ok-true-clause-started g c t sound =
+    let disk = g.D.Device.disk in
+    let finds = c.in-Ok-true.ensures.finds t in
+    created_as_started disk (disk c.args.device).seen (disk c.finds_blank.new.device).seen c.create.result finds.seen
+    (c.create.ensures.created t (finds.sound ∙ sound))
+
+pub returns-in-Ok-true-clause-ready : goal.returns-in-Ok-true-clause-ready
+returns-in-Ok-true-clause-ready g c t sound = c.create.ensures.ready t ((c.in-Ok-true.ensures.finds t).sound ∙ sound)
+
+pub returns-in-Ok-true-clause-handed : goal.returns-in-Ok-true-clause-handed
+returns-in-Ok-true-clause-handed g c file held =
+    creates_file c.args.rules.profile c.args.rules.clients_max g.D.Device.holds file c.create.result (c.create.ensures.handed file (c.in-Ok-true.ensures.same file held))
+
+pub returns-in-Ok-true-clause-aside : goal.returns-in-Ok-true-clause-aside
+returns-in-Ok-true-clause-aside g c file held =
+    none_aside c.args.rules.profile c.args.rules.clients_max g.D.Device.holds g.D.Device.aside file c.create.result (c.create.ensures.handed file (c.in-Ok-true.ensures.same file held))
+
+-- the look failed
+
+pub returns-in-Err-clause-any_moment : goal.returns-in-Err-clause-any_moment
+returns-in-Err-clause-any_moment g c t sound =
+    looked_at_last (g.D.Device.disk c.args.device) (g.D.Device.disk c.finds_blank.new.device) (looked _ _ _ (c.in-Err.ensures.finds t))
+
+pub returns-in-Err-clause-cause : goal.returns-in-Err-clause-cause
+returns-in-Err-clause-cause g c t =
+    has_start_of_look (g.D.Device.disk c.args.device) (g.D.Device.disk c.finds_blank.new.device) c.in-Err.fault c.in-Err.ensures.other (c.in-Err.ensures.finds t).cause.cause
