@@ -34,16 +34,16 @@ abbrev pub answered : List Call → List Call
 answered cs = filter (λ c. is_answered c.outcome) cs
 
 -- what was returned of the reply: its bytes in the room, or how many they are; they are read as that reply and no other
-abbrev pub TellsReply : Outcome → List ℕ → Answer → Type 0
-TellsReply (Done n) room a = SpellsReply (take n room) a
-TellsReply (TooSmall n) room a = (n ≡ length (reply_bytes a)) × IsReply a
-TellsReply outcome room a = ⊥
+abbrev pub ReportsReply : Outcome → List ℕ → Answer → Type 0
+ReportsReply (Done n) room a = SpellsReply (take n room) a
+ReportsReply (TooSmall n) room a = (n ≡ length (reply_bytes a)) × IsReply a
+ReportsReply outcome room a = ⊥
 
 -- the call asked with this request at this moment, and got this reply
 pub record Asked (c : Call) (p : Pair) (a : Answer) : Type 0 where
   pub moment : c.moment ≡ p.0
   pub spelled : Spells c.bytes p.1
-  pub told : TellsReply c.outcome c.room a
+  pub told : ReportsReply c.outcome c.room a
 
 abbrev pub AreAsked : List Call → List Pair → List Answer → Type 0
 AreAsked [] [] [] = Unit {0}

@@ -139,7 +139,7 @@ abbrev pub heard_of : Result (Heard × ℕ) Step → ℕ
 heard_of (Ok (h, n)) = heard_code h
 heard_of (Err other) = 3
 
-pub record TellsHeard (status length hearing : ℕ) (IsRight : Result (Heard × ℕ) Step → Type 0) : Type 0 where
+pub record ReportsHeard (status length hearing : ℕ) (IsRight : Result (Heard × ℕ) Step → Type 0) : Type 0 where
   pub outcome : Result (Heard × ℕ) Step
   pub status_is : status ≡ step_code (step_of outcome)
   pub length_is : length ≡ step_length (step_of outcome)
@@ -147,7 +147,7 @@ pub record TellsHeard (status length hearing : ℕ) (IsRight : Result (Heard × 
   pub right : IsRight outcome
 
 -- the status and the length are those of a step that is right
-pub record TellsStep (status length : ℕ) (IsRight : Step → Type 0) : Type 0 where
+pub record ReportsStep (status length : ℕ) (IsRight : Step → Type 0) : Type 0 where
   pub taken : Step
   pub status_is : status ≡ step_code taken
   pub length_is : length ≡ step_length taken

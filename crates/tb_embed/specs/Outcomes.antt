@@ -20,13 +20,13 @@ length_of (TooSmall length) = length
 length_of outcome = 0
 
 -- the status is that of an outcome that is right
-pub record Tells (status : ℕ) (IsRight : Outcome → Type 0) : Type 0 where
+pub record Reports (status : ℕ) (IsRight : Outcome → Type 0) : Type 0 where
   pub outcome : Outcome
   pub status_is : status ≡ status_of outcome
   pub right : IsRight outcome
 
 -- the status and the length are those of an outcome that is right
-pub record TellsLength (status length : ℕ) (IsRight : Outcome → Type 0) : Type 0 where
+pub record ReportsLength (status length : ℕ) (IsRight : Outcome → Type 0) : Type 0 where
   pub outcome : Outcome
   pub status_is : status ≡ status_of outcome
   pub length_is : length ≡ length_of outcome

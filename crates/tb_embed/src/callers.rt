@@ -1,5 +1,5 @@
 //! The calls over a client's session that C makes: its numbers and the frame of its request are the caller's to keep, and to store.
-ghost use Rattle.tb_embed.specs.Callers.{CallsFrame, Checks, Receives, TellsStep, TellsHeard};
+ghost use Rattle.tb_embed.specs.Callers.{CallsFrame, Checks, Receives, ReportsStep, ReportsHeard};
 
 use crate::calling::{call, check, receive};
 use crate::steps::{Step, TbCaller, heard_code};
@@ -17,7 +17,7 @@ pub extern "C" fn tb_caller_call(
     frame: &mut [u8],
     written: &mut usize,
 ) -> u32
-    ensures { TellsStep result written.new
+    ensures { ReportsStep result written.new
         (λ step. CallsFrame step caller.old caller.new request.now frame.new) }
 {
     let step = call(alloc, caller, request, frame);
@@ -37,7 +37,7 @@ pub extern "C" fn tb_caller_received(
     heard: &mut u32,
     read: &mut usize,
 ) -> u32
-    ensures { TellsHeard result read.new heard.new
+    ensures { ReportsHeard result read.new heard.new
         (λ outcome. Receives outcome caller.old caller.new frame.now reply.now) }
 {
     let (step, number) = match receive(alloc, caller, frame, reply) {
@@ -52,7 +52,7 @@ pub extern "C" fn tb_caller_received(
 /// Says whether numbers and a frame that were stored are those of a client. Statuses: 0 they are, 8 no memory, 9 to 13 they are not.
 #[unsafe(no_mangle)]
 pub extern "C" fn tb_caller_check(alloc: Global, caller: &TbCaller, frame: &[u8]) -> u32
-    ensures { TellsStep result 0 (λ step. Checks step caller.now frame.now) }
+    ensures { ReportsStep result 0 (λ step. Checks step caller.now frame.now) }
 {
     check(alloc, caller, frame).status()
 }

@@ -1,7 +1,7 @@
 //! The calls that C makes. Each takes the handle by reference, answers a status, and needs nothing of its caller but what
 //! embed/tb_embed.h says of pointers.
 ghost use Rattle.std.specs.Prelude.{◌≡◌, None};
-ghost use Rattle.tb_embed.specs.Outcomes.{Tells, TellsLength};
+ghost use Rattle.tb_embed.specs.Outcomes.{Reports, ReportsLength};
 ghost use Rattle.tb_embed.specs.Calls.{standing, id_of, Opens, ServesFrame, ShowsAccount, ShowsTransfer};
 
 use crate::asking::serve;
@@ -19,7 +19,7 @@ pub extern "C" fn tb_embed_open(
     profile: u32,
     clients_max: u32,
 ) -> u32
-    ensures { Tells result (Opens profile clients_max (standing server.old) (standing server.new)) }
+    ensures { Reports result (Opens profile clients_max (standing server.old) (standing server.new)) }
 {
     open(alloc, server, profile, clients_max).status()
 }
@@ -37,7 +37,7 @@ pub extern "C" fn tb_embed_serve(
     reply: &mut [u8],
     written: &mut usize,
 ) -> u32
-    ensures { TellsLength result written.new
+    ensures { ReportsLength result written.new
         (ServesFrame (standing server.old) (standing server.new) moment request.now reply.new) }
 {
     let outcome = serve(alloc, server, moment, request, reply);
@@ -55,7 +55,7 @@ pub extern "C" fn tb_embed_account(
     id_high: u64,
     account: &mut [u8],
 ) -> u32
-    ensures { Tells result (ShowsAccount (id_of id_low id_high) server.old server.new account.new) }
+    ensures { Reports result (ShowsAccount (id_of id_low id_high) server.old server.new account.new) }
 {
     show_account(alloc, server, id(id_low, id_high), account).status()
 }
@@ -69,7 +69,7 @@ pub extern "C" fn tb_embed_transfer(
     id_high: u64,
     transfer: &mut [u8],
 ) -> u32
-    ensures { Tells result (ShowsTransfer (id_of id_low id_high) server.old server.new transfer.new) }
+    ensures { Reports result (ShowsTransfer (id_of id_low id_high) server.old server.new transfer.new) }
 {
     show_transfer(alloc, server, id(id_low, id_high), transfer).status()
 }
