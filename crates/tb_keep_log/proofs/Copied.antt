@@ -25,7 +25,7 @@ use Rattle.tb_keep_log.specs.Checking.{IsTornStop}
 use Rattle.tb_keep_log.specs.Copying.{StopsBehind, IsUncopied, old_part}
 use Rattle.tb_keep_log.specs.Keeping.{Leads, records_from}
 use Rattle.tb_keep_log.specs.Rereading.{HasLogCause, IsLogCause, StopsAt}
-use Rattle.tb_keep_log.specs.private.CopySteps.{stop_of, of_old, StopsAfter, StopsBy, Unwritten, TakesRecord, Taken, EndsCopy, TakesNext, TakesAll, TakesWhole, IsUntaken, TakesPart}
+use Rattle.tb_keep_log.specs.private.CopySteps.{stop_of, of_old, StopsAfter, StopsBy, TakesRecord, Taken, EndsCopy, TakesNext, TakesAll, TakesWhole, IsUntaken, TakesPart}
 use Rattle.tb_keep_log.proofs.Entering.{has_log_then, record_cause}
 use Rattle.tb_keep_log.proofs.Leading.{leads_none, leads_one, leads_then}
 
@@ -98,10 +98,6 @@ module _ (profile : Profile) (clients_max : ℕ) where
   damage_after (open_faults.Refused refusals.NotAJournal) read F file old new has place reads = absurd place
 
   module _ (tells : Type 0) {N : Type 0} (disk : N → Disk) where
-    pub unwritten : (f : JournalFault) (fault : CopyLogFault) (records : List (List ℕ)) (before after : Kept N) → fault ≡ New (open_faults.Device f) → Puts disk tells (Err f) records before after
-        → Unwritten tells disk fault before after
-    unwritten f fault records before after is breaks = record { own = f; named = is; breaks = breaks }
-
     pub record_fault : (fault : CopyLogFault) (bytes : List ℕ) (F G : Following) (before after : Kept N) (first last : Disk) → TakesRecord tells disk profile clients_max (Err fault) bytes F G before after
         → FailsNone first last → HasLogCause (old_part fault) first last
     record_fault (Old fault) bytes F G before after first last takes none = record { ok = tt; cause = record_cause first last fault profile clients_max F bytes takes.0 none }

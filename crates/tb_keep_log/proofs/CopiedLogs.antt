@@ -1,22 +1,17 @@
 -- A log's file that was taken over into a new one.
-use Rattle.std.proofs.Common.{arith, ℕ, ◌≡◌, ◌⊎◌, inl, inr, true, List, [], ◌++◌, Option, Result, Ok, Err, IfOk, sym, ap, ◌∙◌, subst, append-nil}
-use Rattle.std.proofs.lemmas.Grind.{common_steps}
+use Rattle.std.proofs.Common.{ℕ, ◌≡◌, inl, inr, true, List, [], ◌++◌, Option, Result, Ok, Err, IfOk, sym, ap, ◌∙◌, subst, append-nil}
 use Rattle.tb_records.specs.declared.limits.Profile.{Profile}
-use Rattle.tb_journal.specs.declared.faults.JournalFault.{JournalFault}
-use Rattle.tb_journal.specs.declared.faults.JournalFault.TheVariants as faults
 use Rattle.tb_journal.specs.declared.opening.OpenFault.{OpenFault}
 use Rattle.tb_journal.specs.declared.opening.OpenFault.TheVariants as open_faults
 use Rattle.tb_journal.specs.declared.reading.Refusal.TheVariants as refusals
-use Rattle.tb_journal.specs.Device.{Disk, LeavesOnly, FailsNone, IsOfCall, IsOfSync}
+use Rattle.tb_journal.specs.Device.{Disk, LeavesOnly, FailsNone}
 use Rattle.tb_journal.specs.Contents.{recorded}
-use Rattle.tb_journal.specs.Creating.{is_blank, IsLeft, MayBeCreated, HasCreateCause}
+use Rattle.tb_journal.specs.Creating.{is_blank, MayBeCreated}
 use Rattle.tb_journal.specs.Ready.{Kept}
 use Rattle.tb_journal.specs.Scans.{BeginsWith, ScanState, Starts, IsOfStart}
-use Rattle.tb_journal.proofs.Causes.{none_since}
 use Rattle.tb_journal.proofs.Moments.{started, then, weaker}
 use Rattle.tb_journal.proofs.BlockWalks.{begins_shorter}
 use Rattle.tb_log.specs.Following.{Following, begun}
-use Rattle.tb_keep.specs.Salvaging.{IsWriteCause}
 use Rattle.tb_keep.specs.private.Taking.{HoldsRead, IsBetween, line}
 use Rattle.tb_keep.proofs.Entered.{Latest}
 use Rattle.tb_keep.proofs.Taking.{breaks_then, write_cause_since}
@@ -27,7 +22,7 @@ use Rattle.tb_keep_log.specs.declared.faults.CopyLogFault.{CopyLogFault}
 use Rattle.tb_keep_log.specs.declared.faults.CopyLogFault.TheVariants.{Old, New}
 use Rattle.tb_keep_log.specs.declared.faults.LogStartFault.{LogStartFault}
 use Rattle.tb_keep_log.specs.declared.faults.LogStartFault.TheVariants as start
-use Rattle.tb_keep_log.specs.Copying.{IsCopied, IsUncopied, IsLeftAlone, HasNewCause, HasSomeFirst, MayBeCopied, new_part}
+use Rattle.tb_keep_log.specs.Copying.{IsCopied, IsUncopied, HasSomeFirst, MayBeCopied, new_part}
 use Rattle.tb_keep_log.specs.Keeping.{Leads}
 use Rattle.tb_keep_log.specs.private.CopySteps.{IsNewJournal, HasWriteCause, Taken, TakesWhole, TakesPart}
 use Rattle.tb_keep_log.proofs.Copied.{leads_first}
@@ -92,10 +87,6 @@ module _ (tells : Type 0) {N : Type 0} (disk : N → Disk) (profile : Profile) (
       → tells → LeavesOnly (disk created.device) (disk last.device) (HasSomeFirst reads profile clients_max)
   moments_whole reached stop takes t = all_moments takes.records takes.here takes.last last takes.taken t (disk last.device) (takes.taken.queues t).any_moment
 
-  pub cause_whole : (reached : Reached) (stop : Option LogStartFault) → TakesWhole tells disk profile clients_max holds reached stop first F created last
-      → tells → HasWriteCause (Ok tt) (disk created.device) (disk last.device)
-  cause_whole reached stop takes t = record { ok = (takes.taken.queues t).none; cause = tt }
-
   pub uncopied_part : (fault : CopyLogFault) → TakesPart tells disk profile clients_max holds fault first F created last → (file : List ℕ) → reads file → IsUncopied fault file
   uncopied_part fault takes file of = takes.uncopied file [] of.0 of.1
 
@@ -130,30 +121,7 @@ module _ (tells : Type 0) {N : Type 0} (disk : N → Disk) (profile : Profile) (
 
 -- a new file that is made, and then written to
 
-never_empty : (before after : Disk) → IsWriteCause before after faults.NotEmpty → ⊥
-never_empty before after (inl failed) = by failed.named
-  where
-    by : IsOfCall faults.NotEmpty ⊎ IsOfSync faults.NotEmpty → ⊥
-    by named = grind (arith, common_steps)
-never_empty before after (inr (own, none)) = own
-
-written_alone : (before mid after : Disk) (own : JournalFault) → IsWriteCause mid after own → IsLeftAlone before after (open_faults.Device own)
-written_alone before mid after faults.NotEmpty cause = absurd (never_empty mid after cause)
-written_alone before mid after faults.Memory cause = tt
-written_alone before mid after faults.Failed cause = tt
-written_alone before mid after faults.Full cause = tt
-written_alone before mid after faults.TooLong cause = tt
-written_alone before mid after faults.SyncFailed cause = tt
-
 module _ (before mid after : Disk) where
-  pub made_cause : (result : Result (Unit {0}) OpenFault) → FailsNone before mid → HasWriteCause result mid after → HasNewCause result before after
-  made_cause (Ok done) none has = record { ok = none_since before mid after none has.ok; cause = tt; alone = tt }
-  made_cause (Err fault) none has = record {
-    ok = tt;
-    cause = inr (has.cause.own, has.cause.named, write_cause_since before mid after has.cause.own none has.cause.cause);
-    alone = subst (λ (f : OpenFault). IsLeftAlone before after f) (sym has.cause.named) (written_alone before mid after has.cause.own has.cause.cause);
-  }
-
   pub made_moments : (holds : List ℕ → Type 0) (profile : Profile) (clients_max : ℕ) → is_blank before.seen ≡ true → LeavesOnly before mid (MayBeCreated before)
       → LeavesOnly mid after (HasSomeFirst holds profile clients_max) → LeavesOnly before after (MayBeCopied holds before profile clients_max)
   made_moments holds profile clients_max blank first second =
@@ -162,23 +130,6 @@ module _ (before mid after : Disk) where
       (weaker mid after (HasSomeFirst holds profile clients_max) (MayBeCopied holds before profile clients_max) (λ c is. inr (blank, is)) second)
 
 -- or is not made
-
-pub not_made_moments : (before after : Disk) (holds : List ℕ → Type 0) (profile : Profile) (clients_max : ℕ) → LeavesOnly before after (MayBeCreated before)
-    → LeavesOnly before after (MayBeCopied holds before profile clients_max)
-not_made_moments before after holds profile clients_max leaves =
-    weaker before after (MayBeCreated before) (MayBeCopied holds before profile clients_max) (λ c is. inl is) leaves
-
-left_alone : (before after : Disk) (fault : OpenFault) → IsLeft before after fault → IsLeftAlone before after fault
-left_alone before after (open_faults.Device faults.NotEmpty) left = record { seen = left.0; any_moment = left.1 }
-left_alone before after (open_faults.Device faults.Memory) left = tt
-left_alone before after (open_faults.Device faults.Failed) left = tt
-left_alone before after (open_faults.Device faults.Full) left = tt
-left_alone before after (open_faults.Device faults.TooLong) left = tt
-left_alone before after (open_faults.Device faults.SyncFailed) left = tt
-left_alone before after (open_faults.Refused why) left = tt
-
-pub not_made_cause : (before after : Disk) (fault : OpenFault) → IsLeft before after fault → HasCreateCause {T = Unit {0}} (Err fault) before after → HasNewCause (Err fault) before after
-not_made_cause before after fault left has = record { ok = tt; cause = inl has.cause; alone = left_alone before after fault left }
 
 pub none_made : (disk : Disk) (holds : List ℕ → Type 0) (profile : Profile) (clients_max : ℕ) → Latest disk → LeavesOnly disk disk (MayBeCopied holds disk profile clients_max)
 none_made disk holds profile clients_max now = started disk (MayBeCopied holds disk profile clients_max) (λ c left. inl (inl (inl (now c left))))

@@ -1,40 +1,19 @@
 -- An entry that is served in memory.
-use Rattle.std.proofs.Common.{arith, ◌≡◌, ◌≢◌, ◌⊎◌, inl, inr, ⊎_elim, ℕ, ◌+◌, ◌-◌, ◌≤◌, List, [], length, length-drop, take, take_all, drop, fold, Option, Some, Result, Ok, Err, OnOk, IfErr, refl, sym, ap, subst, ◌∙◌, append-nil}
-use Rattle.std.specs.Io.KnownBytes.{Appends}
+use Rattle.std.proofs.Common.{arith, ◌≡◌, ◌≢◌, ◌⊎◌, inl, inr, ⊎_elim, ℕ, ◌+◌, ◌-◌, List, length, length-drop, take, take_all, drop, Result, Ok, Err, OnOk, IfErr, sym, ap, subst, ◌∙◌}
 use Rattle.tb_records.specs.declared.limits.Profile.{Profile}
 use Rattle.tb_records.specs.Transport.{Output}
 use Rattle.tb_machine.specs.Scripts.{Pair}
 use Rattle.tb_log.specs.declared.faults.LogFault.{LogFault}
 use Rattle.tb_log.specs.declared.faults.LogFault.TheVariants.{Device, NoMemory, Short, UnknownKind, Gap, Repeat, TooLong, Damaged, BadEntry, TimeExhausted, TooMany}
-use Rattle.tb_log.specs.Format.{content_max, content_of}
-use Rattle.tb_log.specs.Following.{Following, with_pair, with_content, AreAnswered, replies_from}
+use Rattle.tb_log.specs.Format.{content_of}
+use Rattle.tb_log.specs.Following.{Following}
 use Rattle.tb_log.specs.Entries.{IsNoPairs}
-use Rattle.tb_log.specs.Follows.{AnswersIndexed, ServesItems, Stops}
+use Rattle.tb_log.specs.Follows.{AnswersIndexed, Stops}
 use Rattle.tb_keep_log.specs.declared.faults.LogStartFault.{LogStartFault}
 use Rattle.tb_keep_log.specs.declared.faults.LogStartFault.TheVariants as start
 use Rattle.tb_keep_log.specs.Keeping.{record_bytes}
 use Rattle.tb_keep_log.specs.Rereading.{StopsAt, HasMark, RefusesContent, RefusesMark, fixed_bytes}
-use Rattle.tb_keep_log.specs.private.Steps.{in_memory, of_log, HoldsEntry, DropsEntry, Enters}
-
-pub holds_entry : (content held : List ℕ) (F G : Following) (start written : Output) → length content ≤ content_max → start.written ≡ Some [] → written.written ≡ Some held
-    → (ps : List Pair) × ServesItems ps (with_content F content) G content [] start written
-    → HoldsEntry content held F G
-holds_entry content held F G start written few none is (ps, serves) = record {
-  pairs = ps;
-  spelled = same;
-  fit = (subst (λ (bs : List ℕ). length bs ≤ content_max) same few, serves.fit);
-  answered = subst (λ (bs : List ℕ). AreAnswered (with_content F bs) ps) same serves.answered;
-  now = serves.state ∙ ap (λ (bs : List ℕ). fold with_pair (with_content F bs) ps) same;
-  holds = grown ∙ ap (λ (bs : List ℕ). replies_from (with_content F bs) 0 ps) same;
-}
-  where
-    same : content ≡ content_of ps
-    same = serves.spelled ∙ append-nil (content_of ps)
-
-    grown : held ≡ replies_from (with_content F content) 0 ps
-    grown =
-        subst (λ (o : Option (List ℕ)). Appends (Some []) o (replies_from (with_content F content) 0 ps)) is
-        (subst (λ (o : Option (List ℕ)). Appends o written.written (replies_from (with_content F content) 0 ps)) none serves.sent.grown)
+use Rattle.tb_keep_log.specs.private.Steps.{of_log, HoldsEntry, DropsEntry, Enters}
 
 never : (fault : LogFault) (F : Following) (content : List ℕ) (start written : Output) → (fault ≡ NoMemory → ⊥)
     → ((index : ℕ) (G H : Following) (p : Pair) (a b : Output) → AnswersIndexed index (Err fault) G H p a b → ⊥)
@@ -42,27 +21,6 @@ never : (fault : LogFault) (F : Following) (content : List ℕ) (start written :
     → ⊥
 never fault F content start written not none stops =
     ⊎_elim (λ is. not is.0) (λ other. none (length stops.pairs) stops.now other.later other.pair stops.middle written other.stop) stops.stop
-
-pub drops_entry : (fault : LogFault) (content : List ℕ) (F : Following) (start written : Output) → Stops fault (with_content F content) content start written
-    → DropsEntry (in_memory fault) content F
-drops_entry Device content F start written stops = inl refl
-drops_entry NoMemory content F start written stops = inl refl
-drops_entry (TimeExhausted at) content F start written stops = inr (start, written, stops)
-drops_entry Short content F start written stops = absurd (never Short (with_content F content) content start written (λ is. let no : Short ≡ NoMemory = is in absurd (cc)) (λ i G H p a b none. none) stops)
-drops_entry (UnknownKind kind) content F start written stops =
-    absurd (never (UnknownKind kind) (with_content F content) content start written (λ is. let no : UnknownKind kind ≡ NoMemory = is in absurd (cc)) (λ i G H p a b none. none) stops)
-drops_entry (Gap at) content F start written stops =
-    absurd (never (Gap at) (with_content F content) content start written (λ is. let no : Gap at ≡ NoMemory = is in absurd (cc)) (λ i G H p a b none. none) stops)
-drops_entry (Repeat at) content F start written stops =
-    absurd (never (Repeat at) (with_content F content) content start written (λ is. let no : Repeat at ≡ NoMemory = is in absurd (cc)) (λ i G H p a b none. none) stops)
-drops_entry (TooLong at) content F start written stops =
-    absurd (never (TooLong at) (with_content F content) content start written (λ is. let no : TooLong at ≡ NoMemory = is in absurd (cc)) (λ i G H p a b none. none) stops)
-drops_entry (Damaged at) content F start written stops =
-    absurd (never (Damaged at) (with_content F content) content start written (λ is. let no : Damaged at ≡ NoMemory = is in absurd (cc)) (λ i G H p a b none. none) stops)
-drops_entry (BadEntry at fault) content F start written stops =
-    absurd (never (BadEntry at fault) (with_content F content) content start written (λ is. let no : BadEntry at fault ≡ NoMemory = is in absurd (cc)) (λ i G H p a b none. none) stops)
-drops_entry TooMany content F start written stops =
-    absurd (never TooMany (with_content F content) content start written (λ is. let no : TooMany ≡ NoMemory = is in absurd (cc)) (λ i G H p a b none. none) stops)
 
 -- the entry of a record
 

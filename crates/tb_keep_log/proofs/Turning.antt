@@ -1,19 +1,18 @@
 -- An item that is read, committed and answered.
-use Rattle.std.proofs.Common.{◌≡◌, ◌≢◌, inl, inr, ℕ, ◌+◌, List, [], ◌∷◌, Result, Ok, Err, refl, sym, ap, subst, ◌∙◌, append-nil}
+use Rattle.std.proofs.Common.{◌≡◌, inl, inr, ℕ, ◌+◌, List, [], ◌∷◌, Result, Ok, Err, refl, sym, ap, subst, ◌∙◌, append-nil}
 use Rattle.tb_records.specs.declared.limits.Profile.{Profile}
-use Rattle.tb_records.specs.Transport.{Input, Output, Sent}
+use Rattle.tb_records.specs.Transport.{Input, Output}
 use Rattle.tb_journal.specs.Device.{Disk}
 use Rattle.tb_journal.specs.Contents.{contents, recorded}
 use Rattle.tb_journal.specs.Steps.{IsAtRest, IsBeforeOrAfter}
 use Rattle.tb_journal.specs.Ready.{Kept, IsReady}
 use Rattle.tb_journal.proofs.Moments.{started}
 use Rattle.tb_machine.specs.Scripts.{Pair}
-use Rattle.tb_machine.proofs.Running.{sends_then}
 use Rattle.tb_log.specs.declared.faults.LogFault.{LogFault}
 use Rattle.tb_log.specs.declared.faults.LogFault.TheVariants as log
 use Rattle.tb_log.specs.Format.{content_of, checksum_of, summed}
-use Rattle.tb_log.specs.Following.{Following, Item, Entry, Question, with_item}
-use Rattle.tb_log.specs.Entries.{ReaderFails, IsPairs, ReadsEntry}
+use Rattle.tb_log.specs.Following.{Following, Item, Entry, with_item}
+use Rattle.tb_log.specs.Entries.{IsPairs, ReadsEntry}
 use Rattle.tb_log.specs.Steps.{ReadsOnly}
 use Rattle.tb_log.proofs.Taking.{takes_then}
 use Rattle.tb_keep.specs.Rounds.{Commits}
@@ -22,23 +21,9 @@ use Rattle.tb_keep_log.specs.declared.faults.KeepLogFault.TheVariants as keep
 use Rattle.tb_keep_log.specs.Keeping.{record_bytes, record_of}
 use Rattle.tb_keep_log.specs.Rereading.{IsHaltedContent}
 use Rattle.tb_keep_log.specs.Items.{point, IsHalted, RefusesItem, IsRead, Turn, IsUncommitted, Halts}
-use Rattle.tb_keep_log.specs.private.Steps.{DropsEntry, TakesEntry, MissesEntry, TellsBytes, AnswersStanding, IsPut, IsUnput, PutsAndTells, ReadsWhole, KeepsEntry, FailsEntry, EntersEntry}
+use Rattle.tb_keep_log.specs.private.Steps.{TakesEntry, MissesEntry, TellsBytes, IsPut, IsUnput, PutsAndTells, ReadsWhole, KeepsEntry, FailsEntry, EntersEntry}
 
 -- an entry that is taken
-
-pub misses_served : (fault : LogFault) (content : List ℕ) (F : Following) (before after : Input) → ReadsEntry content F.position before after → IsPairs content → DropsEntry fault content F
-    → MissesEntry fault F before after
-misses_served fault content F before after read pairs drops = inr (content, read, pairs, drops)
-
--- or whose record there is no memory for
-pub misses_recorded : (content held : List ℕ) (F G : Following) (before after : Input) → TakesEntry content held F G before after → MissesEntry log.NoMemory F before after
-misses_recorded content held F G before after takes =
-    let holds = takes.holds in
-    inr (content, takes.read, (holds.pairs, record { spelled = holds.spelled ∙ sym (append-nil (content_of holds.pairs)); fit = holds.fit.1 }), inl refl)
-
--- what was passed on is what was written
-pub passed_on : (bytes : List ℕ) (a b c : Output) → Sent bytes a b → Sent [] b c → Sent bytes a c
-passed_on bytes a b c first second = subst (λ (bs : List ℕ). Sent bs a c) (append-nil bytes) (sends_then bytes [] a b c first second)
 
 module _ (tells : Type 0) {D : Type 0} (disk : D → Disk) (profile : Profile) (clients_max : ℕ) where
   -- its record is committed, and it is answered
@@ -163,27 +148,3 @@ module _ (tells : Type 0) {D : Type 0} (disk : D → Disk) (profile : Profile) (
   module _ (F : Following) (journal : Kept D) (a b : Input) (start written : Output) (only : Latest journal.device) (ready : tells → IsReady disk journal) (kind : ReadsOnly (2 ∷ []) a b) where
     none : tells → Commits [] (disk journal.device) (disk journal.device)
     none t = commits_none journal.device only (ready t).at_rest
-
-    is_asked : IsRead tells disk profile clients_max Question (point F journal a start) b
-    is_asked = record { fit = tt; read = kind; answered = tt }
-
-    pub question_turn : AnswersStanding (Ok tt) F start written → (item : Item) × Turn tells disk profile clients_max item (point F journal a start) (point F journal b written)
-    question_turn answers = (Question, record { read = is_asked; now = refl; commits = none; told = answers.0; passed = answers.1 })
-
-    pub question_halt : (fault : LogFault) → AnswersStanding (Err fault) F start written → Halts tells disk profile clients_max (Err (keep.Log fault)) (point F journal a start) (point F journal b written)
-    question_halt log.Device cut = inr (refl, record { item = Question; read = is_asked; commits = none; cut = cut })
-    question_halt log.NoMemory silent = inl (inr (inr (inr (inr (record { bytes = 2 ∷ []; item = inl refl; read = kind; fault_is = refl })))), record { same = refl; silent = silent })
-    question_halt fault never = absurd never
-
-  -- a byte that begins no item, and none
-
-  module _ (F : Following) (journal : Kept D) (a b : Input) (output : Output) where
-    pub unknown_halt : (kind : ℕ) → ReadsOnly (kind ∷ []) a b → kind ≢ 1 → kind ≢ 2
-        → Halts tells disk profile clients_max (Err (keep.Log (log.UnknownKind kind))) (point F journal a output) (point F journal b output)
-    unknown_halt kind byte entry question = inl (
-      inr (inl (record { kind = kind; byte = byte.consumed; entry = entry; question = question; fault_is = refl; counted = byte.counted })),
-      record { same = refl; silent = refl },
-    )
-
-    pub breaks_halt : (fault : LogFault) → ReaderFails fault a b → Halts tells disk profile clients_max (Err (keep.Log fault)) (point F journal a output) (point F journal b output)
-    breaks_halt fault breaks = inl (inl breaks, record { same = refl; silent = refl })

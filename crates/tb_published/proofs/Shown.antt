@@ -1,6 +1,6 @@
 -- The steps of readers and of the publisher keep the rule of the copies.
-use Rattle.std.proofs.Common.{◌≡◌, ◌≢◌, ℕ, ◌+◌, ◌≤◌, inl, inr, ⊎_elim, cond, eq-eqb, List, [], ◌∷◌, length, set, fold, Option, Some, None, IfSome, Result, Ok, Err, MatchResult, zero, suc, refl, sym, ap, ◌∙◌, subst, length-append}
-use mathlib.Core.Option.{some, some-injective}
+use Rattle.std.proofs.Common.{◌≡◌, ◌≢◌, ℕ, ◌+◌, ◌≤◌, inl, inr, ⊎_elim, cond, eq-eqb, List, [], ◌∷◌, length, set, fold, Option, Some, None, IfSome, Result, Ok, Err, MatchResult, refl, sym, ap, ◌∙◌, subst, length-append}
+use mathlib.Core.Option.{some}
 use lib.ListN.{get_elem?}
 use Rattle.crossbeam_utils.specs.Register.{Admits, Turns, TurnsAt, Forks, Merges}
 use Rattle.atomic_table.proofs.Lists.{at_set, at_snoc}
@@ -54,10 +54,6 @@ looks seat v x = sees seat v x x (begins_self x)
 -- a place that has seen nothing
 pub admits : Admits Shows None
 admits x views shows seat l at = ⊎_elim (shows seat l) (λ e. absurd (none_some l e)) (at_snoc views None (Some l) seat at)
-
-pub starts : (x : Prefix) → Shows x (None ∷ [])
-starts x zero l at = absurd (none_some l (some-injective None (Some l) at))
-starts x (suc seat) l at = absurd cc
 
 -- the publisher tells what it has seen, and a place that has seen nothing takes it over
 pub forks : (seat : ℕ) (v : Option Prefix) → Forks Shows seat v v v
