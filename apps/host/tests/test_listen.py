@@ -1275,7 +1275,7 @@ class Ahead(unittest.TestCase):
                 return listener.ended(), listener.said[-1].replace(path, "FILE")
 
     def test_a_check_that_tells_no_time(self):
-        none = "tb_listen: sh check FILE tells no last time\n"
+        none = "tb_listen: sh check FILE prints no last time\n"
         for script in (
             "true",
             "echo last time",

@@ -61,7 +61,7 @@ async def last_time(words: Sequence[str], at: int) -> int:
         raise Ended(last_line(told) or f"{words[0]} ended {end_of(status)}", max(status, 0) or 1)
     found = re.search(rb"^last time ([0-9]{1,20})$", output, re.M)
     if found is None:
-        raise Ended(f"{words[0]} check {words[at]} tells no last time", 1)
+        raise Ended(f"{words[0]} check {words[at]} prints no last time", 1)
     return int(found[1])
 
 
