@@ -22,7 +22,7 @@ use Rattle.tb_storm.specs.declared.faults.StormFault.{StormFault}
 use Rattle.tb_storm.specs.declared.faults.StormFault.TheVariants as storm
 use Rattle.tb_storm.specs.Calls.{session_with, accounts_call, transfer_call}
 use Rattle.tb_storm.specs.private.Outcomes.{first_of, fared}
-use Rattle.tb_storm.specs.private.Clients.{port_of, offered_by, IsNew, Stands, Plays, IsServed}
+use Rattle.tb_storm.specs.private.Clients.{port_of, offered_by, IsNew, Stands, Plays, IsConcluded}
 use Rattle.tb_storm.specs.private.Playing.{new_port, IsNewOn, AreNew, AreReady, HasMade, HaveMade, MakeTransfers, IsClosed, AreClosed, AreOf, HaveNoFault, AreServed, IsLearnt, IsLeft, AreLeft}
 use Rattle.tb_storm.proofs.Steps.{closed_on, seen_on}
 
@@ -162,7 +162,7 @@ module _ {J : Type 0} (o : Opening) where
 
   -- what is left of a client
   pub is_left : (name : Name) (port number : ℕ) (call : ℕ → Body) (count : ℕ) (finish : Finish) (c : Client J) → HasMade o name port number call count c → c.fault ≡ None
-      → IsServed finish c → IsLeft o finish port number call count (offered_by (port_of c.line))
+      → IsConcluded finish c → IsLeft o finish port number call count (offered_by (port_of c.line))
   is_left name port number call count finish c made none served =
       let s : Stands o number call count (Some (new_port name port)) c = made none in
       let both : Some served.port ≡ Some (record { service = name; number = port; offered = s.more }) = sym served.port_is ∙ s.sent in
@@ -182,7 +182,7 @@ module _ {J : Type 0} (o : Opening) where
       }
 
   pub are_left : (name : Name) (count transfers : ℕ) (finish : Finish) (clients : Clients J) → HaveMade o name count transfers clients → clients.first.fault ≡ None
-      → HaveNoFault clients.others.items → IsServed finish clients.first → AreServed finish clients.others.items → AreLeft o finish count transfers
+      → HaveNoFault clients.others.items → IsConcluded finish clients.first → AreServed finish clients.others.items → AreLeft o finish count transfers
   are_left name count transfers finish clients made none nones first others = record {
     sent = λ p. cond (p == count) (offered_by (port_of clients.first.line)) (offered_by (port_of (other p).line));
     each = λ p lt. by p lt (p == count) refl;

@@ -26,7 +26,7 @@ use Rattle.tb_caller.proofs.Own.{IsOwn, IsOf, own_called, open_of, Returns as Re
 use Rattle.tb_caller_service.specs.SeatCalls.{IsFromSeat}
 use Rattle.tb_storm.specs.declared.clients.Client.{Client}
 use Rattle.tb_storm.specs.Calls.{session_with, transfer_call}
-use Rattle.tb_storm.specs.private.Clients.{port_of, more_by, offered_by, offers, repeats_at, repeat_count, Waits, Hears, Returns, Repeats, Stands, Plays, GoesOn}
+use Rattle.tb_storm.specs.private.Clients.{port_of, more_by, offered_by, offers, repeats_at, repeat_count, Waits, Hears, Returns, Repeats, Stands, Plays, TransfersMore}
 use Rattle.tb_storm.proofs.Sessions.{among}
 
 -- ports
@@ -294,24 +294,24 @@ module _ {J : Type 0} (o : Opening) where
 
   -- a transfer that is created and delivered again
   pub goes_one : (done : ℕ) (body : Body) (old mid new : Client J) → body ≡ transfer_call old.number (done + 1) → Returns o body old mid
-      → Repeats (repeats_at mid.number mid.caller.session (done + 1)) mid new → GoesOn o done (done + 1) old new
+      → Repeats (repeats_at mid.number mid.caller.session (done + 1)) mid new → TransfersMore o done (done + 1) old new
   goes_one done body old mid new body_is called again start s =
       let r : Returns o (transfer_call old.number (done + 1)) old mid = subst (λ (b : Body). Returns o b old mid) body_is called in
       let t : Stands o old.number (transfer_call old.number) (suc done) start mid = called_next o old.number (transfer_call old.number) start done old mid refl s r in
       subst (λ (n : ℕ). Stands o old.number (transfer_call old.number) n start new) (sym (add-one done))
       (repeated old.number (suc done) (done + 1) start mid new (omega arith) (omega arith) t again)
 
-  pub goes_none : (c : Client J) → GoesOn o 0 0 c c
+  pub goes_none : (c : Client J) → TransfersMore o 0 0 c c
   goes_none c start s = s
 
-  pub goes_more : (done : ℕ) (a b c : Client J) → GoesOn o 0 done a b → GoesOn o done (done + 1) b c → GoesOn o 0 (done + 1) a c
+  pub goes_more : (done : ℕ) (a b c : Client J) → TransfersMore o 0 done a b → TransfersMore o done (done + 1) b c → TransfersMore o 0 (done + 1) a c
   goes_more done a b c one two start s =
       let t : Stands o a.number (transfer_call a.number) done start b = one start s in
       let u : Stands o b.number (transfer_call b.number) done start b = subst (λ (n : ℕ). Stands o n (transfer_call n) done start b) (sym t.number_is) t in
       subst (λ (n : ℕ). Stands o n (transfer_call n) (done + 1) start c) t.number_is (two start u)
 
   -- whole sessions
-  pub plays_transfers : (count : ℕ) (old mid new : Client J) → Returns o Register old mid → GoesOn o 0 count mid new → Plays o (transfer_call old.number) count old new
+  pub plays_transfers : (count : ℕ) (old mid new : Client J) → Returns o Register old mid → TransfersMore o 0 count mid new → Plays o (transfer_call old.number) count old new
   plays_transfers count old mid new first on new_is =
       let s : Stands o old.number (transfer_call old.number) 0 (port_of old.line) mid = registered o old.number (transfer_call old.number) (port_of old.line) old mid refl refl new_is first in
       let t : Stands o mid.number (transfer_call mid.number) 0 (port_of old.line) mid = subst (λ (n : ℕ). Stands o n (transfer_call n) 0 (port_of old.line) mid) (sym s.number_is) s in

@@ -60,10 +60,10 @@ Exits clients (Err fault) exit_status start written quiet told = (exit_status �
 
 -- A storm of so many clients was played, and this is reported of it: its totals, or that there is no memory for their lines; or its
 -- fault, and nothing else.
-abbrev pub TellsOf : ℕ → Result Totals StormFault → ℕ → Output → Output → Output → Output → Type 0
-TellsOf clients (Ok totals) exit_status start written quiet told =
+abbrev pub PrintsOutcome : ℕ → Result Totals StormFault → ℕ → Output → Output → Output → Output → Type 0
+PrintsOutcome clients (Ok totals) exit_status start written quiet told =
     Exits clients (Ok totals) exit_status start written quiet told ⊎ Exits clients (Err storm.NoMemory) exit_status start written quiet told
-TellsOf clients (Err fault) exit_status start written quiet told = Exits clients (Err fault) exit_status start written quiet told
+PrintsOutcome clients (Err fault) exit_status start written quiet told = Exits clients (Err fault) exit_status start written quiet told
 
 -- A storm of so many clients, each with so many transfers, ended: with the totals of a history that has all that the clients saw, or
 -- with a fault.

@@ -4,7 +4,7 @@ ghost use Rattle.tb_records.specs.Messages.{asked};
 ghost use Rattle.tb_caller.specs.declared.callers.Heard.TheVariants as hearing;
 ghost use Rattle.tb_storm.specs.declared.faults.StormFault.TheVariants.{GaveUp};
 ghost use Rattle.tb_storm.specs.Calls.{accounts_call, transfer_call};
-ghost use Rattle.tb_storm.specs.private.Clients.{GoesOn, Hears, IsNew, Plays, Repeats, Returns, offers, repeat_count, repeats_at};
+ghost use Rattle.tb_storm.specs.private.Clients.{TransfersMore, Hears, IsNew, Plays, Repeats, Returns, offers, repeat_count, repeats_at};
 ghost use Rattle.tb_storm.specs.private.Playing.{IsClosed};
 
 use crate::calls::{create_accounts, create_transfer};
@@ -159,7 +159,7 @@ impl<J: Naming> Client<J> {
     /// Creates its next transfer, behind so many, and the network delivers it again.
     fn create_one<R: Wait>(&mut self, rt: &R, stage: &Stage, done: u32) -> Result<(), StormFault>
         requires { done < 1000 }
-        ensures on { OnOk result (GoesOn J.opening done (done + 1) self.old self.new) }
+        ensures on { OnOk result (TransfersMore J.opening done (done + 1) self.old self.new) }
         ensures repeats { OnOk result
             (offers self.old.line + repeat_count (done + 1) ≤ offers self.new.line) }
     {
@@ -178,7 +178,7 @@ impl<J: Naming> Client<J> {
         transfers: u32,
     ) -> Result<(), StormFault>
         requires { transfers ≤ 1000 }
-        ensures on { OnOk result (GoesOn J.opening 0 transfers self.old self.new) }
+        ensures on { OnOk result (TransfersMore J.opening 0 transfers self.old self.new) }
         ensures repeats { OnOk result (offers self.old.line + transfers ≤ offers self.new.line) }
     {
         for done in 0..transfers {

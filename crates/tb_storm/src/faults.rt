@@ -36,7 +36,7 @@ impl StormFault {
     }
 
     /// Writes the line `tbs: ` and the fault's name. A failure to write it changes no exit status.
-    pub fn tell<E: Sink>(self, faults: &mut E)
+    pub fn print<E: Sink>(self, faults: &mut E)
         ensures { PrintsLine (storm_line self) (E.output faults.old) (E.output faults.new) }
     {
         put_line(line_of(self.name()).as_slice(), faults);

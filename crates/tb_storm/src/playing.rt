@@ -3,7 +3,7 @@ ghost use Rattle.std.specs.Prelude.{◌≡◌, ◌≤◌, ◌+◌, None, IfOk, I
 ghost use Rattle.tb_service.specs.Names.{Name};
 ghost use Rattle.tb_service.specs.Ports.{ArePortsOf};
 ghost use Rattle.tb_storm.specs.Calls.{accounts_call};
-ghost use Rattle.tb_storm.specs.private.Clients.{IsServed, Plays, port_of};
+ghost use Rattle.tb_storm.specs.private.Clients.{IsConcluded, Plays, port_of};
 ghost use Rattle.tb_storm.specs.private.Playing.{AreClosed, AreLeft, AreNew, AreOf, AreReady, AreServed, HaveMade, HaveNoFault, IsNewOn, MakeTransfers};
 
 use crate::clients::Client;
@@ -159,7 +159,7 @@ pub(crate) fn play_all<J: Naming + Send + Sync, R: Threads + Wait + Sync>(
 fn take_in<J: Naming>(finished: &mut Finished<J>, client: &mut Client<J>) -> Result<(), StormFault>
     requires { IfSome (port_of client.old.line) (λ port. port.service ≡ finished.old.service) }
     ensures same { finished.new ≡ finished.old }
-    ensures served { OnOk result (IsServed finished.old client.old) }
+    ensures served { OnOk result (IsConcluded finished.old client.old) }
 {
     let Line::Closed(closed) = mem::replace(&mut client.line, Line::Gone) else {
         return Err(StormFault::NoPlace);

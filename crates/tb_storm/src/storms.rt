@@ -10,7 +10,7 @@ ghost use Rattle.tb_storm.specs.Totals.{first_credits, AreTotals};
 ghost use Rattle.tb_storm.specs.private.Outcomes.{Concludes, fared};
 ghost use Rattle.tb_service.specs.Names.{Name};
 ghost use Rattle.tb_storm.specs.private.Playing.{AreReady, EndsWell, HasRun, HaveMade, IsLearnt};
-ghost use Rattle.tb_storm.specs.Storms.{storm_exit_status, storm_line, Writes, TellsOf, StormExits};
+ghost use Rattle.tb_storm.specs.Storms.{storm_exit_status, storm_line, Writes, PrintsOutcome, StormExits};
 
 use crate::clients::Client;
 use crate::faults::StormFault;
@@ -270,7 +270,7 @@ fn refuse<E: Sink>(fault: StormFault, faults: &mut E) -> u8
     ensures line { PrintsLine (storm_line fault) (E.output faults.old) (E.output faults.new) }
     ensures failing { 0 < result }
 {
-    fault.tell(faults);
+    fault.print(faults);
     fault.exit_status()
 }
 
@@ -287,7 +287,7 @@ fn write_lines<W: Sink, E: Sink>(lines: &[u8], writer: &mut W, faults: &mut E) -
 }
 
 /// Reports on a storm that was played: writes the lines of its totals, or reports its fault. Answers the exit status.
-fn tell_of<W: Sink, E: Sink>(
+fn print_outcome<W: Sink, E: Sink>(
     alloc: Global,
     clients: u32,
     played: Result<Totals, StormFault>,
@@ -295,7 +295,7 @@ fn tell_of<W: Sink, E: Sink>(
     faults: &mut E,
 ) -> u8
     ensures quiet { result ≡ 0 → faults.new ≡ faults.old }
-    ensures ends { TellsOf clients played result (W.output writer.old) (W.output writer.new)
+    ensures ends { PrintsOutcome clients played result (W.output writer.old) (W.output writer.new)
         (E.output faults.old) (E.output faults.new) }
 {
     let totals = match played {
@@ -326,5 +326,5 @@ pub fn storm<R: Threads + Wait + Sync, W: Sink, E: Sink>(
         (E.output faults.new) }
 {
     let played = play(rt, alloc, Scale { clients, transfers });
-    tell_of(alloc, clients, played, writer, faults)
+    print_outcome(alloc, clients, played, writer, faults)
 }

@@ -111,11 +111,11 @@ module _ {J : Type 0} where
   Plays o call count old new = old.caller ≡ fresh old.number → Stands o old.number call count (port_of old.line) new
 
   -- one that made m of its transfers made n
-  abbrev pub GoesOn : Opening → ℕ → ℕ → Client J → Client J → Type 0
-  GoesOn o m n old new = (start : Option Offers) → Stands o old.number (transfer_call old.number) m start old → Stands o old.number (transfer_call old.number) n start new
+  abbrev pub TransfersMore : Opening → ℕ → ℕ → Client J → Client J → Type 0
+  TransfersMore o m n old new = (start : Option Offers) → Stands o old.number (transfer_call old.number) m start old → Stands o old.number (transfer_call old.number) n start new
 
   -- what the server took of its port, and that its history has all that the seat saw
-  pub record IsServed (finish : Finish) (c : Client J) : Type 0 where
+  pub record IsConcluded (finish : Finish) (c : Client J) : Type 0 where
     pub port : Offers
     pub port_is : port_of c.line ≡ Some port
     pub offered : IsOffered port.offered finish.taken (places_from port.number 1 finish.owners) finish.ended

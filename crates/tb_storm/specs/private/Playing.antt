@@ -20,7 +20,7 @@ use Rattle.tb_storm.specs.declared.playing.Clients.{Clients}
 use Rattle.tb_storm.specs.declared.totals.Totals.{Totals}
 use Rattle.tb_storm.specs.Calls.{session_with, accounts_call, transfer_call}
 use Rattle.tb_storm.specs.private.Found.{replies_of, Totaled}
-use Rattle.tb_storm.specs.private.Clients.{port_of, IsNew, Repeats, Stands, Plays, IsServed}
+use Rattle.tb_storm.specs.private.Clients.{port_of, IsNew, Repeats, Stands, Plays, IsConcluded}
 
 -- a port that sent nothing
 abbrev pub new_port : Name → ℕ → Offers
@@ -77,7 +77,7 @@ module _ {J : Type 0} where
   HaveNoFault clients = (i : ℕ) (d : Client J) → i < length clients → (slice_index_or clients i d).fault ≡ None
 
   abbrev pub AreServed : Finish → List (Client J) → Type 0
-  AreServed finish clients = (i : ℕ) (d : Client J) → i < length clients → IsServed finish (slice_index_or clients i d)
+  AreServed finish clients = (i : ℕ) (d : Client J) → i < length clients → IsConcluded finish (slice_index_or clients i d)
 
   -- client 100's seat has learnt more
   pub record IsLearnt (old new : Clients J) : Type 0 where

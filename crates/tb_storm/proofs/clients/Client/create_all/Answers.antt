@@ -1,5 +1,5 @@
 use Rattle.std.proofs.Common.{◌≡◌, ℕ, ◌+◌, subst, arith}
-use Rattle.tb_storm.specs.private.Clients.{GoesOn}
+use Rattle.tb_storm.specs.private.Clients.{TransfersMore}
 use Rattle.tb_storm.proofs.Steps.{goes_none, goes_more, one_repeat}
 use Rattle.tb_storm.proofs.clients.Client.create_all.Goals as goal
 
@@ -18,4 +18,4 @@ loop-done-preserved g c =
 pub returns-clause-on : goal.returns-clause-on
 returns-clause-on g c =
     let all : c.loop-done.done ≡ c.args.transfers = omega arith in
-    subst (λ (n : ℕ). GoesOn g.J.Naming.opening 0 n c.args.self.now c.loop-done.self) all c.loop-done.invariant.on
+    subst (λ (n : ℕ). TransfersMore g.J.Naming.opening 0 n c.args.self.now c.loop-done.self) all c.loop-done.invariant.on
