@@ -60,8 +60,8 @@ abbrev pub StopsBy : OracleFault → Option (List ℕ) → Type 0
 StopsBy f left = IsOfReading f ⊎ ((head rest : List ℕ) × (after : Option (List ℕ)) × ReadsStep head rest left after × IsFault f head rest)
 
 -- all steps were read and answered; or a fault came after some, of which no answer is missing if the fault is the input's
-abbrev pub Answers : Result (Unit {0}) OracleFault → Option (List ℕ) → Option (List ℕ) → Option (List ℕ) → Option (List ℕ) → Type 0
-Answers (Ok done) before after output_before output = (xs : List Exchange) × Exchanged xs before after output_before output × IsAtEnd after
-Answers (Err f) before after output_before output =
+abbrev pub AnswersSteps : Result (Unit {0}) OracleFault → Option (List ℕ) → Option (List ℕ) → Option (List ℕ) → Option (List ℕ) → Type 0
+AnswersSteps (Ok done) before after output_before output = (xs : List Exchange) × Exchanged xs before after output_before output × IsAtEnd after
+AnswersSteps (Err f) before after output_before output =
     fault_exit_status f ≡ 2
     → (xs : List Exchange) × (left : Option (List ℕ)) × Exchanged xs before left output_before output × StopsBy f left

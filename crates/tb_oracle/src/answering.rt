@@ -1,7 +1,7 @@
 //! The steps of a reader, answered one after another.
 ghost use Rattle.std.specs.Prelude.{◌≡◌, IfErr, IfOk, MatchOption, length};
 ghost use Rattle.tb_oracle.specs.Steps.{length_at};
-ghost use Rattle.tb_oracle.specs.Streams.{IsOfReading, ReadsHead, ReadsNone, ReadsRest, ReadsStep, Answers};
+ghost use Rattle.tb_oracle.specs.Streams.{IsOfReading, ReadsHead, ReadsNone, ReadsRest, ReadsStep, AnswersSteps};
 
 use crate::faults::{OracleFault, fault_of};
 use crate::steps::answer;
@@ -80,7 +80,7 @@ pub fn answer_all<R: Read, W: Write>(
     reader: &mut R,
     writer: &mut W,
 ) -> Result<(), OracleFault>
-    ensures { Answers result (R.remaining reader.old) (R.remaining reader.new) (W.contents writer.old) (W.contents writer.new) }
+    ensures { AnswersSteps result (R.remaining reader.old) (R.remaining reader.new) (W.contents writer.old) (W.contents writer.new) }
 {
     let mut head = [0; 38];
     let head: &mut [u8] = &mut head;
