@@ -25,7 +25,7 @@ use Rattle.tb_keep_log.specs.Checking.{IsTornStop}
 use Rattle.tb_keep_log.specs.Copying.{StopsBehind, IsUncopied, old_part}
 use Rattle.tb_keep_log.specs.Keeping.{Leads, records_from}
 use Rattle.tb_keep_log.specs.Rereading.{HasLogCause, IsLogCause, StopsAt}
-use Rattle.tb_keep_log.specs.private.CopySteps.{stop_of, of_old, StopsAfter, StopsBy, TakesRecord, Taken, EndsCopy, TakesNext, TakesAll, TakesWhole, IsUntaken, TakesPart}
+use Rattle.tb_keep_log.specs.private.CopySteps.{stop_of, of_old, StopsAfter, StopsBy, TakesRecord, Taken, HaltsCopy, TakesNext, TakesAll, TakesWhole, IsUntaken, TakesPart}
 use Rattle.tb_keep_log.proofs.Entering.{has_log_then, record_cause}
 use Rattle.tb_keep_log.proofs.Leading.{leads_none, leads_one, leads_then}
 
@@ -140,8 +140,8 @@ module _ (tells : Type 0) {N : Type 0} (disk : N → Disk) (profile : Profile) (
     }),
   )
 
-  pub ends_by : (result : Result (Unit {0}) CopyLogFault) (here : ScanState) (F : Following) (mid after : Kept N) → EndsCopy tells disk profile clients_max later result here F mid after
-      → EndsCopy tells disk profile clients_max holds result here F mid after
+  pub ends_by : (result : Result (Unit {0}) CopyLogFault) (here : ScanState) (F : Following) (mid after : Kept N) → HaltsCopy tells disk profile clients_max later result here F mid after
+      → HaltsCopy tells disk profile clients_max holds result here F mid after
   ends_by (Ok done) here F mid after ends = (ends.0, λ file read of has. ends.1 file read (same file of) has)
   ends_by (Err (Old fault)) here F mid after ends = (ends.0, λ file read of has. ends.1 file read (same file of) has)
   ends_by (Err (New fault)) here F mid after ends = ends

@@ -57,7 +57,7 @@ pub(crate) fn torn_behind<D: Device>(device: &mut D, extent: Extent) -> Result<u
 }
 
 /// The keeper of a file that was read to this extent. So many torn bytes are cut off.
-fn open_read<D: Device, A: Allocator + Clone>(
+fn open_keeper<D: Device, A: Allocator + Clone>(
     global: Global,
     device: D,
     rules: Rules,
@@ -111,7 +111,7 @@ fn open_unless_torn_long<D: Device, A: Allocator + Clone>(
                 };
                 return Err(NotStarted { device, fault });
             }
-            open_read(global, device, rules, extent, follower, torn)
+            open_keeper(global, device, rules, extent, follower, torn)
         }
         Err(fault) => {
             drop(follower);

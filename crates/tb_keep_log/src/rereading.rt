@@ -76,7 +76,7 @@ fn enter_all<D: Device, A: Allocator + Clone>(
 }
 
 /// The follower behind the entries of a file of which nothing was read, and where its records end.
-fn read_by<D: Device, A: Allocator + Clone>(
+fn read_records<D: Device, A: Allocator + Clone>(
     global: Global,
     alloc: A,
     rules: Rules,
@@ -122,7 +122,7 @@ pub fn read_log<D: Device, A: Allocator + Clone>(
     ensures cause { D.tells → HasLogCause result (D.disk device.old) (D.disk device.new) }
 {
     match Scan::start(global, device) {
-        Ok(mut scan) => read_by(global, alloc, rules, &mut scan, device),
+        Ok(mut scan) => read_records(global, alloc, rules, &mut scan, device),
         Err(fault) => Err(LogStartFault::Journal(fault)),
     }
 }

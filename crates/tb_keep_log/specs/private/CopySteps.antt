@@ -120,18 +120,18 @@ module _ (tells : Type 0) {N : Type 0} (disk : N → Disk) where
         pub read : (file : List ℕ) (read : List (List ℕ)) → holds file → HasRead read file first → HasRead (read ++ records) file here
 
       -- no more were taken behind that place: the file ends there; or it is the reason, or its device or memory; or the new file is
-      abbrev pub EndsCopy : Result (Unit {0}) CopyLogFault → ScanState → Following → Kept N → Kept N → Type 0
-      EndsCopy (Ok done) here F before after =
+      abbrev pub HaltsCopy : Result (Unit {0}) CopyLogFault → ScanState → Following → Kept N → Kept N → Type 0
+      HaltsCopy (Ok done) here F before after =
           (after ≡ before) × ((file : List ℕ) (read : List (List ℕ)) → holds file → HasRead read file here → contents file ≡ Records read)
-      EndsCopy (Err (Old fault)) here F before after =
+      HaltsCopy (Err (Old fault)) here F before after =
           (after ≡ before)
           × ((file : List ℕ) (read : List (List ℕ)) → holds file → HasRead read file here → StopsAfter fault profile clients_max read F file)
-      EndsCopy (Err (New fault)) here F before after = Unwritten (New fault) before after
+      HaltsCopy (Err (New fault)) here F before after = Unwritten (New fault) before after
 
       abbrev pub TakesNext : Result Bool CopyLogFault → ScanState → ScanState → Following → Following → Kept N → Kept N → Type 0
       TakesNext (Ok true) first last F G before after = (bytes : List ℕ) × Taken (bytes ∷ []) first last F G before after
-      TakesNext (Ok false) first last F G before after = EndsCopy (Ok tt) first F before after
-      TakesNext (Err fault) first last F G before after = EndsCopy (Err fault) first F before after
+      TakesNext (Ok false) first last F G before after = HaltsCopy (Ok tt) first F before after
+      TakesNext (Err fault) first last F G before after = HaltsCopy (Err fault) first F before after
 
       -- all records up to a place were taken over, and no more
       pub record TakesAll (reached : Reached) (result : Result (Unit {0}) CopyLogFault) (first : ScanState) (F : Following) (before after : Kept N) : Type 0 where
@@ -143,7 +143,7 @@ module _ (tells : Type 0) {N : Type 0} (disk : N → Disk) where
         pub reached_is : reached ≡ reached_by last reached.extent
         pub end : reached.extent.end ≡ here.end
         pub count : reached.extent.count ≡ here.count
-        pub ends : EndsCopy result here last middle after
+        pub ends : HaltsCopy result here last middle after
 
       -- and they were committed
       pub record TakesWhole (reached : Reached) (stop : Option LogStartFault) (first : ScanState) (F : Following) (before after : Kept N) : Type 0 where

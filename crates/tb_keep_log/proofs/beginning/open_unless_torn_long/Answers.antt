@@ -18,10 +18,10 @@ returns-then-torn-gt-TORN_BYTES_MAX-clause-handed g c file holds found =
 
 pub returns-else-torn-gt-TORN_BYTES_MAX-clause-handed : goal.returns-else-torn-gt-TORN_BYTES_MAX-clause-handed
 returns-else-torn-gt-TORN_BYTES_MAX-clause-handed g c file holds found =
-    opens_file c.args.rules.profile c.args.rules.clients_max c.args.rules file c.args.follower c.args.extent c.in-Ok.torn c.open_read.result found
-    (c.in-Ok.ensures.torn file holds found.extent_is) (omega arith) c.open_read.ensures.any_device
+    opens_file c.args.rules.profile c.args.rules.clients_max c.args.rules file c.args.follower c.args.extent c.in-Ok.torn c.open_keeper.result found
+    (c.in-Ok.ensures.torn file holds found.extent_is) (omega arith) c.open_keeper.ensures.any_device
 
 pub returns-else-torn-gt-TORN_BYTES_MAX-clause-aside : goal.returns-else-torn-gt-TORN_BYTES_MAX-clause-aside
 returns-else-torn-gt-TORN_BYTES_MAX-clause-aside g c file holds read =
     were_aside g.D.Device.aside file c.args.rules c.args.follower c.args.extent c.in-Ok.torn read (c.in-Ok.ensures.torn file holds read)
-    c.open_read.result c.open_read.ensures.any_device (c.open_read.ensures.aside file (c.in-Ok.ensures.same file holds))
+    c.open_keeper.result c.open_keeper.ensures.any_device (c.open_keeper.ensures.aside file (c.in-Ok.ensures.same file holds))

@@ -4,7 +4,7 @@ use Rattle.tb_keep_log.proofs.Entering.{has_log_then}
 use Rattle.tb_keep_log.proofs.rereading.read_log.Goals as goal
 
 pub returns-in-Ok-clause-found : goal.returns-in-Ok-clause-found
-returns-in-Ok-clause-found g c file holds = c.read_by.ensures.found file (c.in-Ok.ensures.same file holds) (c.in-Ok.ensures.begun file holds)
+returns-in-Ok-clause-found g c file holds = c.read_records.ensures.found file (c.in-Ok.ensures.same file holds) (c.in-Ok.ensures.begun file holds)
 
 pub returns-in-Ok-clause-cause : goal.returns-in-Ok-clause-cause
 returns-in-Ok-clause-cause g c t =
@@ -12,4 +12,4 @@ returns-in-Ok-clause-cause g c t =
     let mid = g.D.Device.disk c.start.new.device in
     let seen = c.start.ensures.seen t in
     let here = subst (λ (f : List ℕ). HasRead [] f c.in-Ok.scan) (sym seen) (c.in-Ok.ensures.begun old.seen (g.met.D.Device.holds_seen c.args.device.now t)) in
-    has_log_then old mid (g.D.Device.disk c.read_by.new.device) (c.in-Ok.ensures.cause t).ok seen c.read_by.result (c.read_by.ensures.cause t [] here)
+    has_log_then old mid (g.D.Device.disk c.read_records.new.device) (c.in-Ok.ensures.cause t).ok seen c.read_records.result (c.read_records.ensures.cause t [] here)

@@ -1,6 +1,6 @@
 use Rattle.std.proofs.Common.{[]}
 use Rattle.tb_keep_log.proofs.Entering.{restored_whole, restored_not}
-use Rattle.tb_keep_log.proofs.rereading.read_by.Goals as goal
+use Rattle.tb_keep_log.proofs.rereading.read_records.Goals as goal
 
 pub returns-in-Ok-enter_all-clause-found : goal.returns-in-Ok-enter_all-clause-found
 returns-in-Ok-enter_all-clause-found g c file holds has =
