@@ -6,9 +6,8 @@ ghost use Rattle.tb_machine.specs.Histories.{reply_at, step};
 ghost use Rattle.tb_machine.specs.Scripts.{entry_of, has_time, after_pair};
 
 use std::alloc::Allocator;
-use tb_machine::Machine;
+use tb_machine::{Judged, Machine};
 use tb_records::Request;
-use tb_sessions::Class;
 
 /// Why a request was not entered.
 #[derive(Debug, Drop)]
@@ -30,18 +29,15 @@ pub fn enter_once<A: Allocator + Clone>(
     ensures entered { IfOk result (λ _. machine.new ≡ step machine.old (entry_of machine.old (now, request))) }
     ensures left { IfErr result (λ _. machine.new ≡ machine.old) }
 {
-    if !matches!(machine.class(&request), Class::New) {
-        drop(request);
-        return Err(Left::NotNew);
-    }
-    let Some(entry) = machine.next_entry(request, now) else {
-        return Err(Left::NoTime);
-    };
-    match machine.enter(entry) {
-        Ok(()) => Ok(()),
-        Err(back) => {
-            drop(back);
-            Err(Left::NoMemory)
-        }
+    match machine.judge(now, request) {
+        Judged::New(entry) => match machine.enter(entry) {
+            Ok(()) => Ok(()),
+            Err(back) => {
+                drop(back);
+                Err(Left::NoMemory)
+            }
+        },
+        Judged::NoTime => Err(Left::NoTime),
+        Judged::Known(..) => Err(Left::NotNew),
     }
 }
