@@ -220,11 +220,3 @@ def best(runs):
 def same(left, right):
     """Whether two files have the same bytes."""
     return filecmp.cmp(left, right, shallow=False)
-
-
-def machine():
-    """The processor's name, short."""
-    with open("/proc/cpuinfo", encoding="ascii") as file:
-        name = next(line.split(":")[1].strip() for line in file if line.startswith("model name"))
-    speed = name.rpartition("@")[2].strip().replace("GHz", " GHz")
-    return f"{speed} Xeon" if "Xeon" in name else name

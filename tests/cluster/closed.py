@@ -4,7 +4,7 @@ import subprocess
 
 from .processes import Cluster
 
-CA, SERVER, CLIENT = "ca", "server", "client"
+SERVER, CLIENT = "server", "client"
 PASSWORD = "a long password"
 
 

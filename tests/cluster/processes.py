@@ -246,7 +246,7 @@ class Cluster(Machines):
         is_linked=True,
         **options,
     ):
-        self.quota, self.is_linked = quota, is_linked
+        self.quota = quota
         take = iter(free_ports(3 * count + count * count)).__next__
         self.serves, self.peers = [[take() for _ in range(count)] for _ in range(2)]
         self.peer_links = [take() for _ in range(count)]

@@ -5,7 +5,6 @@ import re
 
 TOP = os.path.dirname(os.path.dirname(os.path.dirname(os.path.abspath(__file__))))
 PATH = "tools/ledger.json"
-SOURCE = "tools/tables.py"
 BYTES = {"u8": 1, "u16": 2, "u32": 4, "u64": 8, "u128": 16}
 
 

@@ -12,7 +12,6 @@ register; query_accounts ledger=7 # a ; here
   limit=1; create_accounts id=1 # query_accounts;
 , id=2 ledger=7; query_accounts_x; lookup_accounts id=1, query_accounts; get_account_balances
 account_id=1"""
-QUESTIONS = [b"query_accounts ledger=7 # a ;", b"get_account_balances\naccount_id=1"]
 
 
 def parts_of(pieces):

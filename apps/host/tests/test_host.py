@@ -2298,10 +2298,6 @@ class Rot(OverALog):
     PARTS.update({"replies": 104, "hash of replies": 130, "moment": 145, "client": 155})
     PARTS.update({"session": 170, "operation": 180, "length": 184, "zeros": 190})
 
-    async def asyncSetUp(self):
-        await super().asyncSetUp()
-        self.took = []  # the pairs that the server was given
-
     def fill(self, count=3):
         """Entries of a writer. Answers their bytes."""
         data = [entry(A, it, pair(it, register(it))).to_bytes() for it in range(1, count + 1)]

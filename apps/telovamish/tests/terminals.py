@@ -13,7 +13,6 @@ from conftest import COMMAND
 
 CURSOR = re.compile(r"\x08?\x1b\[(\d*)C")
 ESCAPES = re.compile(r"\x1b\[[?0-9;]*[A-Za-z]|\r")
-PROMPT = "\n> "
 
 
 def cleaned(text: str) -> str:

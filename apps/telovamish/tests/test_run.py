@@ -11,7 +11,6 @@ from conftest import APP, COMMAND, ran
 EXAMPLES = APP.parent.parent / "examples"
 HEAD = b"at=10 client=7 register;\n"
 MARK = bytes(8) + bytes([2, *bytes(7)])
-NEEDS = "telovamish: line 1, column 1: "
 
 
 def script(text: bytes) -> bytes:
