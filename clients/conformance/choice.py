@@ -1,5 +1,7 @@
-"""Which wrong clients are tried: what the scripts that try them share."""
+"""Which wrong clients are tried, and whether each is caught: what their scripts share."""
+import concurrent.futures
 import fnmatch
+import re
 import sys
 
 
@@ -33,3 +35,32 @@ def chosen(wrong, given):
         print(*found, sep="\n")
         sys.exit()
     return found
+
+
+def first_failure(ran):
+    """A kit's status, and the scenario that failed first."""
+    first = re.search(r"^FAILED: ([^:]+): (.*)", ran.stdout, re.M)
+    said = f"{first[1]}: {first[2][:100]}" if first else (ran.stdout + ran.stderr)[-300:]
+    return ran.returncode, said
+
+
+def all_caught(tried, caught, jobs=1):
+    """Sees that the kit passes the client as it is, and fails for each wrong one. `caught` returns
+    the kit's status for a client's edits and what it printed. Returns the script's status."""
+    status, said = caught(())
+    if status:
+        print(f"FAILED: the client as it is: {said}")
+        return 1
+    missed = 0
+    with concurrent.futures.ThreadPoolExecutor(jobs) as pool:
+        runs = {name: pool.submit(caught, edits) for name, edits in tried.items()}
+        for name, run in runs.items():
+            try:
+                status, said = run.result()
+            except LookupError as why:
+                status, said = 2, str(why)
+            missed += status != 1
+            how = f"caught: {name}: by" if status == 1 else f"FAILED: not caught: {name}:"
+            print(how, said, flush=True)
+    print(f"{len(tried) - missed} of {len(tried)} wrong clients are caught")
+    return 1 if missed else 0

@@ -10,9 +10,7 @@ clients are caught'. Status 1 where one is not. With --drawn those of sessions (
 have to fail among so many scenarios that are drawn, without the stored ones.
 """
 import argparse
-import concurrent.futures
 import os
-import re
 import shutil
 import subprocess
 import sys
@@ -24,7 +22,7 @@ PYTHON = os.path.join(os.path.dirname(HERE), "python")
 sys.path.insert(0, HERE)
 
 import wrong_sessions  # noqa: E402
-from choice import add_words, chosen  # noqa: E402
+from choice import add_words, all_caught, chosen, first_failure  # noqa: E402
 
 SECONDS = 1800  # that the kit may take for one wrong client
 
@@ -402,11 +400,7 @@ def caught(edits, jobs, scenarios="*", drawn=()):
             *runner,
         ]
         ran = subprocess.run(words, capture_output=True, text=True, timeout=SECONDS)
-    first = re.search(r"^FAILED: ([^:]+): (.*)", ran.stdout, re.M)
-    return (
-        ran.returncode,
-        f"{first[1]}: {first[2][:100]}" if first else (ran.stdout + ran.stderr)[-300:],
-    )
+    return first_failure(ran)
 
 
 def words():
@@ -450,30 +444,11 @@ def main():
     if given.texts:
         return texts(tried)
     drawn = ["--drawn", str(given.drawn), "--seed", str(given.seed)] if given.drawn else []
-    status, said = caught((), 4, given.scenarios, drawn)
-    if status:
-        print(f"FAILED: the client as it is: {said}")
-        return 1
-    missed = 0
-    with concurrent.futures.ThreadPoolExecutor(given.jobs) as pool:
-        runs = {
-            name: pool.submit(caught, edits, 1, given.scenarios, drawn)
-            for name, edits in tried.items()
-        }
-        for name, run in runs.items():
-            try:
-                status, said = run.result()
-            except LookupError as why:
-                status, said = 2, str(why)
-            missed += status != 1
-            print(
-                f"caught: {name}: by {said}"
-                if status == 1
-                else f"FAILED: not caught: {name}: {said}",
-                flush=True,
-            )
-    print(f"{len(tried) - missed} of {len(tried)} wrong clients are caught")
-    return 1 if missed else 0
+
+    def kit(edits):
+        return caught(edits, 1 if edits else 4, given.scenarios, drawn)
+
+    return all_caught(tried, kit, given.jobs)
 
 
 if __name__ == "__main__":

@@ -8,9 +8,7 @@ has to fail for it; the client as it is has to pass. Prints which scenario caugh
 wrong clients are caught'. Status 1 where one is not.
 """
 import argparse
-import concurrent.futures
 import os
-import re
 import shutil
 import subprocess
 import sys
@@ -24,7 +22,7 @@ SECONDS = 1800  # that one command may take for one wrong client
 sys.dont_write_bytecode = True
 sys.path.insert(0, CONFORMANCE)
 
-from choice import add_words, chosen  # noqa: E402
+from choice import add_words, all_caught, chosen, first_failure  # noqa: E402
 
 # Each: what is wrong, the file, the text that is there once, and the text in its place.
 WRONG = {
@@ -319,9 +317,7 @@ def caught(edits, over, scenarios="*"):
         ran = subprocess.run(
             [*words, "--", built(folder, edits)], capture_output=True, text=True, timeout=SECONDS
         )
-    first = re.search(r"^FAILED: ([^:]+): (.*)", ran.stdout, re.M)
-    said = f"{first[1]}: {first[2][:100]}" if first else (ran.stdout + ran.stderr)[-300:]
-    return ran.returncode, said
+    return first_failure(ran)
 
 
 def words():
@@ -339,30 +335,7 @@ def main():
     if given.jobs < 1:
         sys.exit("--jobs is 1 or more")
     tried = chosen(WRONG, given)
-    status, said = caught((), given.over, given.scenarios)
-    if status:
-        print(f"FAILED: the client as it is: {said}")
-        return 1
-    missed = 0
-    with concurrent.futures.ThreadPoolExecutor(given.jobs) as pool:
-        runs = {
-            name: pool.submit(caught, edits, given.over, given.scenarios)
-            for name, edits in tried.items()
-        }
-        for name, run in runs.items():
-            try:
-                status, said = run.result()
-            except LookupError as why:
-                status, said = 2, str(why)
-            missed += status != 1
-            print(
-                f"caught: {name}: by {said}"
-                if status == 1
-                else f"FAILED: not caught: {name}: {said}",
-                flush=True,
-            )
-    print(f"{len(tried) - missed} of {len(tried)} wrong clients are caught")
-    return 1 if missed else 0
+    return all_caught(tried, lambda it: caught(it, given.over, given.scenarios), given.jobs)
 
 
 if __name__ == "__main__":

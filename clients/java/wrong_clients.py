@@ -9,7 +9,6 @@ Status 1 where one is not.
 """
 import argparse
 import os
-import re
 import subprocess
 import sys
 import tempfile
@@ -23,7 +22,7 @@ JAVA = ["java", "-XX:TieredStopAtLevel=1", "-XX:+UseSerialGC", "-Xshare:auto", "
 sys.dont_write_bytecode = True
 sys.path.insert(0, CONFORMANCE)
 
-from choice import add_words, chosen  # noqa: E402
+from choice import add_words, all_caught, chosen, first_failure  # noqa: E402
 
 # Each: what is wrong, the class, and texts that are there once, each with the text in its place.
 WRONG = {
@@ -385,9 +384,7 @@ def caught(edit, scenarios="*"):
         words = [sys.executable, "-B", KIT, "--first", "--more", "200", "--jobs", "1"]
         words += ["--only", scenarios, "--", *runner]
         ran = subprocess.run(words, capture_output=True, text=True, timeout=SECONDS)
-    first = re.search(r"^FAILED: ([^:]+): (.*)", ran.stdout, re.M)
-    said = f"{first[1]}: {first[2][:100]}" if first else (ran.stdout + ran.stderr)[-300:]
-    return ran.returncode, said
+    return first_failure(ran)
 
 
 def main():
@@ -396,22 +393,7 @@ def main():
     )
     add_words(parser)
     given = parser.parse_args()
-    tried = chosen(WRONG, given)
-    status, said = caught(None, given.scenarios)
-    if status:
-        print(f"FAILED: the client as it is: {said}")
-        return 1
-    missed = 0
-    for name, edit in tried.items():
-        try:
-            status, said = caught(edit, given.scenarios)
-        except LookupError as why:
-            status, said = 2, str(why)
-        missed += status != 1
-        how = "caught: " if status == 1 else "FAILED: not caught: "
-        print(f"{how}{name}: by {said}" if status == 1 else f"{how}{name}: {said}", flush=True)
-    print(f"{len(tried) - missed} of {len(tried)} wrong clients are caught")
-    return 1 if missed else 0
+    return all_caught(chosen(WRONG, given), lambda it: caught(it, given.scenarios))
 
 
 if __name__ == "__main__":
