@@ -1,8 +1,8 @@
 -- Words that are so many.
 use Rattle.std.proofs.Common.{◌≡◌, ℕ, ◌<◌, ◌≤◌, ◌-◌, List, [], ◌∷◌, ◌++◌, length, take, drop, get_or, map, refl, arith}
 use Rattle.std.proofs.lemmas.List.{take_all}
+use Rattle.tb_cli.specs.declared.faults.Wrong.{Wrong}
 use Rattle.tb_keep_commands.specs.declared.help.TheConstants.{USAGE}
-use Rattle.tb_keep_commands.specs.Forms.{wrong}
 use Rattle.tb_keep_commands.specs.ExitStatuses.{shown_words, usage_lines, wrong_line}
 use Rattle.tb_keep_commands.specs.Printable.{printable}
 
@@ -16,11 +16,11 @@ module _ {X : Type 0} (bytes : X → List ℕ) where
       rw (same, all) refl
 
   -- without words it is the page of usage
-  pub usage_page : (words : List X) → length words < 1 → usage_lines (map bytes words) ≡ USAGE.now
-  usage_page [] none = refl
-  usage_page (x ∷ xs) none = absurd (omega (arith, none))
+  pub usage_page : (wrong : Wrong) (words : List X) → length words < 1 → usage_lines wrong (map bytes words) ≡ USAGE.now
+  usage_page wrong [] none = refl
+  usage_page wrong (x ∷ xs) none = absurd (omega (arith, none))
 
   -- words that are some are reported with what is wrong with them
-  pub usage_is : (words : List X) → 1 ≤ length words → usage_lines (map bytes words) ≡ wrong_line (wrong (map bytes words))
-  usage_is [] some = absurd (omega (arith, some))
-  usage_is (x ∷ xs) some = refl
+  pub usage_is : (wrong : Wrong) (words : List X) → 1 ≤ length words → usage_lines wrong (map bytes words) ≡ wrong_line wrong (map bytes words)
+  usage_is wrong [] some = absurd (omega (arith, some))
+  usage_is wrong (x ∷ xs) some = refl

@@ -1,5 +1,5 @@
 -- Bytes over the first ones of others.
-use Rattle.std.proofs.Common.{arith, ℕ, ◌≡◌, ◌+◌, ◌-◌, ◌≤◌, ◌<◌, zero, suc, min, List, [], ◌∷◌, ◌++◌, length, take, drop, refl, sym, ap, ◌∙◌, length-append, length-drop}
+use Rattle.std.proofs.Common.{arith, ℕ, ◌≡◌, ◌≤◌, zero, suc, min, List, [], ◌∷◌, ◌++◌, length, take, drop, refl, sym, ap, ◌∙◌, length-append, length-drop}
 use Rattle.std.proofs.lemmas.List.{length-take-le, take_at}
 use Rattle.tb_journal.specs.Contents.{magic}
 use Rattle.tb_journal.specs.Device.{ReadsAt}

@@ -1,10 +1,11 @@
 -- Bytes that are sent and passed on, and lines that are reported.
-use Rattle.std.proofs.Common.{◌≡◌, ◌-◌, ◌<◌, ℕ, zero, suc, List, [], ◌++◌, Result, Ok, Err, codes, sym, subst, refl, append-nil, inl, inr, arith}
+use Rattle.std.proofs.Common.{◌≡◌, ◌-◌, ◌<◌, ℕ, zero, suc, List, [], ◌++◌, Result, Ok, Err, codes, take, sym, subst, refl, append-nil, inl, inr, arith}
 use Rattle.tb_records.specs.declared.faults.FrameFault.{FrameFault}
 use Rattle.tb_records.specs.Transport.{Output, Sent, CutOff, IsSent}
 use Rattle.tb_records.proofs.Sendings.{sent_rest}
-use Rattle.tb_keep_commands.specs.Forms.{Wrong}
-use Rattle.tb_keep_commands.specs.ExitStatuses.{said_text, wrong_line, cut_line, Passes, SaysLine, TellsCut}
+use Rattle.tb_cli.specs.declared.faults.Wrong.{Wrong}
+use Rattle.tb_cli.specs.Words.{fault_text}
+use Rattle.tb_keep_commands.specs.ExitStatuses.{said_text, wrong_line, cut_line, Passes, SaysLine, PrintsCut}
 
 sent_passed : (xs : List ℕ) (old mid new : Output) → Sent xs old mid → Sent [] mid new → Sent xs old new
 sent_passed xs old mid new one two = sent_rest xs [] old mid new xs (append-nil xs) one (Ok tt) two
@@ -16,16 +17,17 @@ said xs line (Err fault) old mid new same sent passed =
     inr (subst (λ (o : Output). CutOff line old o) (sym passed) (subst (λ (l : List ℕ). CutOff l old mid) (sym same) sent.1))
 
 -- bytes that were cut off are some
-pub cut_told : (bytes at : ℕ) (r : Result (Unit {0}) FrameFault) (before mid after : Output) → 0 < bytes → IsSent r (cut_line bytes at) before mid → Passes r mid after
-    → TellsCut bytes at before after
-cut_told zero at r before mid after some sent passed = absurd (omega (arith, some))
-cut_told (suc more) at r before mid after some sent passed = said _ _ r before mid after refl sent passed
+pub cut_printed : (bytes at : ℕ) (r : Result (Unit {0}) FrameFault) (before mid after : Output) → 0 < bytes → IsSent r (cut_line bytes at) before mid → Passes r mid after
+    → PrintsCut bytes at before after
+cut_printed zero at r before mid after some sent passed = absurd (omega (arith, some))
+cut_printed (suc more) at r before mid after some sent passed = said _ _ r before mid after refl sent passed
 
 -- words and what is wrong with them
-pub wrong_sent : (said : Wrong) (shown : List (List ℕ)) (what : List ℕ) (r : Result (Unit {0}) FrameFault) (old new : Output) → shown ≡ said.shown → what ≡ said.what
-    → IsSent r (codes "tbd: Usage:" ++ said_text shown what) old new → IsSent r (wrong_line said) old new
-wrong_sent said shown what r old new same_shown same_what sent = rw (← same_shown, ← same_what) sent
+pub wrong_sent : (wrong : Wrong) (words shown : List (List ℕ)) (what : List ℕ) (r : Result (Unit {0}) FrameFault) (old new : Output)
+    → shown ≡ take wrong.shown words → what ≡ fault_text wrong.fault
+    → IsSent r (codes "tbd: Usage:" ++ said_text shown what) old new → IsSent r (wrong_line wrong words) old new
+wrong_sent wrong words shown what r old new same_shown same_what sent = rw (← same_shown, ← same_what) sent
 
 -- what was cut off is reported, with the place where the records end
-pub told_cut : (cut len bytes at : ℕ) (before after : Output) → bytes ≡ cut → at ≡ len - bytes - 4 → TellsCut bytes at before after → TellsCut cut (len - cut - 4) before after
-told_cut cut len bytes at before after same place told = rw (← same, ← place) told
+pub printed_cut : (cut len bytes at : ℕ) (before after : Output) → bytes ≡ cut → at ≡ len - bytes - 4 → PrintsCut bytes at before after → PrintsCut cut (len - cut - 4) before after
+printed_cut cut len bytes at before after same place told = rw (← same, ← place) told

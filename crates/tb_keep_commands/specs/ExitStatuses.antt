@@ -1,5 +1,5 @@
 -- The exit status of each fault, and the line that names it.
-use Rattle.std.specs.Prelude.{ℕ, zero, suc, Bool, true, false, ◌≡◌, ◌⊎◌, ◌==◌, ◌+◌, ◌-◌, ◌/◌, ◌^◌, ◌&&◌, min, nat_le, nat_eq, ◌++◌, List, [], ◌∷◌, Option, Some, None, Result, Ok, Err, IfOk, if◌then◌else◌, flat_map, codes, string_bytes, refl}
+use Rattle.std.specs.Prelude.{ℕ, zero, suc, Bool, true, false, ◌≡◌, ◌⊎◌, ◌==◌, ◌+◌, ◌-◌, ◌/◌, ◌^◌, ◌&&◌, min, nat_le, nat_eq, ◌++◌, List, [], ◌∷◌, Option, Some, None, Result, Ok, Err, IfOk, if◌then◌else◌, take, flat_map, codes, string_bytes, refl}
 use Rattle.std.specs.Fmt.{decimal, digits}
 use Rattle.std.specs.IoError.{error_kind}
 use Rattle.std.specs.Str.{chars}
@@ -47,13 +47,17 @@ use Rattle.tb_keep_commands.specs.declared.faults.Mismatch.{Mismatch}
 use Rattle.tb_keep_commands.specs.declared.faults.Numbers.{Numbers}
 use Rattle.tb_keep_commands.specs.declared.kinds.Kind.{Kind}
 use Rattle.tb_keep_commands.specs.declared.kinds.Kind.TheVariants as kind
+use Rattle.tb_cli.specs.declared.faults.Fault.TheVariants.{Missing}
 use Rattle.tb_cli.specs.declared.faults.TheConstants.{CLIENTS_MISSING, CLIENTS_WRONG}
+use Rattle.tb_cli.specs.declared.faults.Wrong.{Wrong}
+use Rattle.tb_cli.specs.declared.table.FormName.TheVariants as name
+use Rattle.tb_cli.specs.declared.table.Operand.TheVariants as operand
+use Rattle.tb_cli.specs.Words as cli
 use Rattle.tb_keep_commands.specs.declared.help.TheConstants.{USAGE}
 use Rattle.tb_keep_commands.specs.declared.openers.OpeningFault.{OpeningFault}
 use Rattle.tb_keep_commands.specs.declared.openers.OpeningFault.TheVariants as opening
 use Rattle.tb_keep_commands.specs.declared.reports.Reported.{Reported}
 use Rattle.tb_keep_commands.specs.declared.lines.WrongEntry.{WrongEntry}
-use Rattle.tb_keep_commands.specs.Forms.{Wrong, asked_in, wrong}
 use Rattle.tb_keep_commands.specs.Printable.{printable}
 
 -- what the faults of the system and of the libraries are here
@@ -329,13 +333,13 @@ abbrev pub made_line : List ℕ → List ℕ
 made_line path = codes "tbd: made " ++ (printable path ++ codes "\n")
 
 -- a line is reported, or none is
-abbrev pub TellsWhere : Bool → List ℕ → Output → Output → Type 0
-TellsWhere false line before after = after ≡ before
-TellsWhere true line before after = SaysLine line before after
+abbrev pub PrintsWhere : Bool → List ℕ → Output → Output → Type 0
+PrintsWhere false line before after = after ≡ before
+PrintsWhere true line before after = SaysLine line before after
 
 -- of a file of so many bytes: it was made where it had none, and else nothing is reported
-abbrev pub TellsMade : ℕ → List ℕ → Output → Output → Type 0
-TellsMade len path before after = TellsWhere (nat_eq len 0) (made_line path) before after
+abbrev pub PrintsMade : ℕ → List ℕ → Output → Output → Type 0
+PrintsMade len path before after = PrintsWhere (nat_eq len 0) (made_line path) before after
 
 -- what a start says that cut bytes off: how many, and where the records end that stay
 abbrev pub cut_line : ℕ → ℕ → List ℕ
@@ -349,8 +353,8 @@ abbrev pub reading_line : List ℕ → ℕ → ℕ → List ℕ
 reading_line path read all = (codes "tbd: reading " ++ (printable path ++ codes ", ")) ++ (read_text read all ++ codes "\n")
 
 -- of a start that is reported: that it begins to read a file of a million bytes or more
-abbrev pub TellsReading : Bool → List ℕ → ℕ → Output → Output → Type 0
-TellsReading reports path bytes before after = TellsWhere (reports && nat_le 1000000 bytes) (reading_line path 0 (bytes / 1000000)) before after
+abbrev pub PrintsReading : Bool → List ℕ → ℕ → Output → Output → Type 0
+PrintsReading reports path bytes before after = PrintsWhere (reports && nat_le 1000000 bytes) (reading_line path 0 (bytes / 1000000)) before after
 
 -- where an answer is no fault this holds of it, and of whatever file a device held
 abbrev pub IfHeld : {D X F : Type 0} → (D → List ℕ → Type 0) → D → Result X F → (X → List ℕ → Type 0) → Type 0
@@ -369,27 +373,27 @@ abbrev pub Reports : {D E : Type 0} → sinks.Ghosts E → ℕ → Reported D E 
 Reports lines at before after =
     (after.path ≡ before.path) × (after.len ≡ before.len)
     × (after.due ≡ (if nat_le before.due at then min (at + 64000000) (2 ^ 64 - 1) else before.due))
-    × TellsWhere (nat_le before.due at) (reading_line (string_bytes before.path) (at / 1000000) (before.len / 1000000))
+    × PrintsWhere (nat_le before.due at) (reading_line (string_bytes before.path) (at / 1000000) (before.len / 1000000))
     (lines.output before.lines) (lines.output after.lines)
 
 -- of a start that is reported: that requests are served from here on, and the last commit and its time; both are 0 before the first one
 abbrev pub ready_line : ℕ → ℕ → List ℕ
 ready_line commit time = numbered (codes "tbd: ready: commit ") commit ++ line_of (numbered (codes ", time ") time)
 
-abbrev pub TellsReady : Bool → ℕ → ℕ → Output → Output → Type 0
-TellsReady reports commit time before after = TellsWhere reports (ready_line commit time) before after
+abbrev pub PrintsReady : Bool → ℕ → ℕ → Output → Output → Type 0
+PrintsReady reports commit time before after = PrintsWhere reports (ready_line commit time) before after
 
 -- of requests that would come from a terminal: where words are read
 abbrev pub frames_line : List ℕ
 frames_line = codes "tbd: standard input is a terminal, and run reads request frames there; telovamish repl and telovamish script take words\n"
 
-abbrev pub TellsFrames : Bool → Output → Output → Type 0
-TellsFrames talks before after = TellsWhere talks frames_line before after
+abbrev pub PrintsFrames : Bool → Output → Output → Type 0
+PrintsFrames talks before after = PrintsWhere talks frames_line before after
 
 -- nothing where nothing was cut off
-abbrev pub TellsCut : ℕ → ℕ → Output → Output → Type 0
-TellsCut zero at before after = after ≡ before
-TellsCut (suc more) at before after = SaysLine (cut_line (suc more) at) before after
+abbrev pub PrintsCut : ℕ → ℕ → Output → Output → Type 0
+PrintsCut zero at before after = after ≡ before
+PrintsCut (suc more) at before after = SaysLine (cut_line (suc more) at) before after
 
 -- what was sent is passed on, where all was
 abbrev pub Passes : Result (Unit {0}) FrameFault → Output → Output → Type 0
@@ -404,13 +408,13 @@ shown_words words = flat_map (λ word. 32 ∷ printable word) words
 abbrev pub said_text : List (List ℕ) → List ℕ → List ℕ
 said_text shown what = shown_words shown ++ (codes ": " ++ (what ++ codes "\n"))
 
-abbrev pub wrong_line : Wrong → List ℕ
-wrong_line said = codes "tbd: Usage:" ++ said_text said.shown said.what
+abbrev pub wrong_line : Wrong → List (List ℕ) → List ℕ
+wrong_line wrong words = codes "tbd: Usage:" ++ said_text (take wrong.shown words) (cli.fault_text wrong.fault)
 
 -- the page of usage where there are no words
-abbrev pub usage_lines : List (List ℕ) → List ℕ
-usage_lines [] = USAGE.now
-usage_lines (word ∷ rest) = wrong_line (wrong (word ∷ rest))
+abbrev pub usage_lines : Wrong → List (List ℕ) → List ℕ
+usage_lines wrong [] = USAGE.now
+usage_lines wrong (word ∷ rest) = wrong_line wrong (word ∷ rest)
 
 -- what private functions alone cite
 
@@ -478,8 +482,9 @@ pub line_of_a_new_file : made_line (codes "ledger") ≡ codes "tbd: made ledger\
 unfolding printable chars lib.Utf8.encode
 line_of_a_new_file = refl
 
-pub line_of_words : usage_lines (codes "run" ∷ []) ≡ codes "tbd: Usage: run: FILE and CLIENTS_MAX are missing\n"
-unfolding printable chars lib.Utf8.encode asked_in
+pub line_of_words : usage_lines (record { shown = 1; fault = Missing name.Run operand.File }) (codes "run" ∷ codes "--quick" ∷ [])
+    ≡ codes "tbd: Usage: run: FILE and CLIENTS_MAX are missing\n"
+unfolding printable chars lib.Utf8.encode
 line_of_words = refl
 
 -- the texts about a number of clients say its range

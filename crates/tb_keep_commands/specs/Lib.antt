@@ -2,11 +2,9 @@ pub mod Asides
 pub mod Copies
 pub mod DumpLaws
 pub mod Ends
-pub mod Exits
 pub mod Following
 pub mod Forms
 pub mod Pages
-pub mod Hosts
 pub mod Kinds
 pub mod Live
 pub mod Mending

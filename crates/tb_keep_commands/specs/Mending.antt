@@ -1,5 +1,5 @@
 -- A file whose first bytes are read as those of a journal, whatever they are.
-use Rattle.std.specs.Prelude.{ℕ, ◌≡◌, ◌++◌, Bool, true, false, List, [], ◌∷◌, Option, codes, refl}
+use Rattle.std.specs.Prelude.{ℕ, ◌≡◌, ◌++◌, List, [], ◌∷◌, codes, refl}
 use Rattle.tb_journal.specs.declared.devices.Device as devices
 use Rattle.tb_journal.specs.Contents.{magic, latch_closed}
 use Rattle.tb_journal.specs.Real.{untold}

@@ -22,8 +22,9 @@ use Rattle.tb_keep_commands.specs.declared.faults.Failed.TheVariants as failed
 use Rattle.tb_keep_commands.specs.declared.asides.Reason.{Reason}
 use Rattle.tb_keep_commands.specs.declared.openers.OpeningFault.{OpeningFault}
 use Rattle.tb_keep_commands.specs.declared.summaries.Found.{Found}
-use Rattle.tb_keep_commands.specs.Ends.{KnownFiles}
-use Rattle.tb_keep_commands.specs.ExitStatuses.{disk_fault, reason_fault, started_fault, kept_fault, failed_pipe, TellsMade, TellsCut, TellsReading, TellsReady, TellsFrames}
+use Rattle.tb_keep_commands.specs.declared.keeping.FileStart.{FileStart}
+use Rattle.tb_keep_commands.specs.Ends.{KnownEnds, KnownFiles, On, made_by}
+use Rattle.tb_keep_commands.specs.ExitStatuses.{disk_fault, reason_fault, started_fault, kept_fault, failed_pipe, PrintsMade, PrintsCut, PrintsReading, PrintsReady, PrintsFrames}
 use Rattle.tb_keep_commands.specs.Live.{IsWholeLength, MeasuresWhole}
 use Rattle.tb_keep_commands.specs.Following.{WritesPart, HasPartCause, dump_outcome}
 use Rattle.tb_keep_commands.specs.Naming.{Names, NamesAsked}
@@ -150,10 +151,10 @@ module _ {D : Type 0} (its : devices.Ghosts D) where
   -- it is done, where that is reported; then a ledger was kept
   pub record ServesKept (outcome : Outcome) (keeper : Keeping D) (path : List ℕ) (reports : Bool) (len : ℕ) (first last : Input) (start written quiet told : Output) : Type 0 where
     pub noted : Output
-    pub made : TellsMade len path quiet noted
+    pub made : PrintsMade len path quiet noted
     pub started : Output
-    pub cut : TellsCut keeper.cut (len - keeper.cut - 4) noted started
-    pub ready : TellsReady reports keeper.state.commit keeper.state.books.time started told
+    pub cut : PrintsCut keeper.cut (len - keeper.cut - 4) noted started
+    pub ready : PrintsReady reports keeper.state.commit keeper.state.books.time started told
     pub result : Result ℕ KeepFault
     pub after : Keeping D
     pub served : Served its.tells its.disk result keeper after first last start written
@@ -201,7 +202,7 @@ module _ {D : Type 0} (its : devices.Ghosts D) where
   -- or is refused
   pub record ServesLong (outcome : Outcome) (rules : Rules) (path : List ℕ) (reports existing : Bool) (len : ℕ) (device : D) (first last : Input) (start written quiet told : Output) : Type 0 where
     pub noted : Output
-    pub reading : TellsReading reports path len quiet noted
+    pub reading : PrintsReading reports path len quiet noted
     pub started : Result (Keeping D) (NotKept D)
     pub starts : its.tells → StartsBy existing started rules device
     pub handed : HandsBy existing started rules device
@@ -240,7 +241,7 @@ module _ {D : Type 0} (its : devices.Ghosts D) {O : Type 0} (may : Result D Open
   -- failed, the outcome is named by that
   pub record RunsOver (outcome : Outcome) (rules : Rules) (path : List ℕ) (reports existing talks : Bool) (first last : Input) (start written quiet told : Output) : Type 0 where
     pub noted : Output
-    pub frames : TellsFrames talks quiet noted
+    pub frames : PrintsFrames talks quiet noted
     pub served : Outcome
     pub reason : Option Reason
     pub asked : may_be_for reason
@@ -257,3 +258,11 @@ module _ {O D E : Type 0} (its : KnownFiles O D E) (name : List ℕ) (before lef
   ChecksOver quick outcome start written =
       Opens Opening (its.opener.opens before name) left outcome (written ≡ start)
       (λ device. (after : E) × ChecksFile its.reading its.whole quick outcome device after start written)
+
+-- a ledger of these rules was served over the file of a start, between the ends of a command
+abbrev pub RunsOn : {O D E R W L : Type 0} → KnownEnds O D E R W L → Rules → FileStart → Bool → O → O → Outcome → R → R → W → W → L → L → Type 0
+RunsOn its rules file talks before left outcome first last start written quiet told =
+    On its.source its.sink its.lines
+    (RunsOver its.files.file (made_by its.files file.existing before file.path.now) (its.files.opener.reasons left) left outcome
+    rules file.path.now file.reports file.existing talks)
+    first last start written quiet told

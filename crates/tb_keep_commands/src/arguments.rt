@@ -1,6 +1,7 @@
-//! What the words of the command line ask for, and what is wrong with words that ask for nothing.
-ghost use Rattle.std.specs.Prelude.{◌≡◌, map, take, string_bytes};
-ghost use Rattle.tb_keep_commands.specs.Forms.{asked_in, file_word, form_by, form_of, new_word, options_of, wrong};
+//! What the words of the command line ask for.
+ghost use Rattle.std.specs.Prelude.{◌≡◌, map, string_bytes};
+ghost use Rattle.tb_cli.specs.Words.{given_word};
+ghost use Rattle.tb_keep_commands.specs.Forms.{IsRead, Reads, asked_in, form_by, form_or_fault, options_in, options_of};
 
 use tb_cli::{Asked, Fault, FormName, Given, Wrong, given_word, read};
 use tb_records::{ClientsMax, Profile};
@@ -21,6 +22,8 @@ pub struct Options {
 pub enum Form {
     /// Serve requests over a file, which is made where there is none, unless the options say otherwise.
     Run(ClientsMax, Profile, Options),
+    /// Follow a log over a file, which is made where there is none, unless the options say otherwise.
+    Follow(ClientsMax, Profile, Options),
     /// Write the history of a file as a dump: all of it, or the entries above a commit number, without a head. The flag has more waited
     /// for.
     Dump(Option<u64>, bool),
@@ -36,7 +39,17 @@ pub enum Form {
     Version,
 }
 
-/// The program's forms. tb_keep_follow has what `follow` does.
+/// A form, and the words that name its files.
+#[derive(Clone, Copy)]
+pub struct Command<'a> {
+    pub form: Form,
+    /// An empty word where no file is named.
+    pub file: &'a str,
+    /// An empty word where no new file is named.
+    pub new: &'a str,
+}
+
+/// The program's forms.
 pub const FORMS: &[FormName] = &[
     FormName::Run,
     FormName::Dump,
@@ -48,16 +61,14 @@ pub const FORMS: &[FormName] = &[
     FormName::Version,
 ];
 
-/// What the words ask for; or which of them is wrong, and how.
-#[tactic(auto, unfolding(crate::specs::Forms::asked_in))]
-pub fn read_words(words: &[String]) -> Result<Asked, Wrong>
-    ensures { result ≡ asked_in (map string_bytes words.now) }
-{
-    read(FORMS, words)
-}
+/// What is wrong with words that name no form.
+const NO_FORM: Wrong = Wrong {
+    shown: 1,
+    fault: Fault::NoForm,
+};
 
 /// The options among what is given.
-pub fn options_of(given: Given) -> Options
+fn options_of(given: Given) -> Options
     ensures { result ≡ options_of given }
 {
     Options {
@@ -67,71 +78,75 @@ pub fn options_of(given: Given) -> Options
     }
 }
 
-/// The form over a ledger that is asked for; None where that is one over a log.
+impl Form {
+    /// What more it is asked: nothing where it is neither `run` nor `follow`.
+    pub fn options(self) -> Options
+        ensures { result ≡ options_in self }
+    {
+        match self {
+            Form::Run(_, _, options) | Form::Follow(_, _, options) => options,
+            _ => Options {
+                reports: false,
+                existing: false,
+                drops: false,
+            },
+        }
+    }
+}
+
+/// The form that is asked for; None where a number of clients is missing.
 fn form_by(form: FormName, given: Given) -> Option<Form>
     ensures { result ≡ form_by form given }
 {
     match form {
         FormName::Run => Some(Form::Run(given.clients_max?, given.profile, options_of(given))),
+        FormName::Follow => Some(Form::Follow(
+            given.clients_max?,
+            given.profile,
+            options_of(given),
+        )),
         FormName::Dump => Some(Form::Dump(given.after, given.follow)),
         FormName::Check => Some(Form::Check(given.quick)),
         FormName::Salvage => Some(Form::Salvage),
         FormName::Backup => Some(Form::Backup),
         FormName::Help => Some(Form::Help(form)),
         FormName::Version => Some(Form::Version),
-        FormName::Follow | FormName::Memory => None,
+        FormName::Memory => None,
     }
 }
 
-/// What the words ask for; None where they are no form over a ledger.
-pub fn read_form(words: &[String]) -> Option<Form>
-    ensures { result ≡ form_of (map string_bytes words.now) }
+/// A form with what is given for it.
+fn command_by(words: &[String], form: FormName, given: Given) -> Result<Command<'_>, Wrong>
+    ensures { Reads result (form_or_fault (form_by form given)) (given_word (map string_bytes words.now) given.file)
+        (given_word (map string_bytes words.now) given.new) }
+{
+    let file = given_word(words, given.file);
+    let new = given_word(words, given.new);
+    match form_by(form, given) {
+        Some(form) => Ok(Command { form, file, new }),
+        None => Err(NO_FORM),
+    }
+}
+
+/// What the words ask for, by the table of tb_cli.
+#[tactic(auto, unfolding(crate::specs::Forms::asked_in))]
+fn read_words(words: &[String]) -> Result<Asked, Wrong>
+    ensures { result ≡ asked_in (map string_bytes words.now) }
+{
+    read(FORMS, words)
+}
+
+/// What the words ask for; or which of them is wrong, and how.
+pub fn read_command(words: &[String]) -> Result<Command<'_>, Wrong>
+    ensures { IsRead result (map string_bytes words.now) }
 {
     match read_words(words) {
-        Ok(Asked::Form(form, given)) => form_by(form, given),
-        Ok(Asked::Help(form)) => Some(Form::Help(form)),
-        Err(_) => None,
-    }
-}
-
-/// The word that names the file; an empty one where none does.
-pub fn file_word(words: &[String]) -> &str
-    ensures { result.now ≡ file_word (map string_bytes words.now) }
-{
-    match read_words(words) {
-        Ok(Asked::Form(_, given)) => given_word(words, given.file),
-        _ => "",
-    }
-}
-
-/// The word that names the new file; an empty one where none does.
-pub fn new_word(words: &[String]) -> &str
-    ensures { result.now ≡ new_word (map string_bytes words.now) }
-{
-    match read_words(words) {
-        Ok(Asked::Form(_, given)) => given_word(words, given.new),
-        _ => "",
-    }
-}
-
-/// The first words, up to so many.
-fn first_words(words: &[String], count: usize) -> &[String]
-    ensures { map string_bytes result.now ≡ take count (map string_bytes words.now) }
-{
-    if count < words.len() {
-        &words[..count]
-    } else {
-        words
-    }
-}
-
-/// What is wrong with words that are none of the program's forms, and those of them that are shown before it.
-pub fn wrong(words: &[String]) -> (&[String], &'static str)
-    ensures shown { map string_bytes result.0.now ≡ (wrong (map string_bytes words.now)).shown }
-    ensures what { result.1.now ≡ (wrong (map string_bytes words.now)).what }
-{
-    match read_words(words) {
-        Err(found) => (first_words(words, found.shown), found.fault.text()),
-        Ok(_) => (first_words(words, 1), Fault::NoForm.text()),
+        Ok(Asked::Form(form, given)) => command_by(words, form, given),
+        Ok(Asked::Help(form)) => Ok(Command {
+            form: Form::Help(form),
+            file: "",
+            new: "",
+        }),
+        Err(wrong) => Err(wrong),
     }
 }

@@ -1,34 +1,21 @@
-//! The program's forms, over what opens devices, any reader and any writer, and the exit status of each outcome.
-ghost use Rattle.std.specs.Prelude.{◌≡◌, ◌||◌, true, None, IfOk, map, string_bytes};
-ghost use Rattle.tb_keep_commands.specs.Forms.{form_of};
-ghost use Rattle.tb_keep_commands.specs.Exits.{Does, Finishes, TellsUsage, made_by};
-ghost use Rattle.tb_keep_commands.specs.private.Stages.{ChecksOn, DumpsAsked, DumpsOn, ExitsOn, PerformsOn, Runs, RunsOpened};
-ghost use Rattle.tb_keep_commands.specs.Outcomes.{Prints, named_by};
+//! The forms over a ledger, over what opens devices, any reader and any writer.
+ghost use Rattle.std.specs.Prelude.{◌≡◌, true, IfOk};
+ghost use Rattle.tb_keep_commands.specs.Ends.{made_by};
+ghost use Rattle.tb_keep_commands.specs.private.Stages.{DumpsAsked, RunsOpened};
+ghost use Rattle.tb_keep_commands.specs.Outcomes.{ChecksOver, DumpsOver, Prints, RunsOn, named_by};
 
-use crate::arguments::{Form, file_word, new_word, read_form};
 use crate::asides::Reason;
-use crate::copying::copy_over;
 use crate::ends::{Ends, Files};
 use crate::faults::{Failed, KeepCommandFault, reason_fault};
 use crate::files::{check, dump};
 use crate::following::{Part, follow};
-use crate::help::{VERSION, page};
-use crate::keeping::{Told, run};
-use crate::lines::{tell, tell_frames, tell_usage};
+use crate::keeping::{FileStart, run};
+use crate::lines::print_frames;
 use crate::openers::{Opener, OpeningFault};
 use crate::outlets::Outlet;
 use std::alloc::Global;
 use tb_keep::Rules;
 use tb_records::{Sink, Source, put_all};
-
-/// Which of the program's ends are terminals.
-#[derive(Clone, Copy)]
-pub struct Terminals {
-    /// Standard input: then `run` says where words are read.
-    pub input: bool,
-    /// Standard error: then `run` reports its start.
-    pub faults: bool,
-}
 
 /// Opens the device of a path that is served: one that is there, or else one that is made where there is none.
 pub fn made_by<O: Opener>(
@@ -63,34 +50,35 @@ fn run_opened<O: Opener, R: Source, W: Outlet, E: Sink>(
     alloc: Global,
     opener: &mut O,
     rules: Rules,
-    told: &Told,
+    file: &FileStart,
     reader: &mut R,
     writer: &mut W,
     faults: &mut E,
 ) -> Result<(), KeepCommandFault>
-    ensures { RunsOpened ⟦<O as Ends<R, W, E>>⟧.its rules told.now opener result reader writer faults }
+    ensures { RunsOpened ⟦<O as Ends<R, W, E>>⟧.its rules file.now opener result reader writer faults }
 {
-    match made_by(opener, told.path, told.existing) {
-        Ok(device) => run(alloc, device, rules, told, reader, writer, faults),
+    match made_by(opener, file.path, file.existing) {
+        Ok(device) => run(alloc, device, rules, file, reader, writer, faults),
         Err(fault) => Err(KeepCommandFault::Opening(fault)),
     }
 }
 
 /// Serves a ledger over the device of a path. Where requests would come from a terminal it is reported first where words are read.
-fn run_over<O: Opener, R: Source, W: Outlet, E: Sink>(
+pub fn run_over<O: Opener, R: Source, W: Outlet, E: Sink>(
     alloc: Global,
     opener: &mut O,
     rules: Rules,
-    told: &Told,
+    file: &FileStart,
     talks: bool,
     reader: &mut R,
     writer: &mut W,
     faults: &mut E,
 ) -> Result<(), KeepCommandFault>
-    ensures { Runs ⟦<O as Ends<R, W, E>>⟧.its rules told.now talks opener result reader writer faults }
+    ensures { RunsOn ⟦<O as Ends<R, W, E>>⟧.its rules file.now talks opener.old opener.new result
+        reader.old reader.new writer.old writer.new faults.old faults.new }
 {
-    tell_frames(talks, faults);
-    let served = run_opened(alloc, opener, rules, told, reader, writer, faults);
+    print_frames(talks, faults);
+    let served = run_opened(alloc, opener, rules, file, reader, writer, faults);
     let reason = opener.reason();
     named_by(reason, served)
 }
@@ -112,14 +100,15 @@ fn dump_part<O: Opener, W: Outlet>(
 }
 
 /// Writes the dump of the device of a name, or the part of one that was asked for.
-fn dump_over<O: Opener, W: Outlet>(
+pub fn dump_over<O: Opener, W: Outlet>(
     alloc: Global,
     opener: &mut O,
     name: &str,
     writer: &mut W,
     part: Part,
 ) -> Result<(), KeepCommandFault>
-    ensures { DumpsOn ⟦<O as Files>⟧.its W.Sink name.now part result opener writer }
+    ensures { DumpsOver ⟦<O as Files>⟧.its name.now opener.old opener.new part.after part.follows result
+        (W.output writer.old) (W.output writer.new) }
 {
     let opened = opener.open(name);
     match opened {
@@ -134,14 +123,15 @@ fn dump_over<O: Opener, W: Outlet>(
 }
 
 /// Writes what is in the device of a name.
-fn check_over<O: Opener, W: Sink>(
+pub fn check_over<O: Opener, W: Sink>(
     alloc: Global,
     opener: &mut O,
     name: &str,
     quick: bool,
     writer: &mut W,
 ) -> Result<(), KeepCommandFault>
-    ensures { ChecksOn ⟦<O as Files>⟧.its W.Sink name.now quick result opener writer }
+    ensures { ChecksOver ⟦<O as Files>⟧.its name.now opener.old opener.new quick result
+        (W.output writer.old) (W.output writer.new) }
 {
     let found = opener.open(name);
     match found {
@@ -155,139 +145,12 @@ fn check_over<O: Opener, W: Sink>(
     }
 }
 
-/// Prints a text.
-fn print<W: Sink>(writer: &mut W, text: &str) -> Result<(), KeepCommandFault>
+/// Writes a text.
+pub fn print<W: Sink>(writer: &mut W, text: &str) -> Result<(), KeepCommandFault>
     ensures { Prints text.now result (W.output writer.old) (W.output writer.new) }
 {
     match put_all(writer, text.as_bytes()) {
         Ok(()) => Ok(()),
         Err(_) => Err(KeepCommandFault::Device(Failed::Output)),
-    }
-}
-
-/// Says whether a start is reported: where that is asked for, and on a terminal.
-fn is_reported(reports: bool, terminals: Terminals) -> bool
-    ensures { result ≡ (reports || terminals.faults) }
-{
-    reports || terminals.faults
-}
-
-/// What the words ask for: a form, over the files that they name. And which of the program's ends are terminals.
-#[derive(Clone, Copy)]
-struct Asked<'a> {
-    form: Form,
-    file: &'a str,
-    new: &'a str,
-    ends: Terminals,
-}
-
-/// Does what the form asks for, over the device of a name.
-fn perform<O: Opener, R: Source, W: Outlet, E: Sink>(
-    alloc: Global,
-    opener: &mut O,
-    asked: &Asked,
-    reader: &mut R,
-    writer: &mut W,
-    faults: &mut E,
-) -> Result<(), KeepCommandFault>
-    ensures { PerformsOn ⟦<O as Ends<R, W, E>>⟧.its asked.now opener result reader writer faults }
-{
-    let name = asked.file;
-    match asked.form {
-        Form::Run(clients_max, profile, options) => {
-            let rules = Rules {
-                profile,
-                clients_max,
-            };
-            let told = Told {
-                path: name,
-                reports: is_reported(options.reports, asked.ends),
-                existing: options.existing,
-            };
-            let talks = asked.ends.input;
-            run_over(alloc, opener, rules, &told, talks, reader, writer, faults)
-        }
-        Form::Dump(after, follows) => {
-            dump_over(alloc, opener, name, writer, Part { after, follows })
-        }
-        Form::Check(quick) => check_over(alloc, opener, name, quick, writer),
-        Form::Salvage => copy_over(alloc, opener, name, asked.new, false, writer),
-        Form::Backup => copy_over(alloc, opener, name, asked.new, true, writer),
-        Form::Help(form) => print(writer, page(form)),
-        Form::Version => print(writer, VERSION),
-    }
-}
-
-/// Sends what a writer holds back where all was done.
-fn finish<W: Outlet>(
-    done: Result<(), KeepCommandFault>,
-    writer: &mut W,
-) -> Result<(), KeepCommandFault>
-    ensures { Finishes (W.gone writer.new) done result (W.output writer.old) (W.output writer.new) }
-{
-    match done {
-        Ok(()) => match writer.finish() {
-            Ok(()) => Ok(()),
-            Err(_) => Err(KeepCommandFault::Device(Failed::Output)),
-        },
-        Err(fault) => Err(fault),
-    }
-}
-
-/// Does what the form asks for, over the device of a name, and answers the exit status.
-fn exit<O: Opener, R: Source, W: Outlet, E: Sink>(
-    alloc: Global,
-    opener: &mut O,
-    asked: &Asked,
-    reader: &mut R,
-    writer: &mut W,
-    faults: &mut E,
-) -> u8
-    ensures { ExitsOn ⟦<O as Ends<R, W, E>>⟧.its asked.now opener result reader writer faults }
-{
-    let done = perform(alloc, opener, asked, reader, writer, faults);
-    match finish(done, writer) {
-        Ok(()) => 0,
-        Err(fault) => {
-            tell(fault, fault.path(asked.file, asked.new), faults);
-            fault.exit_status()
-        }
-    }
-}
-
-/// Does what the words ask for, and answers the exit status: 0 done, else that of the fault, whose line goes to `faults`.
-/// With 0 nothing goes there but what a start of `run` says that made a file or cut torn bytes off, or that is reported. Words that are none of the program's
-/// forms are found before anything is opened or read.
-pub fn command<O: Opener, R: Source, W: Outlet, E: Sink>(
-    alloc: Global,
-    opener: &mut O,
-    words: &[String],
-    ends: Terminals,
-    reader: &mut R,
-    writer: &mut W,
-    faults: &mut E,
-) -> u8
-    ensures usage { form_of (map string_bytes words.now) ≡ None → result ≡ 2 }
-    ensures unopened { form_of (map string_bytes words.now) ≡ None → opener.new ≡ opener.old }
-    ensures unread { form_of (map string_bytes words.now) ≡ None → reader.new ≡ reader.old }
-    ensures unwritten { form_of (map string_bytes words.now) ≡ None → writer.new ≡ writer.old }
-    ensures told { TellsUsage E.Sink words.now faults.old faults.new }
-    ensures served { Does ⟦<O as Ends<R, W, E>>⟧.its ends words.now opener.old opener.new result
-        reader.old reader.new writer.old writer.new faults.old faults.new }
-{
-    match read_form(words) {
-        Some(form) => {
-            let asked = Asked {
-                form,
-                file: file_word(words),
-                new: new_word(words),
-                ends,
-            };
-            exit(alloc, opener, &asked, reader, writer, faults)
-        }
-        None => {
-            tell_usage(words, faults);
-            KeepCommandFault::Usage.exit_status()
-        }
     }
 }

@@ -1,10 +1,10 @@
 //! A file copied into a new one: what can be read of it, or where it is whole.
 ghost use Rattle.std.specs.Prelude.{◌≡◌, true};
-ghost use Rattle.tb_keep_commands.specs.Copies.{copied_of, is_mended, mended_line, copied_text, rescued_text, refused_by, NamesCopy, Rescues, EndsBy, CopiesLong, CopiesFile};
+ghost use Rattle.tb_keep_commands.specs.Copies.{copied_of, is_mended, mended_line, copied_text, rescued_text, refused_by, NamesCopy, Rescues, EndsBy, CopiesLong, CopiesFile, CopiesOver};
 ghost use Rattle.tb_keep.specs.Keeping.{IsUsable, IsFresh};
 ghost use Rattle.tb_keep_commands.specs.Outcomes.{Prints, PrintsText};
 ghost use Rattle.tb_keep_commands.specs.private.Changes.{OnDevice};
-ghost use Rattle.tb_keep_commands.specs.private.Stages.{CopiesHeadedOn, CopiesMendedOn, CopiesOn, CopiesRefusedOn, EndsSalvage, MakesCopyOn, NotesMendedOn};
+ghost use Rattle.tb_keep_commands.specs.private.Stages.{CopiesHeadedOn, CopiesMendedOn, CopiesRefusedOn, EndsSalvage, MakesCopyOn, NotesMendedOn};
 
 use crate::copies::{Copied, damage_of};
 use crate::ends::Files;
@@ -329,7 +329,7 @@ fn copy_headed<O: Opener, W: Sink>(
 }
 
 /// Copies the file of a name into a new one of another name, and writes what was copied.
-pub(crate) fn copy_over<O: Opener, W: Sink>(
+pub fn copy_over<O: Opener, W: Sink>(
     alloc: Global,
     opener: &mut O,
     name: &str,
@@ -337,7 +337,8 @@ pub(crate) fn copy_over<O: Opener, W: Sink>(
     whole: bool,
     writer: &mut W,
 ) -> Result<(), KeepCommandFault>
-    ensures { CopiesOn ⟦<O as Files>⟧.its W.Sink new.now name.now whole result opener writer }
+    ensures { CopiesOver ⟦<O as Files>⟧.its new.now name.now opener.old opener.new whole result
+        (W.output writer.old) (W.output writer.new) }
 {
     let opened = opener.open(name);
     match opened {

@@ -18,7 +18,7 @@ use tb_records::{DumpHead, Sink};
 
 /// Which part of a history is written.
 #[derive(Clone, Copy)]
-pub(crate) struct Part {
+pub struct Part {
     /// The entries above this commit number, without a head; else all, as a dump.
     pub after: Option<u64>,
     /// Whether more are waited for.

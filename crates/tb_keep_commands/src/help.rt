@@ -106,7 +106,7 @@ pub const SALVAGE: &str = page!(salvage);
 pub const BACKUP: &str = page!(backup);
 
 /// The page of a form; of `--help` and `--version` that of the program.
-pub(crate) fn page(form: FormName) -> &'static str
+pub fn page(form: FormName) -> &'static str
     ensures { result.now ≡ page_of form }
 {
     match form {

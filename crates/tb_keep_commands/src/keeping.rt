@@ -4,11 +4,11 @@ ghost use Rattle.tb_keep.specs.Keeping.{IsFresh, IsUsable};
 ghost use Rattle.tb_keep_commands.specs.Ends.{On};
 ghost use Rattle.tb_keep_commands.specs.Naming.{NamesAsked, Left};
 ghost use Rattle.tb_keep_commands.specs.Outcomes.{kept_outcome, StartsBy, HandsBy, IsAside};
-ghost use Rattle.tb_keep_commands.specs.private.Stages.{KeepsTold, RunsTold, StartsTold};
+ghost use Rattle.tb_keep_commands.specs.private.Stages.{KeepsOver, RunsFile, StartsOver};
 ghost use Rattle.tb_keep_commands.specs.ExitStatuses.{failed_pipe};
 
 use crate::faults::{Failed, KeepCommandFault, disk_fault, kept_fault};
-use crate::lines::{tell_cut, tell_made, tell_reading, tell_ready};
+use crate::lines::{print_cut, print_made, print_reading, print_ready};
 use crate::naming::named_asked;
 use bumpalo::Bump;
 use std::alloc::{Allocator, Global};
@@ -18,7 +18,7 @@ use tb_records::{Sink, Source};
 
 /// A start: over a file of which path, whether that it reads, and is done, is reported, and whether a ledger is to be in the file.
 #[derive(Clone, Copy)]
-pub(crate) struct Told<'a> {
+pub struct FileStart<'a> {
     pub path: &'a str,
     pub reports: bool,
     pub existing: bool,
@@ -61,7 +61,7 @@ fn kept_outcome(kept: Result<u64, KeepFault>, pipe: Failed) -> Result<(), KeepCo
 fn serve<D: Device + Drop, A: Allocator + Clone, R: Source, W: Sink, E: Sink>(
     alloc: Global,
     keeper: Keeper<D, A>,
-    told: &Told,
+    file: &FileStart,
     len: usize,
     reader: &mut R,
     writer: &mut W,
@@ -69,16 +69,16 @@ fn serve<D: Device + Drop, A: Allocator + Clone, R: Source, W: Sink, E: Sink>(
 ) -> Result<(), KeepCommandFault>
     requires usable { IsUsable keeper }
     requires fresh { D.tells → IsFresh D.disk keeper }
-    ensures { On R.Source W.Sink E.Sink (KeepsTold D.Device result keeper told.now len)
+    ensures { On R.Source W.Sink E.Sink (KeepsOver D.Device result keeper file.now len)
         reader.old reader.new writer.old writer.new faults.old faults.new }
 {
     let mut keeper = keeper;
     let cut = keeper.cut_bytes();
     let at = (len as u64).saturating_sub(cut).saturating_sub(4);
-    tell_made(len, told.path, faults);
-    tell_cut(cut, at, faults);
+    print_made(len, file.path, faults);
+    print_cut(cut, at, faults);
     let machine = keeper.machine();
-    tell_ready(told.reports, machine.commit(), machine.time(), faults);
+    print_ready(file.reports, machine.commit(), machine.time(), faults);
     let failures = reader.failures();
     let kept = keep(alloc, &mut keeper, reader, writer);
     drop(keeper);
@@ -112,20 +112,20 @@ fn start<D: Device + Drop, A: Allocator + Copy, R: Source, W: Sink, E: Sink>(
     pool: A,
     device: D,
     rules: Rules,
-    told: &Told,
+    file: &FileStart,
     len: usize,
     reader: &mut R,
     writer: &mut W,
     faults: &mut E,
 ) -> Result<(), KeepCommandFault>
     requires { D.tells → (D.disk device).sound ≡ true }
-    ensures { On R.Source W.Sink E.Sink (StartsTold D.Device result rules told.now len device)
+    ensures { On R.Source W.Sink E.Sink (StartsOver D.Device result rules file.now len device)
         reader.old reader.new writer.old writer.new faults.old faults.new }
 {
-    tell_reading(told.reports, told.path, len, faults);
+    print_reading(file.reports, file.path, len, faults);
     let asked = rules;
-    match started(alloc, pool, device, rules, told.existing) {
-        Ok(keeper) => serve(alloc, keeper, told, len, reader, writer, faults),
+    match started(alloc, pool, device, rules, file.existing) {
+        Ok(keeper) => serve(alloc, keeper, file, len, reader, writer, faults),
         Err(failed) => Err(refused(alloc, failed, asked)),
     }
 }
@@ -135,13 +135,13 @@ pub(crate) fn run<D: Device + Drop, R: Source, W: Sink, E: Sink>(
     alloc: Global,
     device: D,
     rules: Rules,
-    told: &Told,
+    file: &FileStart,
     reader: &mut R,
     writer: &mut W,
     faults: &mut E,
 ) -> Result<(), KeepCommandFault>
     requires { D.tells → (D.disk device).sound ≡ true }
-    ensures { On R.Source W.Sink E.Sink (RunsTold D.Device result rules told.now device)
+    ensures { On R.Source W.Sink E.Sink (RunsFile D.Device result rules file.now device)
         reader.old reader.new writer.old writer.new faults.old faults.new }
 {
     let mut device = device;
@@ -153,7 +153,7 @@ pub(crate) fn run<D: Device + Drop, R: Source, W: Sink, E: Sink>(
             let third = Bump::new(&second);
             let pool = Bump::new(&third);
             let served = start(
-                alloc, &pool, device, rules, told, len, reader, writer, faults,
+                alloc, &pool, device, rules, file, len, reader, writer, faults,
             );
             drop(pool);
             drop(third);

@@ -2,7 +2,7 @@
 //!
 //! Modules, each over those before it:
 //!
-//! - `arguments`: what the words of the command line ask for, and what is wrong with words that ask for nothing.
+//! - `arguments`: `read_command`, what the words of the command line ask for.
 //! - `help`: the pages of usage.
 //! - `live`: `Live`, a file that is read while another program may append to it.
 //! - `mending`: `Mended`, a file whose first bytes are read as a journal's.
@@ -16,7 +16,7 @@
 //! - `kinds`: what a file is that holds no ledger, by its first bytes.
 //! - `faults`: why a command ends with an exit status other than 0.
 //! - `printable`: a path or a word as a line shows it, without control characters.
-//! - `lines`: the lines that say so.
+//! - `lines`: the lines that say so, and what is wrong with words.
 //! - `reports`: `Reported`, a file that reports how far it was read.
 //! - `summaries`: what `check` reports of a file.
 //! - `naming`: what there is to say of a file that is refused.
@@ -26,11 +26,10 @@
 //! - `copying`: `salvage` and `backup`, a file copied into a new one.
 //! - `following`: the entries of a file above a commit number, as it grows.
 //! - `keeping`: `run`, a ledger over a file served.
-//! - `commands`: `command`, each form, and the exit status of each outcome.
-//! - `host`: `serve`, from a program's arguments, input and output to `command`.
+//! - `commands`: each form, over what opens devices. tb_keep_follow has how it ends.
 //!
-//! specs/Forms is which words ask for what, specs/Outcomes and specs/Copies what each form does, specs/Exits how it ends,
-//! specs/ExitStatuses the exit status and the line of each fault, specs/Hosts what `serve` does.
+//! specs/Forms is which words ask for what, specs/Outcomes and specs/Copies what each form does, specs/ExitStatuses the exit status
+//! and the line of each fault.
 #![tactic(auto)]
 
 mod arguments;
@@ -43,7 +42,6 @@ mod faults;
 mod files;
 mod following;
 mod help;
-mod host;
 mod keeping;
 mod kinds;
 pub mod laws;
@@ -60,25 +58,23 @@ mod rescues;
 mod steady;
 mod summaries;
 
-pub use arguments::{
-    FORMS, Form, Options, file_word, new_word, options_of, read_form, read_words, wrong,
-};
+pub use arguments::{Command, FORMS, Form, Options, read_command};
 pub use asides::{COPIES_MAX, Reason, Uncopied};
-pub use commands::{Terminals, command, made_by};
+pub use commands::{check_over, dump_over, made_by, print, run_over};
 pub use copies::Copied;
-pub use copying::print_mended;
+pub use copying::{copy_over, print_mended};
 pub use ends::{Ends, Files};
 pub use faults::{
     Damage, Failed, KeepCommandFault, Mismatch, Numbers, disk_fault, new_fault, opened_fault,
     reason_fault, words_fault,
 };
-pub use help::{CHECK, RUN, USAGE, VERSION};
-pub use host::{refuse, serve};
-pub use keeping::failed_pipe;
+pub use following::Part;
+pub use help::{CHECK, RUN, USAGE, VERSION, page};
+pub use keeping::{FileStart, failed_pipe};
 pub use kinds::Kind;
 pub use lines::{
-    WrongEntry, tell, tell_cut, tell_damage, tell_made, tell_named, tell_number, tell_place,
-    tell_text, tell_usage, tell_wrong,
+    WrongEntry, print_cut, print_damage, print_fault, print_made, print_named, print_number,
+    print_place, print_text, print_wrong, refuse, refuse_words,
 };
 pub use live::Live;
 pub use mending::Mended;

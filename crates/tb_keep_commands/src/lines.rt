@@ -1,12 +1,10 @@
 //! The lines of standard error.
-ghost use Rattle.std.specs.Prelude.{◌≡◌, ◌++◌, Some, codes, map, string_bytes};
-ghost use Rattle.tb_keep_commands.specs.ExitStatuses.{damage_line, harm_text, unread_text, next_of, damaged_text, opening_text, wrong_text, failed_text, kind_text, numbers_text, both_text, mismatch_text, fault_text, fault_line, reading_line, shown_words, said_text, wrong_line, usage_lines, counted, line_of, named, numbered, place_line, read_line, rules_text, said_with, Passes, Says, TellsMade, TellsCut, TellsReading, TellsReady, TellsFrames};
+ghost use Rattle.std.specs.Prelude.{◌≡◌, ◌++◌, Some, [], codes, map, string_bytes, take};
+ghost use Rattle.tb_keep_commands.specs.ExitStatuses.{fault_exit_status, damage_line, harm_text, unread_text, next_of, damaged_text, opening_text, wrong_text, failed_text, kind_text, numbers_text, both_text, mismatch_text, fault_text, fault_line, reading_line, shown_words, said_text, wrong_line, usage_lines, counted, line_of, named, numbered, place_line, read_line, rules_text, said_with, Passes, Says, PrintsMade, PrintsCut, PrintsReading, PrintsReady, PrintsFrames};
 ghost use Rattle.tb_keep_commands.specs.Asides.{uncopied_text};
-ghost use Rattle.tb_keep_commands.specs.Forms.{wrong};
 ghost use Rattle.tb_keep_commands.specs.Printable.{printable};
 ghost use Rattle.tb_keep_commands.specs.private.Changes.{Puts};
 
-use crate::arguments::wrong;
 use crate::asides::{Uncopied, uncopied_text};
 use crate::faults::{Damage, Failed, KeepCommandFault, Mismatch, Numbers};
 use crate::help::USAGE;
@@ -14,6 +12,7 @@ use crate::kinds::Kind;
 use crate::openers::OpeningFault;
 use crate::printable::put_printable;
 use itoa::Buffer;
+use tb_cli::Wrong;
 use tb_records::{FrameFault, Sink, put_all};
 
 /// Writes two texts, one behind the other.
@@ -489,7 +488,7 @@ fn put_line<E: Sink>(
 }
 
 /// Prints a fault over a file of this path, in one line. A failure to write it changes no exit status.
-pub fn tell<E: Sink>(fault: KeepCommandFault, path: &str, faults: &mut E)
+pub fn print_fault<E: Sink>(fault: KeepCommandFault, path: &str, faults: &mut E)
     ensures { Says E.Sink (fault_line fault path.now) faults.old faults.new }
 {
     pass(put_line(faults, "tbd: ", fault, path), faults);
@@ -562,7 +561,7 @@ fn put_damage_line<E: Sink>(
 }
 
 /// Prints what is damaged in the file of a path, and what is to be done, in one line.
-pub fn tell_damage<E: Sink>(damage: Damage, path: &str, next: &str, faults: &mut E)
+pub fn print_damage<E: Sink>(damage: Damage, path: &str, next: &str, faults: &mut E)
     ensures { Says E.Sink (damage_line damage path.now next.now) faults.old faults.new }
 {
     pass(put_damage_line(faults, damage, path, next), faults);
@@ -622,35 +621,35 @@ fn put_wrong_line<E: Sink>(
 }
 
 /// Prints what is wrong with an entry in the file of a path, and what is to be done, in one line.
-pub fn tell_wrong<E: Sink>(wrong: &WrongEntry, path: &str, next: &str, faults: &mut E)
+pub fn print_wrong<E: Sink>(wrong: &WrongEntry, path: &str, next: &str, faults: &mut E)
     ensures { Says E.Sink (line_of (wrong_text wrong.now path.now next.now)) faults.old faults.new }
 {
     pass(put_wrong_line(faults, wrong, path, next), faults);
 }
 
 /// Prints a path between two texts, in one line.
-pub fn tell_named<E: Sink>(first: &str, path: &str, last: &str, faults: &mut E)
+pub fn print_named<E: Sink>(first: &str, path: &str, last: &str, faults: &mut E)
     ensures { Says E.Sink (line_of (named first.now path.now last.now)) faults.old faults.new }
 {
     pass(put_path(faults, first, path, last), faults);
 }
 
 /// Prints a number behind a text, in one line.
-pub fn tell_number<E: Sink>(first: &str, number: u64, faults: &mut E)
+pub fn print_number<E: Sink>(first: &str, number: u64, faults: &mut E)
     ensures { Says E.Sink (line_of (numbered first.now number)) faults.old faults.new }
 {
     pass(put_end(faults, first, number), faults);
 }
 
 /// Prints a number behind a text and what is wrong there, in one line.
-pub fn tell_place<E: Sink>(first: &str, place: u64, what: &str, faults: &mut E)
+pub fn print_place<E: Sink>(first: &str, place: u64, what: &str, faults: &mut E)
     ensures { Says E.Sink (place_line first.now place what.now) faults.old faults.new }
 {
     pass(put_fault_at(faults, first, place, what), faults);
 }
 
 /// Prints what is wrong behind a text, in one line.
-pub fn tell_text<E: Sink>(first: &str, what: &str, faults: &mut E)
+pub fn print_text<E: Sink>(first: &str, what: &str, faults: &mut E)
     ensures { Says E.Sink (first.now ++ line_of what.now) faults.old faults.new }
 {
     pass(put_behind(faults, first, what), faults);
@@ -661,8 +660,8 @@ const BEHIND: &str = " bytes of a batch that was not committed, behind byte ";
 
 /// Prints how many bytes a start cut off behind the records, which end at this place; nothing where there were none.
 #[tactic(auto, using(crate::proofs::Passing::said))]
-pub fn tell_cut<E: Sink>(bytes: u64, at: u64, faults: &mut E)
-    ensures { TellsCut bytes at (E.output faults.old) (E.output faults.new) }
+pub fn print_cut<E: Sink>(bytes: u64, at: u64, faults: &mut E)
+    ensures { PrintsCut bytes at (E.output faults.old) (E.output faults.new) }
 {
     if bytes != 0 {
         pass(put_cut(faults, "tbd: cut ", bytes, BEHIND, at), faults);
@@ -733,8 +732,8 @@ fn put_wrong<E: Sink>(
 }
 
 /// Reports that a file of this path was made, where it had no bytes; nothing where it had so many.
-pub fn tell_made<E: Sink>(len: usize, path: &str, faults: &mut E)
-    ensures { TellsMade len path.now (E.output faults.old) (E.output faults.new) }
+pub fn print_made<E: Sink>(len: usize, path: &str, faults: &mut E)
+    ensures { PrintsMade len path.now (E.output faults.old) (E.output faults.new) }
 {
     if len == 0 {
         pass(put_named(faults, "tbd: made ", path, "\n"), faults);
@@ -773,7 +772,7 @@ pub(crate) const MEGABYTE: usize = 1_000_000;
 
 /// Reports how much of a file of this path was read, of how much, in millions of bytes.
 #[tactic(auto, using(crate::proofs::Passing::said))]
-pub(crate) fn tell_read<E: Sink>(path: &str, read: u64, all: u64, faults: &mut E)
+pub(crate) fn print_read<E: Sink>(path: &str, read: u64, all: u64, faults: &mut E)
     ensures { Says E.Sink (reading_line path.now read all) faults.old faults.new }
 {
     pass(
@@ -784,18 +783,18 @@ pub(crate) fn tell_read<E: Sink>(path: &str, read: u64, all: u64, faults: &mut E
 
 /// Reports that a start begins to read a file of this path and so many bytes, where starts are reported and the file is long.
 #[tactic(auto, using(crate::proofs::Passing::said))]
-pub(crate) fn tell_reading<E: Sink>(reports: bool, path: &str, len: usize, faults: &mut E)
-    ensures { TellsReading reports path.now len (E.output faults.old) (E.output faults.new) }
+pub(crate) fn print_reading<E: Sink>(reports: bool, path: &str, len: usize, faults: &mut E)
+    ensures { PrintsReading reports path.now len (E.output faults.old) (E.output faults.new) }
 {
     if reports && len >= MEGABYTE {
-        tell_read(path, 0, (len / MEGABYTE) as u64, faults);
+        print_read(path, 0, (len / MEGABYTE) as u64, faults);
     }
 }
 
 /// Reports that a start is done, and the last commit and its time, where starts are reported.
 #[tactic(auto, using(crate::proofs::Passing::said))]
-pub(crate) fn tell_ready<E: Sink>(reports: bool, commit: u64, time: u64, faults: &mut E)
-    ensures { TellsReady reports commit time (E.output faults.old) (E.output faults.new) }
+pub(crate) fn print_ready<E: Sink>(reports: bool, commit: u64, time: u64, faults: &mut E)
+    ensures { PrintsReady reports commit time (E.output faults.old) (E.output faults.new) }
 {
     if reports {
         pass(
@@ -810,30 +809,58 @@ const FRAMES: &str =
     "tbd: standard input is a terminal, and run reads request frames there; telovamish repl and telovamish script take words";
 
 /// Says where words are read, where requests would come from a terminal.
-pub(crate) fn tell_frames<E: Sink>(talks: bool, faults: &mut E)
-    ensures { TellsFrames talks (E.output faults.old) (E.output faults.new) }
+pub(crate) fn print_frames<E: Sink>(talks: bool, faults: &mut E)
+    ensures { PrintsFrames talks (E.output faults.old) (E.output faults.new) }
 {
     if talks {
         pass(put_what(faults, FRAMES), faults);
     }
 }
 
-/// Writes the line of words that are none of the program's forms.
-fn put_usage<E: Sink>(faults: &mut E, words: &[String]) -> Result<(), FrameFault>
-    ensures { Puts E.Sink result (wrong_line (wrong (map string_bytes words.now))) faults }
+/// The first words, up to so many.
+fn first_words(words: &[String], count: usize) -> &[String]
+    ensures { map string_bytes result.now ≡ take count (map string_bytes words.now) }
 {
-    let (shown, what) = wrong(words);
-    put_wrong(faults, "tbd: Usage:", shown, what)
+    if count < words.len() {
+        &words[..count]
+    } else {
+        words
+    }
 }
 
-/// Prints what is wrong with words that are none of the program's forms: without words, the page of usage. A failure to write
-/// it changes no exit status.
+/// Writes the line of words that are wrong so.
+fn put_usage<E: Sink>(faults: &mut E, words: &[String], wrong: Wrong) -> Result<(), FrameFault>
+    ensures { Puts E.Sink result (wrong_line wrong (map string_bytes words.now)) faults }
+{
+    let shown = first_words(words, wrong.shown);
+    put_wrong(faults, "tbd: Usage:", shown, wrong.fault.text())
+}
+
+/// Prints what is wrong with words: without words, the page of usage.
 #[tactic(auto, using(crate::proofs::Passing::said))]
-pub fn tell_usage<E: Sink>(words: &[String], faults: &mut E)
-    ensures { Says E.Sink (usage_lines (map string_bytes words.now)) faults.old faults.new }
+fn print_usage<E: Sink>(words: &[String], wrong: Wrong, faults: &mut E)
+    ensures { Says E.Sink (usage_lines wrong (map string_bytes words.now)) faults.old faults.new }
 {
     match words {
         [] => pass(put_all(faults, USAGE.as_bytes()), faults),
-        _ => pass(put_usage(faults, words), faults),
+        _ => pass(put_usage(faults, words, wrong), faults),
     }
+}
+
+/// Prints what is wrong with words, and returns the exit status. A failure to write it changes none.
+pub fn refuse_words<E: Sink>(words: &[String], wrong: Wrong, faults: &mut E) -> u8
+    ensures value { result ≡ 2 }
+    ensures printed { Says E.Sink (usage_lines wrong (map string_bytes words.now)) faults.old faults.new }
+{
+    print_usage(words, wrong, faults);
+    KeepCommandFault::Usage.exit_status()
+}
+
+/// Prints a fault of no file, and returns its exit status.
+pub fn refuse<E: Sink>(fault: KeepCommandFault, faults: &mut E) -> u8
+    ensures value { result ≡ fault_exit_status fault }
+    ensures printed { Says E.Sink (fault_line fault []) faults.old faults.new }
+{
+    print_fault(fault, "", faults);
+    fault.exit_status()
 }

@@ -3,7 +3,7 @@ ghost use Rattle.std.specs.Prelude.{◌≡◌, ◌≤◌, ℕ, List, length, IfE
 ghost use Rattle.tb_journal.specs.Device.{IsOfCall, Looks, ReadsAt};
 ghost use Rattle.tb_keep_commands.specs.ExitStatuses.{first_due, IfHeld, IsMadeLooking, Reports};
 
-use crate::lines::{MEGABYTE, tell_read};
+use crate::lines::{MEGABYTE, print_read};
 use crate::places::Silent;
 use std::alloc::Global;
 use tb_journal::{Device, JournalFault};
@@ -60,7 +60,7 @@ impl<D: Device + Drop, E: Sink + Drop> Reported<D, E> {
     {
         if at >= self.due {
             let (read, all) = ((at / MEGABYTE) as u64, (self.len / MEGABYTE) as u64);
-            tell_read(self.path.as_str(), read, all, &mut self.lines);
+            print_read(self.path.as_str(), read, all, &mut self.lines);
             self.due = at.saturating_add(STEP_BYTES);
         }
     }

@@ -1,71 +1,144 @@
--- How a form over a log ends: its outcome, exit status and line.
-use Rattle.std.specs.Prelude.{ℕ, ◌≡◌, true, false, List, [], Ok, Err}
+-- How a command ends: its outcome, exit status and line.
+use Rattle.std.specs.Prelude.{ℕ, Bool, true, false, ◌||◌, ◌≡◌, List, [], Option, Result, Ok, Err}
 use Rattle.tb_records.specs.Transport.{Input, Output, Sent, CutOff}
 use Rattle.tb_keep.specs.Reading.{rules_of}
+use Rattle.tb_keep_commands.specs.declared.arguments.Command.{Command}
+use Rattle.tb_keep_commands.specs.declared.arguments.Form.{Form}
+use Rattle.tb_keep_commands.specs.declared.arguments.Form.TheVariants as form
 use Rattle.tb_keep_commands.specs.declared.faults.Failed.TheVariants as failed
 use Rattle.tb_keep_commands.specs.declared.faults.KeepCommandFault.TheVariants.{Device}
-use Rattle.tb_keep_commands.specs.Ends.{KnownEnds, KnownFiles, On}
-use Rattle.tb_keep_commands.specs.Exits.{made_by}
+use Rattle.tb_keep_commands.specs.declared.help.TheConstants.{VERSION}
+use Rattle.tb_keep_commands.specs.declared.openers.OpeningFault.{OpeningFault}
+use Rattle.tb_keep_commands.specs.Copies.{CopiesOver as CopiesLedger}
+use Rattle.tb_keep_commands.specs.Ends.{KnownEnds, KnownFiles, On, made_by}
 use Rattle.tb_keep_commands.specs.ExitStatuses.{SaysLine}
-use Rattle.tb_keep_follow.specs.declared.arguments.Form.{Form}
-use Rattle.tb_keep_follow.specs.declared.arguments.Form.TheVariants as form
-use Rattle.tb_keep_follow.specs.declared.faults.FollowFault.TheVariants.{Kept}
+use Rattle.tb_keep_commands.specs.Outcomes.{ChecksOver as ChecksLedger, DumpsOver as DumpsLedger, Outcome as LedgerOutcome, Prints, RunsOver}
+use Rattle.tb_keep_commands.specs.Pages.{page_of}
+use Rattle.tb_keep_follow.specs.declared.executing.Terminals.{Terminals}
+use Rattle.tb_keep_follow.specs.declared.faults.CommandFault.{CommandFault}
+use Rattle.tb_keep_follow.specs.declared.faults.CommandFault.TheVariants.{Ledger, Log}
 use Rattle.tb_keep_follow.specs.Checks.{ChecksOver}
 use Rattle.tb_keep_follow.specs.Copies.{CopiesOver}
-use Rattle.tb_keep_follow.specs.Faults.{follow_line, follow_exit_status, follow_path}
+use Rattle.tb_keep_follow.specs.Faults.{command_exit_status, command_line, command_path}
+use Rattle.tb_keep_follow.specs.Heads.{LooksLikeLog}
 use Rattle.tb_keep_follow.specs.Outcomes.{Outcome, FollowsOver, DumpsOver}
 
--- what was held back went out where all was done; where it does not go out, that is the outcome
-abbrev pub Finishes : Type 0 → Outcome → Outcome → Output → Output → Type 0
-Finishes gone (Ok done) (Ok finished) middle written = gone × Sent [] middle written
-Finishes gone (Ok done) (Err fault) middle written = (fault ≡ Kept (Device failed.Output)) × CutOff [] middle written
-Finishes gone (Err fault) outcome middle written = (outcome ≡ Err fault) × (written ≡ middle)
+-- done, or not to its end
+abbrev pub Ending : Type 0
+Ending = Result (Unit {0}) CommandFault
 
-abbrev pub outcome_exit_status : Outcome → ℕ
-outcome_exit_status (Ok done) = 0
-outcome_exit_status (Err fault) = follow_exit_status fault
+abbrev pub over_ledger : LedgerOutcome → Ending
+over_ledger (Ok done) = Ok tt
+over_ledger (Err fault) = Err (Ledger fault)
+
+abbrev pub over_log : Outcome → Ending
+over_log (Ok done) = Ok tt
+over_log (Err fault) = Err (Log fault)
+
+-- what a form does over a ledger was done, and ended so
+pub record OverLedger (Does : LedgerOutcome → Type 0) (ending : Ending) : Type 0 where
+  pub outcome : LedgerOutcome
+  pub does : Does outcome
+  pub ending_is : ending ≡ over_ledger outcome
+
+-- or what it does over a log
+pub record OverLog (Does : Outcome → Type 0) (ending : Ending) : Type 0 where
+  pub outcome : Outcome
+  pub does : Does outcome
+  pub ending_is : ending ≡ over_log outcome
+
+-- the one where a file is a log's, and the other where it is not
+abbrev pub EitherBy : Bool → Type 0 → Type 0 → Type 0
+EitherBy true OfLog OfLedger = OfLog
+EitherBy false OfLog OfLedger = OfLedger
+
+-- what was held back went out where all was done; where it does not go out, that is the outcome
+abbrev pub Finishes : Type 0 → Ending → Ending → Output → Output → Type 0
+Finishes gone (Ok done) (Ok finished) middle written = gone × Sent [] middle written
+Finishes gone (Ok done) (Err fault) middle written = (fault ≡ Ledger (Device failed.Output)) × CutOff [] middle written
+Finishes gone (Err fault) ending middle written = (ending ≡ Err fault) × (written ≡ middle)
+
+abbrev pub exit_status_of : Ending → ℕ
+exit_status_of (Ok done) = 0
+exit_status_of (Err fault) = command_exit_status fault
 
 -- nothing is reported of a form that was done, and of a fault its line
-abbrev pub Tells : Outcome → List ℕ → List ℕ → Output → Output → Type 0
-Tells (Ok done) path new before after = after ≡ before
-Tells (Err fault) path new before after = SaysLine (follow_line fault (follow_path fault path new)) before after
+abbrev pub PrintsFault : Ending → List ℕ → List ℕ → Output → Output → Type 0
+PrintsFault (Ok done) file new before after = after ≡ before
+PrintsFault (Err fault) file new before after = SaysLine (command_line fault (command_path fault file new)) before after
 
-module _ {O D E : Type 0} (its : KnownFiles O D E) (before : O) (name new : List ℕ) (left : O) where
-  -- what a form does over what opens devices: `follow` has the device of a name made where there is none, the others open one that is
-  -- there
-  abbrev pub Performs : Form → Outcome → Input → Input → Output → Output → Output → Output → Type 0
-  Performs (form.Follow clients_max profile options) outcome first last start written quiet told =
-      FollowsOver its.file (made_by its options.existing before name) (its.opener.reasons left) left outcome (rules_of profile clients_max) name options.existing
-      first last start written quiet told
-  Performs (form.Dump from follows) outcome first last start written quiet told =
-      (last ≡ first) × (told ≡ quiet)
-      × DumpsOver its.reading (its.opener.opens before name) left (its.opener.ended left) from follows outcome start written
-  Performs form.Check outcome first last start written quiet told =
-      (last ≡ first) × (told ≡ quiet) × ChecksOver its.reading its.whole (its.opener.opens before name) left outcome start written
-  Performs form.Salvage outcome first last start written quiet told =
-      (last ≡ first) × (told ≡ quiet) × CopiesOver its new false name outcome before left start written
-  Performs form.Backup outcome first last start written quiet told =
-      (last ≡ first) × (told ≡ quiet) × CopiesOver its new true name outcome before left start written
+module _ {O D E : Type 0} (its : KnownFiles O D E) (looks : O → List ℕ → Result ℕ OpeningFault → List ℕ → O → Type 0) (before : O) (name : List ℕ) (left : O) where
+  -- the file of a name was looked at, and this was done over a log's, or over any other
+  pub record ByFile (OfLog OfLedger : O → Ending → Type 0) (ending : Ending) : Type 0 where
+    pub is_log : Bool
+    pub between : O
+    pub looked : LooksLikeLog looks name is_log before between
+    pub does : EitherBy is_log (OfLog between ending) (OfLedger between ending)
+
+  abbrev pub DumpsEither : Option ℕ → Bool → Ending → Output → Output → Type 0
+  DumpsEither after follows ending start written =
+      ByFile
+      (λ between. OverLog (λ outcome. DumpsOver its.reading (its.opener.opens between name) left (its.opener.ended left) after follows outcome start written))
+      (λ between. OverLedger (λ outcome. DumpsLedger its name between left after follows outcome start written)) ending
+
+  abbrev pub ChecksEither : Bool → Ending → Output → Output → Type 0
+  ChecksEither quick ending start written =
+      ByFile
+      (λ between. OverLog (λ outcome. ChecksOver its.reading its.whole (its.opener.opens between name) left outcome start written))
+      (λ between. OverLedger (λ outcome. ChecksLedger its name between left quick outcome start written)) ending
+
+  abbrev pub CopiesEither : List ℕ → Bool → Ending → Output → Output → Type 0
+  CopiesEither new whole ending start written =
+      ByFile
+      (λ between. OverLog (λ outcome. CopiesOver its new whole name outcome between left start written))
+      (λ between. OverLedger (λ outcome. CopiesLedger its new name between left whole outcome start written)) ending
+
+module _ {O D E : Type 0} (its : KnownFiles O D E) (looks : O → List ℕ → Result ℕ OpeningFault → List ℕ → O → Type 0) (ends : Terminals) (before : O) (name new : List ℕ) (left : O) where
+  -- what a form does over what opens devices: `run` and `follow` have the device of a name made where there is none, `dump` and `check` open
+  -- one that is there, `salvage` and `backup` open one and make another, and the other forms open none. Where there is a form over a log and
+  -- over a ledger, the file was looked at before. What it reports while it goes on comes before the line of its outcome
+  abbrev pub Performs : Form → Ending → Input → Input → Output → Output → Output → Output → Type 0
+  Performs (form.Run clients_max profile options) ending first last start written quiet told =
+      OverLedger (λ outcome. RunsOver its.file (made_by its options.existing before name) (its.opener.reasons left) left outcome (rules_of profile clients_max) name
+      (options.reports || ends.faults) options.existing ends.input first last start written quiet told) ending
+  Performs (form.Follow clients_max profile options) ending first last start written quiet told =
+      OverLog (λ outcome. FollowsOver its.file (made_by its options.existing before name) (its.opener.reasons left) left outcome (rules_of profile clients_max) name options.existing
+      first last start written quiet told) ending
+  Performs (form.Dump after follows) ending first last start written quiet told =
+      (last ≡ first) × (told ≡ quiet) × DumpsEither its looks before name left after follows ending start written
+  Performs (form.Check quick) ending first last start written quiet told =
+      (last ≡ first) × (told ≡ quiet) × ChecksEither its looks before name left quick ending start written
+  Performs form.Salvage ending first last start written quiet told =
+      (last ≡ first) × (told ≡ quiet) × CopiesEither its looks before name left new false ending start written
+  Performs form.Backup ending first last start written quiet told =
+      (last ≡ first) × (told ≡ quiet) × CopiesEither its looks before name left new true ending start written
+  Performs (form.Help name_of) ending first last start written quiet told =
+      (left ≡ before) × (last ≡ first) × (told ≡ quiet) × OverLedger (λ outcome. Prints (page_of name_of) outcome start written) ending
+  Performs form.Version ending first last start written quiet told =
+      (left ≡ before) × (last ≡ first) × (told ≡ quiet) × OverLedger (λ outcome. Prints VERSION.now outcome start written) ending
 
   -- a form was done, or not to its end; what it wrote went out; and the exit status and the line are those of the outcome
   pub record Exits (gone : Type 0) (form : Form) (exit_status : ℕ) (first last : Input) (start written quiet told : Output) : Type 0 where
-    pub performed : Outcome
+    pub performed : Ending
     pub middle : Output
     pub noted : Output
     pub performs : Performs form performed first last start middle quiet noted
-    pub outcome : Outcome
-    pub finishes : Finishes gone performed outcome middle written
-    pub exit_status_is : exit_status ≡ outcome_exit_status outcome
-    pub line : Tells outcome name new noted told
+    pub ending : Ending
+    pub finishes : Finishes gone performed ending middle written
+    pub exit_status_is : exit_status ≡ exit_status_of ending
+    pub line : PrintsFault ending name new noted told
 
-module _ {O D E R W L : Type 0} (its : KnownEnds O D E R W L) (form : Form) (name new : List ℕ) (before left : O) where
+module _ {O D E R W L : Type 0} (its : KnownEnds O D E R W L) (looks : O → List ℕ → Result ℕ OpeningFault → List ℕ → O → Type 0) (ends : Terminals) (command : Command) (before left : O) where
   -- the same, between the ends of a command
   abbrev pub ExitsOn : ℕ → R → R → W → W → L → L → Type 0
   ExitsOn exit_status first last start written quiet told =
-      On its.source its.sink its.lines (Exits its.files before name new left (its.gone written) form exit_status) first last start written quiet told
+      On its.source its.sink its.lines
+      (Exits its.files looks ends before command.file.now command.new.now left (its.gone written) command.form exit_status)
+      first last start written quiet told
 
   -- what private functions alone cite
 
-  abbrev pub PerformsOn : Outcome → R → R → W → W → L → L → Type 0
-  PerformsOn outcome first last start written quiet told =
-      On its.source its.sink its.lines (Performs its.files before name new left form outcome) first last start written quiet told
+  abbrev pub PerformsOn : Ending → R → R → W → W → L → L → Type 0
+  PerformsOn ending first last start written quiet told =
+      On its.source its.sink its.lines (Performs its.files looks ends before command.file.now command.new.now left command.form ending)
+      first last start written quiet told

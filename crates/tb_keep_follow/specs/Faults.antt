@@ -25,6 +25,8 @@ use Rattle.tb_keep_commands.specs.declared.faults.KeepCommandFault.TheVariants.{
 use Rattle.tb_keep_commands.specs.declared.kinds.Kind.TheVariants as kind
 use Rattle.tb_keep_commands.specs.ExitStatuses.{counted, damage_line, disk_fault, opened_fault, fault_exit_status, fault_line, fault_path, line_of, named}
 use Rattle.tb_keep_commands.specs.Printable.{printable}
+use Rattle.tb_keep_follow.specs.declared.faults.CommandFault.{CommandFault}
+use Rattle.tb_keep_follow.specs.declared.faults.CommandFault.TheVariants.{Ledger, Log}
 use Rattle.tb_keep_follow.specs.declared.faults.FollowFault.{FollowFault}
 use Rattle.tb_keep_follow.specs.declared.faults.FollowFault.TheVariants.{Kept, Plain, OtherRules, NoEntry, Entry, OtherHashes, Unwritten, Item}
 
@@ -145,6 +147,20 @@ follow_line (Entry fault) path = entry_line fault path
 follow_line (OtherHashes position) path = hashes_line position path
 follow_line (Unwritten fault) path = text_line (codes "tbd: Damaged: ") (dump_fault_name fault)
 follow_line (Item fault) path = item_line fault
+
+-- of a command, over a ledger or over a log
+
+abbrev pub command_exit_status : CommandFault → ℕ
+command_exit_status (Ledger fault) = fault_exit_status fault
+command_exit_status (Log fault) = follow_exit_status fault
+
+abbrev pub command_path : CommandFault → List ℕ → List ℕ → List ℕ
+command_path (Ledger fault) file new = fault_path fault file new
+command_path (Log fault) file new = follow_path fault file new
+
+abbrev pub command_line : CommandFault → List ℕ → List ℕ
+command_line (Ledger fault) path = fault_line fault path
+command_line (Log fault) path = follow_line fault path
 
 -- what a start says that serves: the position of the last entry that the file has. The log is wanted behind it
 abbrev pub wanted_line : ℕ → List ℕ

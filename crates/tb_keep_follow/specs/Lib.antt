@@ -2,7 +2,6 @@ pub mod Checks
 pub mod Copies
 pub mod Exits
 pub mod Faults
-pub mod Forms
 pub mod Heads
 pub mod Hosts
 pub mod Naming

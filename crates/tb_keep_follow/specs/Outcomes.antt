@@ -24,13 +24,12 @@ use Rattle.tb_keep_commands.specs.declared.faults.Failed.{Failed}
 use Rattle.tb_keep_commands.specs.declared.faults.KeepCommandFault.TheVariants.{Opening, Gone, NotAJournal}
 use Rattle.tb_keep_commands.specs.declared.kinds.Kind.TheVariants as kind
 use Rattle.tb_keep_commands.specs.declared.openers.OpeningFault.{OpeningFault}
-use Rattle.tb_keep_commands.specs.Ends.{KnownEnds, On}
-use Rattle.tb_keep_commands.specs.Exits.{made_by}
+use Rattle.tb_keep_commands.specs.Ends.{KnownEnds, On, made_by}
 use Rattle.tb_keep_commands.specs.Outcomes.{IsAsked}
-use Rattle.tb_keep_commands.specs.ExitStatuses.{SaysLine, TellsCut, TellsMade, disk_fault, failed_pipe, reason_fault}
+use Rattle.tb_keep_commands.specs.ExitStatuses.{SaysLine, PrintsCut, PrintsMade, disk_fault, failed_pipe, reason_fault}
 use Rattle.tb_keep_follow.specs.declared.faults.FollowFault.{FollowFault}
 use Rattle.tb_keep_follow.specs.declared.faults.FollowFault.TheVariants.{Kept}
-use Rattle.tb_keep_follow.specs.declared.parts.Part.{Part}
+use Rattle.tb_keep_commands.specs.declared.following.Part.{Part}
 use Rattle.tb_keep_follow.specs.Faults.{started_fault, kept_fault, dumped_fault, wanted_line}
 use Rattle.tb_keep_follow.specs.Heads.{FindsRules}
 use Rattle.tb_keep_follow.specs.Naming.{Names}
@@ -124,9 +123,9 @@ module _ {D : Type 0} (its : devices.Ghosts D) where
   pub record FollowsKept (outcome : Outcome) (keeper : Keeping D) (path : List ℕ) (len : ℕ) (first last : Input)
       (start written quiet told : Output) : Type 0 where
     pub noted : Output
-    pub made : TellsMade len path quiet noted
+    pub made : PrintsMade len path quiet noted
     pub started : Output
-    pub cut : TellsCut keeper.cut (len - keeper.cut - 4) noted started
+    pub cut : PrintsCut keeper.cut (len - keeper.cut - 4) noted started
     pub wanted : SaysLine (wanted_line keeper.now.position) started told
     pub result : Result ℕ KeepLogFault
     pub after : Keeping D

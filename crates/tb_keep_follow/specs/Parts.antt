@@ -13,7 +13,7 @@ use Rattle.tb_keep_commands.specs.declared.faults.KeepCommandFault.TheVariants.{
 use Rattle.tb_keep_commands.specs.Following.{GrowsTo, start_of}
 use Rattle.tb_keep_follow.specs.declared.faults.FollowFault.{FollowFault}
 use Rattle.tb_keep_follow.specs.declared.faults.FollowFault.TheVariants.{Kept}
-use Rattle.tb_keep_follow.specs.declared.parts.Part.{Part}
+use Rattle.tb_keep_commands.specs.declared.following.Part.{Part}
 use Rattle.tb_keep_follow.specs.declared.parts.Reading.{Reading}
 use Rattle.tb_keep_follow.specs.declared.parts.Wanted.{Wanted}
 use Rattle.tb_keep_follow.specs.Faults.{dumped_fault}

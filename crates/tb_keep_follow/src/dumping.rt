@@ -5,11 +5,11 @@ ghost use Rattle.tb_keep_follow.specs.Outcomes.{DumpsReadOn, DumpsFileOn, DumpsL
 use crate::faults::{FollowFault, dumped_fault};
 use crate::heads::find_rules;
 use crate::naming::named;
-use crate::parts::{Part, write_part};
+use crate::parts::write_part;
 use std::alloc::Global;
 use tb_journal::Device;
 use tb_keep::Rules;
-use tb_keep_commands::{KeepCommandFault, Kind, Opener, Outlet};
+use tb_keep_commands::{KeepCommandFault, Kind, Opener, Outlet, Part};
 use tb_keep_log::{DumpLogFault, check_log, write_log_dump};
 use tb_records::Sink;
 

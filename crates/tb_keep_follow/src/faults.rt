@@ -1,6 +1,6 @@
-//! Why a form over a log ends with an exit status other than 0.
+//! Why a command ends with an exit status other than 0.
 ghost use Rattle.std.specs.Prelude.{◌≡◌, ◌<◌};
-ghost use Rattle.tb_keep_follow.specs.Faults.{journal_fault, started_fault, item_fault, kept_fault, dumped_fault, follow_exit_status, follow_path};
+ghost use Rattle.tb_keep_follow.specs.Faults.{command_exit_status, command_path, journal_fault, started_fault, item_fault, kept_fault, dumped_fault, follow_exit_status, follow_path};
 
 use tb_journal::{OpenFault, Refusal};
 use tb_keep_commands::{Damage, Failed, KeepCommandFault, Kind, disk_fault, opened_fault};
@@ -86,6 +86,38 @@ pub(crate) fn dumped_fault(fault: DumpLogFault) -> FollowFault
         DumpLogFault::NoMemory => FollowFault::Kept(KeepCommandFault::NoMemory),
         DumpLogFault::Writer => FollowFault::Kept(KeepCommandFault::Device(Failed::Output)),
         fault => FollowFault::Unwritten(fault),
+    }
+}
+
+/// Why a command ends with an exit status other than 0.
+#[derive(Clone, Copy, Debug, PartialEq, Eq)]
+pub enum CommandFault {
+    /// A fault of a form over a ledger.
+    Ledger(KeepCommandFault),
+    /// A fault of a form over a log.
+    Log(FollowFault),
+}
+
+impl CommandFault {
+    /// The path that is printed with it: that of the file, or of the new one.
+    pub(crate) fn path<'a>(self, file: &'a str, new: &'a str) -> &'a str
+        ensures { result.now ≡ command_path self file.now new.now }
+    {
+        match self {
+            CommandFault::Ledger(fault) => fault.path(file, new),
+            CommandFault::Log(fault) => fault.path(file, new),
+        }
+    }
+
+    /// The exit status.
+    pub fn exit_status(self) -> u8
+        ensures failing { 0 < result }
+        ensures value { result ≡ command_exit_status self }
+    {
+        match self {
+            CommandFault::Ledger(fault) => fault.exit_status(),
+            CommandFault::Log(fault) => fault.exit_status(),
+        }
     }
 }
 

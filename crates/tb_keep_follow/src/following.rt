@@ -6,13 +6,13 @@ ghost use Rattle.tb_keep_commands.specs.Ends.{On};
 ghost use Rattle.tb_keep_follow.specs.Outcomes.{FollowsKept, FollowsLong, FollowsFile, StartsBy, HandsBy, IsAside, kept_outcome};
 
 use crate::faults::{FollowFault, kept_fault};
-use crate::lines::tell_wanted;
+use crate::lines::print_wanted;
 use crate::naming::named;
 use bumpalo::Bump;
 use std::alloc::{Allocator, Global};
 use tb_journal::Device;
 use tb_keep::Rules;
-use tb_keep_commands::{Failed, disk_fault, failed_pipe, tell_cut, tell_made};
+use tb_keep_commands::{Failed, disk_fault, failed_pipe, print_cut, print_made};
 use tb_keep_log::{KeepLogFault, LogKeeper, NotStarted, keep_log};
 use tb_records::{Sink, Source};
 
@@ -45,9 +45,9 @@ fn keep<D: Device + Drop, A: Allocator + Clone, R: Source, W: Sink, E: Sink>(
     let mut keeper = keeper;
     let cut = keeper.cut_bytes();
     let at = (len as u64).saturating_sub(cut).saturating_sub(4);
-    tell_made(len, path, faults);
-    tell_cut(cut, at, faults);
-    tell_wanted(keeper.position(), faults);
+    print_made(len, path, faults);
+    print_cut(cut, at, faults);
+    print_wanted(keeper.position(), faults);
     let failures = reader.failures();
     let kept = keep_log(alloc, &mut keeper, reader, writer);
     drop(keeper);

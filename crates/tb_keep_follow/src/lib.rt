@@ -1,13 +1,12 @@
-//! The commands of `tbd` over a log: a follower whose entries are in a file, each with the position and both hashes behind it, before
-//! its replies are written; the history of such a file as a dump, without positions; and what is in it. Over whatever opens devices, any reader and any
-//! writer. What a log is asked for as a ledger is, is told apart by the file's first bytes. The words of all other forms are
-//! tb_keep_commands's.
+//! The forms of `tbd` over a log: a follower whose entries are in a file, each with the position and both hashes behind it, before
+//! its replies are written; the history of such a file as a dump, without positions; and what is in it. And all commands of `tbd`, over
+//! whatever opens devices, any reader and any writer. A form that there is over a log and over a ledger is done by the file's first
+//! bytes; tb_keep_commands has those over a ledger.
 //!
 //! Modules, each over those before it:
 //!
-//! - `arguments`: what the words of the command line ask for.
 //! - `heads`: which log a file is of, by its first bytes.
-//! - `faults`: why a form ends with an exit status other than 0.
+//! - `faults`: why a command ends with an exit status other than 0.
 //! - `naming`: what there is to say of a file that is refused.
 //! - `lines`: the lines that say so, and from which position a log is wanted.
 //! - `parts`: the entries of a log above a commit number, as it grows.
@@ -15,18 +14,21 @@
 //! - `copying`: `salvage` and `backup`, a log's file copied into a new one.
 //! - `dumping`: `dump`, a file read to its end and then written as a dump, or a part of it.
 //! - `following`: `follow`, a log kept over a file.
-//! - `commands`: `command`, each form, and the exit status of each outcome.
-//! - `host`: `serve`, from a program's input and output to `command`, and `serve_words`, which has the forms over a ledger too.
+//! - `commands`: each form over a log, over what opens devices.
+//! - `by_file`: the forms that there are over a ledger too.
+//! - `executing`: `execute`, each command, and the exit status of each outcome.
+//! - `host`: `serve`, from a program's input and output to `execute`.
 //!
-//! specs/Forms is which words ask for what, specs/Heads whose log a file is, specs/Outcomes, specs/Parts and specs/Checks what each form does, specs/Exits
-//! how it ends, specs/Faults the exit status and the line of each fault, specs/Hosts what `serve` does.
+//! specs/Heads is whose log a file is, specs/Outcomes, specs/Parts and specs/Checks what each form over a log does, specs/Exits what each
+//! command does and how it ends, specs/Faults the exit status and the line of each fault, specs/Hosts what `serve` does.
 #![tactic(auto)]
 
-mod arguments;
+mod by_file;
 mod checking;
 mod commands;
 mod copying;
 mod dumping;
+mod executing;
 mod faults;
 mod following;
 mod heads;
@@ -35,10 +37,9 @@ mod lines;
 mod naming;
 mod parts;
 
-pub use arguments::{Form, read_form, read_log_form};
 pub use checking::LogSummary;
-pub use commands::command;
 pub use copying::LogCopied;
-pub use faults::FollowFault;
+pub use executing::{Terminals, execute};
+pub use faults::{CommandFault, FollowFault};
 pub use heads::{FIRST_BYTES, Looker};
-pub use host::{serve, serve_words};
+pub use host::serve;

@@ -1,12 +1,12 @@
 //! The lines of standard error.
 ghost use Rattle.std.specs.Prelude.{◌≡◌};
 ghost use Rattle.tb_keep_commands.specs.ExitStatuses.{SaysLine};
-ghost use Rattle.tb_keep_follow.specs.Faults.{damage_in, kept_line, entry_line, hashes_line, no_entry_line, place_of, item_line, follow_line, wanted_line};
+ghost use Rattle.tb_keep_follow.specs.Faults.{command_line, damage_in, kept_line, entry_line, hashes_line, no_entry_line, place_of, item_line, follow_line, wanted_line};
 
-use crate::faults::FollowFault;
+use crate::faults::{CommandFault, FollowFault};
 use tb_keep_commands::{
-    Damage, KeepCommandFault, WrongEntry, tell, tell_damage, tell_named, tell_number, tell_place,
-    tell_text, tell_wrong,
+    Damage, KeepCommandFault, WrongEntry, print_damage, print_named, print_number, print_place,
+    print_text, print_wrong,
 };
 use tb_log::LogFault;
 use tb_records::Sink;
@@ -27,23 +27,23 @@ fn place_of(fault: LogFault) -> u64
 }
 
 /// Reports what is wrong with an item, and where.
-fn tell_item<E: Sink>(fault: LogFault, faults: &mut E)
+fn print_item<E: Sink>(fault: LogFault, faults: &mut E)
     ensures { SaysLine (item_line fault) (E.output faults.old) (E.output faults.new) }
 {
     match fault {
-        LogFault::UnknownKind(kind) => tell_number("tbd: UnknownKind ", kind as u64, faults),
-        LogFault::Gap(at) => tell_number("tbd: Gap at ", at, faults),
-        LogFault::Repeat(at) => tell_number("tbd: Repeat at ", at, faults),
-        LogFault::TooLong(at) => tell_number("tbd: TooLong at ", at, faults),
-        LogFault::Damaged(at) => tell_number("tbd: Damaged at ", at, faults),
-        LogFault::TimeExhausted(at) => tell_number("tbd: TimeExhausted at ", at, faults),
+        LogFault::UnknownKind(kind) => print_number("tbd: UnknownKind ", kind as u64, faults),
+        LogFault::Gap(at) => print_number("tbd: Gap at ", at, faults),
+        LogFault::Repeat(at) => print_number("tbd: Repeat at ", at, faults),
+        LogFault::TooLong(at) => print_number("tbd: TooLong at ", at, faults),
+        LogFault::Damaged(at) => print_number("tbd: Damaged at ", at, faults),
+        LogFault::TimeExhausted(at) => print_number("tbd: TimeExhausted at ", at, faults),
         LogFault::BadEntry(at, fault) => {
-            tell_place("tbd: BadEntry at ", at, fault.name(), faults)
+            print_place("tbd: BadEntry at ", at, fault.name(), faults)
         }
-        LogFault::Short => tell_text("tbd: ", "Short", faults),
-        LogFault::TooMany => tell_text("tbd: ", "TooMany", faults),
-        LogFault::Device => tell_text("tbd: ", "Device", faults),
-        LogFault::NoMemory => tell_text("tbd: ", "NoMemory", faults),
+        LogFault::Short => print_text("tbd: ", "Short", faults),
+        LogFault::TooMany => print_text("tbd: ", "TooMany", faults),
+        LogFault::Device => print_text("tbd: ", "Device", faults),
+        LogFault::NoMemory => print_text("tbd: ", "NoMemory", faults),
     }
 }
 
@@ -67,17 +67,17 @@ fn damage_in(fault: KeepCommandFault) -> Option<Damage>
 }
 
 /// Reports a fault that a ledger can have too, over a log of this path.
-fn tell_kept<E: Sink>(fault: KeepCommandFault, path: &str, faults: &mut E)
+fn print_kept<E: Sink>(fault: KeepCommandFault, path: &str, faults: &mut E)
     ensures { SaysLine (kept_line fault path.now) (E.output faults.old) (E.output faults.new) }
 {
     match damage_in(fault) {
-        Some(damage) => tell_damage(damage, path, AGAIN, faults),
-        None => tell(fault, path, faults),
+        Some(damage) => print_damage(damage, path, AGAIN, faults),
+        None => tb_keep_commands::print_fault(fault, path, faults),
     }
 }
 
 /// Reports that the record behind the entry of this position is that of no entry.
-fn tell_no_entry<E: Sink>(last: u64, path: &str, faults: &mut E)
+fn print_no_entry<E: Sink>(last: u64, path: &str, faults: &mut E)
     ensures { SaysLine (no_entry_line last path.now) (E.output faults.old) (E.output faults.new) }
 {
     let wrong = WrongEntry {
@@ -86,11 +86,11 @@ fn tell_no_entry<E: Sink>(last: u64, path: &str, faults: &mut E)
         after: " is that of no entry",
         name: "",
     };
-    tell_wrong(&wrong, path, AGAIN, faults);
+    print_wrong(&wrong, path, AGAIN, faults);
 }
 
 /// Reports that the entry of a record may not come next, and why.
-fn tell_entry<E: Sink>(fault: LogFault, path: &str, faults: &mut E)
+fn print_entry<E: Sink>(fault: LogFault, path: &str, faults: &mut E)
     ensures { SaysLine (entry_line fault path.now) (E.output faults.old) (E.output faults.new) }
 {
     let wrong = WrongEntry {
@@ -99,11 +99,11 @@ fn tell_entry<E: Sink>(fault: LogFault, path: &str, faults: &mut E)
         after: " may not come next: ",
         name: fault.name(),
     };
-    tell_wrong(&wrong, path, AGAIN, faults);
+    print_wrong(&wrong, path, AGAIN, faults);
 }
 
 /// Reports that the record of the entry at this position has another position or other hashes than the entry leaves.
-fn tell_hashes<E: Sink>(position: u64, path: &str, faults: &mut E)
+fn print_hashes<E: Sink>(position: u64, path: &str, faults: &mut E)
     ensures { SaysLine (hashes_line position path.now) (E.output faults.old) (E.output faults.new) }
 {
     let wrong = WrongEntry {
@@ -112,28 +112,38 @@ fn tell_hashes<E: Sink>(position: u64, path: &str, faults: &mut E)
         after: " has another position or other hashes than it leaves",
         name: "",
     };
-    tell_wrong(&wrong, path, AGAIN, faults);
+    print_wrong(&wrong, path, AGAIN, faults);
 }
 
-/// Reports a fault over a file of this path, in one line. A failure to write it changes no exit status.
-pub(crate) fn tell_fault<E: Sink>(fault: FollowFault, path: &str, faults: &mut E)
+/// Reports a fault over a log of this path, in one line.
+fn print_log_fault<E: Sink>(fault: FollowFault, path: &str, faults: &mut E)
     ensures { SaysLine (follow_line fault path.now) (E.output faults.old) (E.output faults.new) }
 {
     match fault {
-        FollowFault::Kept(fault) => tell_kept(fault, path, faults),
-        FollowFault::Plain => tell_named("tbd: Plain: ", path, PLAIN, faults),
-        FollowFault::OtherRules => tell_named("tbd: OtherRules: ", path, OTHER, faults),
-        FollowFault::NoEntry(last) => tell_no_entry(last, path, faults),
-        FollowFault::Entry(fault) => tell_entry(fault, path, faults),
-        FollowFault::OtherHashes(position) => tell_hashes(position, path, faults),
-        FollowFault::Unwritten(fault) => tell_text("tbd: Damaged: ", fault.name(), faults),
-        FollowFault::Item(fault) => tell_item(fault, faults),
+        FollowFault::Kept(fault) => print_kept(fault, path, faults),
+        FollowFault::Plain => print_named("tbd: Plain: ", path, PLAIN, faults),
+        FollowFault::OtherRules => print_named("tbd: OtherRules: ", path, OTHER, faults),
+        FollowFault::NoEntry(last) => print_no_entry(last, path, faults),
+        FollowFault::Entry(fault) => print_entry(fault, path, faults),
+        FollowFault::OtherHashes(position) => print_hashes(position, path, faults),
+        FollowFault::Unwritten(fault) => print_text("tbd: Damaged: ", fault.name(), faults),
+        FollowFault::Item(fault) => print_item(fault, faults),
+    }
+}
+
+/// Reports a fault over a file of this path, in one line. A failure to write it changes no exit status.
+pub(crate) fn print_fault<E: Sink>(fault: CommandFault, path: &str, faults: &mut E)
+    ensures { SaysLine (command_line fault path.now) (E.output faults.old) (E.output faults.new) }
+{
+    match fault {
+        CommandFault::Ledger(fault) => tb_keep_commands::print_fault(fault, path, faults),
+        CommandFault::Log(fault) => print_log_fault(fault, path, faults),
     }
 }
 
 /// Reports the position of the last entry that a file has: the log is wanted behind it.
-pub(crate) fn tell_wanted<E: Sink>(position: u64, faults: &mut E)
+pub(crate) fn print_wanted<E: Sink>(position: u64, faults: &mut E)
     ensures { SaysLine (wanted_line position) (E.output faults.old) (E.output faults.new) }
 {
-    tell_number("tbd: has the log up to position ", position, faults);
+    print_number("tbd: has the log up to position ", position, faults);
 }

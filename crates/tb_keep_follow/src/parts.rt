@@ -7,20 +7,11 @@ use crate::faults::{FollowFault, dumped_fault};
 use std::alloc::Global;
 use tb_journal::{Device, Scan};
 use tb_keep::Rules;
-use tb_keep_commands::{Failed, KeepCommandFault, Live, Opener, Outlet, disk_fault};
+use tb_keep_commands::{Failed, KeepCommandFault, Live, Opener, Outlet, Part, disk_fault};
 use tb_keep_log::{DumpLogFault, LogStartFault, write_log_entries};
 use tb_machine::Machine;
 use tb_records::dumps::send_head;
 use tb_records::{DumpHead, Sink};
-
-/// Which part of a log's history is written.
-#[derive(Clone, Copy)]
-pub(crate) struct Part {
-    /// The entries above this commit number, without a head; else all, as a dump.
-    pub after: Option<u64>,
-    /// Whether more are waited for.
-    pub follows: bool,
-}
 
 /// What is read of a log: its rules, and which of its entries are written.
 #[derive(Clone, Copy)]

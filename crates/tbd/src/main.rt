@@ -9,66 +9,27 @@
 //! - `wholes`: the whole entries among them.
 //! - `names`: `Name`, what the name of an open file leads to.
 //! - `files`: the files of the system, by their paths.
+//! - `running`: what the words ask for, done over these.
 #![tactic(auto)]
 
 mod copies;
 mod descriptors;
 mod files;
 mod names;
+mod running;
 mod wholes;
 
-use files::{SystemFiles, lines};
-use std::cell::Cell;
-use std::io::{BufWriter, IsTerminal, Stderr};
+use files::lines;
+use running::run_words;
 use std::process::ExitCode;
-use tb_cli::{Asked, NOTHING};
 use tb_commands::words;
-use tb_keep_commands::{Options, Steady, Terminals, options_of, read_words, refuse, words_fault};
-use tb_keep_follow::serve_words;
+use tb_keep_commands::{refuse, words_fault};
 use tb_records::Counting;
 
-/// The options among the words.
-fn options(words: &[String]) -> Options {
-    match read_words(words) {
-        Ok(Asked::Form(_, given)) => options_of(given),
-        _ => options_of(NOTHING),
-    }
-}
-
-/// Does what the words ask for over the files of the system, and returns the exit status.
-fn run(
-    rt: &HostRuntime,
-    words: &[String],
-    terminals: Terminals,
-    faults: &mut Counting<BufWriter<Stderr>>,
-) -> u8 {
-    let asked = options(words);
-    let reason = Cell::new(None);
-    let mut files = SystemFiles {
-        rt,
-        reports: asked.reports || terminals.faults,
-        drops: asked.drops,
-        reason: &reason,
-    };
-    serve_words(
-        rt.alloc(),
-        &mut files,
-        words,
-        terminals,
-        rt.stdin(),
-        Steady::new(rt.stdout()),
-        faults,
-    )
-}
-
 fn main(rt: HostRuntime) -> ExitCode {
-    let terminals = Terminals {
-        input: rt.stdin().is_terminal(),
-        faults: rt.stderr().is_terminal(),
-    };
     let mut faults = Counting::new(lines(&rt));
     let exit_status = match words(&rt) {
-        Ok(words) => run(&rt, words.as_slice(), terminals, &mut faults),
+        Ok(words) => run_words(&rt, words.as_slice(), &mut faults),
         Err(error) => refuse(words_fault(&error), &mut faults),
     };
     ExitCode::from(exit_status)

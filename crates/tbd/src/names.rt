@@ -9,7 +9,7 @@ use std::fs::{File, Metadata};
 use std::os::unix::fs::MetadataExt;
 use std::{format, fs};
 use tb_journal::JournalFault;
-use tb_keep_commands::{Place, Reason, tell_named};
+use tb_keep_commands::{Place, Reason, print_named};
 use tb_records::Counting;
 
 /// Which file of the system a file is: its device and its inode, which stay as long as it is open.
@@ -67,7 +67,7 @@ impl<'a> Name<'a> {
     fn report(&self, at: usize, bytes: &[u8], name: &str) {
         if let Ok(first) = self.copied(at, bytes) {
             let mut faults = Counting::new(lines(self.rt));
-            tell_named(first.as_str(), name, "", &mut faults);
+            print_named(first.as_str(), name, "", &mut faults);
         }
     }
 }

@@ -8,28 +8,26 @@ use Rattle.tb_keep.specs.declared.faults.StartFault.{StartFault}
 use Rattle.tb_keep.specs.declared.recovering.Rules.{Rules}
 use Rattle.tb_keep.specs.declared.salvaging.Salvaged.{Salvaged}
 use Rattle.tb_keep.specs.Keeping.{Keeping}
-use Rattle.tb_keep_commands.specs.declared.commands.Asked.{Asked}
 use Rattle.tb_keep_commands.specs.declared.faults.KeepCommandFault.{KeepCommandFault}
 use Rattle.tb_keep_commands.specs.declared.following.Part.{Part}
-use Rattle.tb_keep_commands.specs.declared.keeping.Told.{Told}
-use Rattle.tb_keep_commands.specs.Copies.{CopiesHeaded, CopiesMended, CopiesOver, CopiesRefused, EndsCopy, MakesCopy, NotesMended, copied_of, refused_by}
-use Rattle.tb_keep_commands.specs.Ends.{KnownEnds, KnownFiles, On}
-use Rattle.tb_keep_commands.specs.Exits.{Exits, Performs, made_by}
+use Rattle.tb_keep_commands.specs.declared.keeping.FileStart.{FileStart}
+use Rattle.tb_keep_commands.specs.Copies.{CopiesHeaded, CopiesMended, CopiesRefused, EndsCopy, MakesCopy, NotesMended, copied_of, refused_by}
+use Rattle.tb_keep_commands.specs.Ends.{KnownEnds, KnownFiles, On, made_by}
 use Rattle.tb_keep_commands.specs.Following.{EndsRounds, Grown, GrowsBy, HasPartCause, RoundCause, SendsRound, WritesPart}
 use Rattle.tb_keep_commands.specs.Live.{LooksAgain}
-use Rattle.tb_keep_commands.specs.Outcomes.{ChecksOver, DumpsOver, DumpsPart, FollowsFile, Outcome, RunsOver, ServesFile, ServesKept, ServesLong, ServesOpened}
+use Rattle.tb_keep_commands.specs.Outcomes.{DumpsPart, FollowsFile, Outcome, ServesFile, ServesKept, ServesLong, ServesOpened}
 use Rattle.tb_keep_commands.specs.private.Changes.{Change, OnDevice, OnWriter, new, old}
 
 -- a start that is reported so
 module _ {D : Type 0} (its : devices.Ghosts D) (outcome : Outcome) where
-  abbrev pub KeepsTold : Keeping D → Told → ℕ → Input → Input → Output → Output → Output → Output → Type 0
-  KeepsTold keeper told len = ServesKept its outcome keeper told.path.now told.reports len
+  abbrev pub KeepsOver : Keeping D → FileStart → ℕ → Input → Input → Output → Output → Output → Output → Type 0
+  KeepsOver keeper file len = ServesKept its outcome keeper file.path.now file.reports len
 
-  abbrev pub StartsTold : Rules → Told → ℕ → D → Input → Input → Output → Output → Output → Output → Type 0
-  StartsTold rules told len device = ServesLong its outcome rules told.path.now told.reports told.existing len device
+  abbrev pub StartsOver : Rules → FileStart → ℕ → D → Input → Input → Output → Output → Output → Output → Type 0
+  StartsOver rules file len device = ServesLong its outcome rules file.path.now file.reports file.existing len device
 
-  abbrev pub RunsTold : Rules → Told → D → Input → Input → Output → Output → Output → Output → Type 0
-  RunsTold rules told device = ServesFile its outcome rules told.path.now told.reports told.existing device
+  abbrev pub RunsFile : Rules → FileStart → D → Input → Input → Output → Output → Output → Output → Type 0
+  RunsFile rules file device = ServesFile its outcome rules file.path.now file.reports file.existing device
 
 -- what is written of a file of so many bytes that was copied, or why it is refused
 abbrev pub EndsSalvage : {E N : Type 0} → devices.Ghosts E → ℕ → Bool → Salvaged N → Outcome → E → E → Output → Output → Type 0
@@ -43,17 +41,8 @@ module _ {D W : Type 0} (its : devices.Ghosts D) (sink : sinks.Ghosts W) (Ended 
   abbrev pub FollowsAsked : Change D → Change W → Type 0
   FollowsAsked device writer = OnDevice sink (FollowsFile its Ended part.after part.follows outcome) device writer
 
--- what was asked for, over the files of a command
+-- a copy, over the files of a command
 module _ {O D E W : Type 0} (its : KnownFiles O D E) (sink : sinks.Ghosts W) where
-  abbrev pub DumpsOn : List ℕ → Part → Outcome → Change O → Change W → Type 0
-  DumpsOn name part outcome opener writer = OnWriter sink (DumpsOver its name (old opener) (new opener) part.after part.follows outcome) writer
-
-  abbrev pub ChecksOn : List ℕ → Bool → Outcome → Change O → Change W → Type 0
-  ChecksOn name quick outcome opener writer = OnWriter sink (ChecksOver its name (old opener) (new opener) quick outcome) writer
-
-  abbrev pub CopiesOn : List ℕ → List ℕ → Bool → Outcome → Change O → Change W → Type 0
-  CopiesOn into name whole outcome opener writer = OnWriter sink (CopiesOver its into name (old opener) (new opener) whole outcome) writer
-
   abbrev pub CopiesHeadedOn : List ℕ → Bool → Outcome → E → Change O → Change W → Type 0
   CopiesHeadedOn into whole outcome from opener writer = OnWriter sink (CopiesHeaded its into (old opener) (new opener) whole outcome from) writer
 
@@ -80,24 +69,9 @@ module _ {O D E R W L : Type 0} (its : KnownEnds O D E R W L) where
   OnEnds Does reader writer lines =
       On its.source its.sink its.lines Does (old reader) (new reader) (old writer) (new writer) (old lines) (new lines)
 
-  abbrev pub ExitsOn : Asked → Change O → ℕ → Change R → Change W → Change L → Type 0
-  ExitsOn asked opener exit_status reader writer lines =
-      OnEnds (Exits its.files asked.ends (old opener) asked.file.now asked.new.now (new opener) (its.gone (new writer)) asked.form exit_status)
-      reader writer lines
-
-  abbrev pub PerformsOn : Asked → Change O → Outcome → Change R → Change W → Change L → Type 0
-  PerformsOn asked opener outcome reader writer lines =
-      OnEnds (Performs its.files asked.ends (old opener) asked.file.now asked.new.now (new opener) asked.form outcome) reader writer lines
-
-  abbrev pub RunsOpened : Rules → Told → Change O → Outcome → Change R → Change W → Change L → Type 0
-  RunsOpened rules told opener outcome reader writer lines =
-      OnEnds (ServesOpened its.files.file (made_by its.files told.existing (old opener) told.path.now) (new opener) outcome rules told.path.now told.reports told.existing)
-      reader writer lines
-
-  abbrev pub Runs : Rules → Told → Bool → Change O → Outcome → Change R → Change W → Change L → Type 0
-  Runs rules told talks opener outcome reader writer lines =
-      OnEnds (RunsOver its.files.file (made_by its.files told.existing (old opener) told.path.now) (its.files.opener.reasons (new opener)) (new opener) outcome
-      rules told.path.now told.reports told.existing talks)
+  abbrev pub RunsOpened : Rules → FileStart → Change O → Outcome → Change R → Change W → Change L → Type 0
+  RunsOpened rules file opener outcome reader writer lines =
+      OnEnds (ServesOpened its.files.file (made_by its.files file.existing (old opener) file.path.now) (new opener) outcome rules file.path.now file.reports file.existing)
       reader writer lines
 
 -- of the entries above a commit number, of whatever file a device holds

@@ -113,21 +113,21 @@ fn a_crash_at_each_moment(rt: HostRuntime) {
 }
 
 /// Says whether so many bytes have the replies to the first so many pairs.
-fn is_told(rt: &impl Abort, alloc: Global, length: usize, count: usize) -> bool {
+fn is_answered(rt: &impl Abort, alloc: Global, length: usize, count: usize) -> bool {
     let replies = replies_to(rt, alloc, count);
-    let is_told = replies.len() <= length;
+    let is_answered = replies.len() <= length;
     drop(replies);
-    is_told
+    is_answered
 }
 
 /// The pairs of which the last rests on one entry, on two, on three and on four.
 const RESTING: &[usize] = &[1, 2, 3, 6];
 
 /// The entries that so many bytes of replies rest on.
-fn entries_told(rt: &impl Abort, alloc: Global, length: usize) -> u64 {
+fn entries_answered(rt: &impl Abort, alloc: Global, length: usize) -> u64 {
     let mut entries = 0u64;
     for count in RESTING {
-        if is_told(rt, alloc, length, *count) {
+        if is_answered(rt, alloc, length, *count) {
             entries = entries.saturating_add(1);
         }
     }
@@ -160,7 +160,7 @@ fn served_failing(rt: &impl Abort, alloc: Global, number: u64) -> (Vec<u8>, Vec<
 fn expect_failing(rt: &impl Abort, alloc: Global, number: u64, whole: &[u8]) {
     let (left, told) = served_failing(rt, alloc, number);
     expect(rt, whole.starts_with(&told));
-    let least = entries_told(rt, alloc, told.len());
+    let least = entries_answered(rt, alloc, told.len());
     drop(told);
     expect_goes_on(rt, alloc, &left, whole, (least, least.saturating_add(1)));
     drop(left);

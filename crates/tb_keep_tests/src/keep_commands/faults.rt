@@ -5,18 +5,18 @@ use tb_journal::{FileFault, JournalFault};
 use tb_keep_commands::{KeepCommandFault, OpeningFault, opening_fault, words_fault};
 
 /// What is reported of a fault.
-fn told(fault: FileFault) -> OpeningFault {
-    let told = opening_fault(&fault);
+fn opening_of(fault: FileFault) -> OpeningFault {
+    let found = opening_fault(&fault);
     drop(fault);
-    told
+    found
 }
 
 /// What is reported of words that the system gave this error for.
-fn told_of_words(kind: ErrorKind) -> KeepCommandFault {
+fn words_fault_of(kind: ErrorKind) -> KeepCommandFault {
     let error = io::Error::from(kind);
-    let told = words_fault(&error);
+    let found = words_fault(&error);
     drop(error);
-    told
+    found
 }
 
 /// What is reported of the system's errors.
@@ -30,17 +30,17 @@ const ERRORS: &[(ErrorKind, OpeningFault)] = &[
 
 #[test]
 fn a_fault_of_the_system_is_told_as_what_it_is(rt: HostRuntime) {
-    expect_same(&rt, told(FileFault::Locked), OpeningFault::Locked);
-    let unsynced = told(FileFault::Sync(JournalFault::SyncFailed));
+    expect_same(&rt, opening_of(FileFault::Locked), OpeningFault::Locked);
+    let unsynced = opening_of(FileFault::Sync(JournalFault::SyncFailed));
     expect_same(&rt, unsynced, OpeningFault::SyncFailed);
-    let unsynced = told(FileFault::Sync(JournalFault::Memory));
+    let unsynced = opening_of(FileFault::Sync(JournalFault::Memory));
     expect_same(&rt, unsynced, OpeningFault::NoMemory);
     for (kind, want) in ERRORS {
-        let found = told(FileFault::System(io::Error::from(*kind)));
+        let found = opening_of(FileFault::System(io::Error::from(*kind)));
         expect_same(&rt, found, *want);
     }
-    let words = told_of_words(ErrorKind::OutOfMemory);
+    let words = words_fault_of(ErrorKind::OutOfMemory);
     expect_same(&rt, words, KeepCommandFault::NoMemory);
-    let words = told_of_words(ErrorKind::InvalidData);
+    let words = words_fault_of(ErrorKind::InvalidData);
     expect_same(&rt, words, KeepCommandFault::Usage);
 }

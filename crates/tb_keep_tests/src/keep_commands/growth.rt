@@ -4,9 +4,12 @@ use crate::keep::scripts::kept_two;
 use crate::steps::{copy_of, expect, expect_begin, expect_given, sure};
 use std::alloc::Global;
 use std::cell::Cell;
+use std::io::BufWriter;
 use std::process::Abort;
 use tb_journal::{Growing, JournalFault, Memory, Snapshot};
-use tb_keep_commands::{Opener, OpeningFault, Reason, Terminals, serve};
+use tb_keep_commands::{
+    Opener, OpeningFault, Outgoing, Outlet, Part, Reason, check_over, dump_over,
+};
 use tb_records::Counting;
 
 /// A file that has one commit more at each fifth time that its length is asked for: an opening asks four times, for the block of the
@@ -106,67 +109,48 @@ impl Opener for Growths {
     }
 }
 
-/// Pipes and files.
-const NO_TERMINALS: Terminals = Terminals {
-    input: false,
-    faults: false,
-};
-
-/// The words as a program has them.
-fn words_of(rt: &impl Abort, alloc: Global, words: &[&str]) -> Vec<String> {
-    let mut all = Vec::new(alloc);
-    for word in words {
-        let word = sure(rt, String::from_str(alloc, word));
-        sure(rt, all.push(word));
-    }
-    all
-}
-
-/// What the words write of that file, for whose commits is waited so often.
-fn written(rt: &impl Abort, alloc: Global, words: &[&str], pauses: u32) -> Vec<u8> {
-    let mut folder = Growths {
+/// A folder with the growing ledger, for whose commits is waited so often.
+fn folder(rt: &impl Abort, alloc: Global, pauses: u32) -> Growths {
+    Growths {
         alloc,
         file: Some(growing_ledger(rt, alloc)),
         pauses: Cell::new(pauses),
-    };
-    let words = words_of(rt, alloc, words);
+    }
+}
+
+/// What is written of that file as a dump, for whose commits is waited so often.
+fn dumped(rt: &impl Abort, alloc: Global, part: Part, pauses: u32) -> Vec<u8> {
+    let mut folder = folder(rt, alloc, pauses);
     let mut out = Vec::new(alloc);
-    let mut lines = Counting::new(Vec::new(alloc));
-    let none: &[u8] = &[];
-    let status = serve(
-        alloc,
-        &mut folder,
-        words.as_slice(),
-        NO_TERMINALS,
-        none,
-        &mut out,
-        &mut lines,
-    );
-    drop(words);
+    let mut writer = Outgoing::new(sure(rt, BufWriter::with_capacity(alloc, 0, &mut out)));
+    let done = dump_over(alloc, &mut folder, "ledger", &mut writer, part);
+    expect(rt, done.is_ok() && writer.finish().is_ok());
+    drop(writer);
     drop(folder);
-    drop(lines);
-    expect(rt, status == 0);
     out
 }
 
-/// The words write so many bytes, the first ones of these.
-fn expect_first(
-    rt: &impl Abort,
-    alloc: Global,
-    words: &[&str],
-    pauses: u32,
-    (len, all): (usize, &[u8]),
-) {
-    let found = written(rt, alloc, words, pauses);
-    expect(rt, found.len() == len);
-    expect_begin(rt, all, found);
+/// What a check writes of that file.
+fn checked(rt: &impl Abort, alloc: Global) -> Vec<u8> {
+    let mut folder = folder(rt, alloc, 0);
+    let mut out = Counting::new(Vec::new(alloc));
+    let done = check_over(alloc, &mut folder, "ledger", false, &mut out);
+    expect(rt, done.is_ok());
+    drop(folder);
+    out.into_inner()
 }
 
-/// The words write these bytes.
-fn expect_written(rt: &impl Abort, alloc: Global, words: &[&str], pauses: u32, want: &[u8]) {
-    let found = written(rt, alloc, words, pauses);
-    expect_given(rt, found, want);
-}
+/// All entries, behind a head.
+const ALL: Part = Part {
+    after: None,
+    follows: false,
+};
+
+/// The same, and those that come later.
+const FOLLOWED: Part = Part {
+    after: None,
+    follows: true,
+};
 
 /// How many bytes of the dump went out where was waited so often: the head has 16, the entries 64 and 320.
 const LENGTHS: &[(u32, usize)] = &[(0, 16), (1, 80), (2, 400), (3, 400)];
@@ -176,13 +160,17 @@ const LENGTHS: &[(u32, usize)] = &[(0, 16), (1, 80), (2, 400), (3, 400)];
 fn a_followed_dump_goes_on(rt: HostRuntime) {
     let alloc = rt.alloc();
     let all = dump_of(&rt, alloc, 2);
-    let words = &["dump", "ledger", "--follow"];
     for (pauses, len) in LENGTHS {
-        expect_first(&rt, alloc, words, *pauses, (*len, &all));
+        let found = dumped(&rt, alloc, FOLLOWED, *pauses);
+        expect(&rt, found.len() == *len);
+        expect_begin(&rt, &all, found);
     }
-    let words = &["dump", "ledger", "--after", "1", "--follow"];
-    let second = all.get(80..).unwrap_or_default();
-    expect_written(&rt, alloc, words, 2, second);
+    let later = Part {
+        after: Some(1),
+        follows: true,
+    };
+    let found = dumped(&rt, alloc, later, 2);
+    expect_given(&rt, found, all.get(80..).unwrap_or_default());
     drop(all);
 }
 
@@ -191,10 +179,16 @@ fn a_followed_dump_goes_on(rt: HostRuntime) {
 fn a_dump_has_one_moment(rt: HostRuntime) {
     let alloc = rt.alloc();
     let all = dump_of(&rt, alloc, 2);
-    expect_first(&rt, alloc, &["dump", "ledger"], 2, (16, &all));
+    let found = dumped(&rt, alloc, ALL, 2);
+    expect(&rt, found.len() == 16);
+    expect_begin(&rt, &all, found);
     drop(all);
-    let words = &["dump", "ledger", "--after", "0"];
-    expect_written(&rt, alloc, words, 2, b"");
+    let later = Part {
+        after: Some(0),
+        follows: false,
+    };
+    let found = dumped(&rt, alloc, later, 2);
+    expect_given(&rt, found, b"");
 }
 
 /// The first entry was committed while the file was read: it has 75 bytes.
@@ -203,5 +197,6 @@ fn what_was_committed_meanwhile_is_behind(rt: HostRuntime) {
     let alloc = rt.alloc();
     let text =
         "records 1\nentries 0\nprofile 1\nclients_max 2\nlast time 0\nbytes behind 75, not committed yet or torn\n";
-    expect_written(&rt, alloc, &["check", "ledger"], 0, text.as_bytes());
+    let found = checked(&rt, alloc);
+    expect_given(&rt, found, text.as_bytes());
 }

@@ -80,7 +80,7 @@ fn a_crash_at_each_moment(rt: HostRuntime) {
 }
 
 /// The entries that so many bytes of answers rest on.
-fn entries_told(told: usize) -> u64 {
+fn entries_answered(told: usize) -> u64 {
     match told {
         0 => 0,
         1..=195 => 1,
@@ -127,7 +127,7 @@ fn expect_failing(rt: &impl Abort, alloc: Global, number: u64, log: &[u8], whole
     let (position, more) = goes_on(rt, alloc, &left, log);
     drop(left);
     expect(rt, whole.starts_with(&told));
-    expect(rt, entries_told(told.len()) <= position);
+    expect(rt, entries_answered(told.len()) <= position);
     drop(told);
     expect_end(rt, whole, more);
 }

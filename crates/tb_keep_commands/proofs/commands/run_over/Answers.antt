@@ -3,7 +3,7 @@ use Rattle.tb_keep_commands.proofs.commands.run_over.Goals as goal
 pub returns : goal.returns
 returns g c = record {
   noted = _;
-  frames = c.tell_frames.ensures;
+  frames = c.print_frames.ensures;
   served = c.run_opened-served.result;
   reason = c.reason-reason.result;
   asked = c.reason-reason.ensures;

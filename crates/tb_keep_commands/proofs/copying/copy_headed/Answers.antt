@@ -1,4 +1,4 @@
-use Rattle.std.proofs.Common.{Ok, Err, refl}
+use Rattle.std.proofs.Common.{Ok, Err}
 use Rattle.tb_keep_commands.proofs.copying.copy_headed.Goals as goal
 
 pub returns-in-Ok : goal.returns-in-Ok

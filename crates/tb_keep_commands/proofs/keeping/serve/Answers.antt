@@ -1,14 +1,14 @@
 use Rattle.std.proofs.Common.{refl, arith}
-use Rattle.tb_keep_commands.proofs.Passing.{told_cut}
+use Rattle.tb_keep_commands.proofs.Passing.{printed_cut}
 use Rattle.tb_keep_commands.proofs.keeping.serve.Goals as goal
 
 pub returns : goal.returns
 returns g c = record {
   noted = _;
-  made = c.tell_made.ensures;
+  made = c.print_made.ensures;
   started = _;
-  cut = told_cut _ _ _ _ _ _ c.cut_bytes-cut.ensures (omega arith) c.tell_cut.ensures;
-  ready = rw (c.commit.ensures.value, c.time.ensures, c.machine-machine.ensures) at c.tell_ready.ensures;
+  cut = printed_cut _ _ _ _ _ _ c.cut_bytes-cut.ensures (omega arith) c.print_cut.ensures;
+  ready = rw (c.commit.ensures.value, c.time.ensures, c.machine-machine.ensures) at c.print_ready.ensures;
   result = c.keep-kept.result;
   after = c.keep-kept.new.keeper;
   served = c.keep-kept.ensures.served;

@@ -4,7 +4,7 @@ use Rattle.tb_keep_commands.proofs.keeping.start.Goals as goal
 pub returns-in-Ok : goal.returns-in-Ok
 returns-in-Ok g c = record {
   noted = _;
-  reading = c.tell_reading.ensures;
+  reading = c.print_reading.ensures;
   started = Ok c.in-Ok.keeper;
   starts = c.in-Ok.ensures.starts;
   handed = c.in-Ok.ensures.handed;
@@ -15,7 +15,7 @@ returns-in-Ok g c = record {
 pub returns-in-Err : goal.returns-in-Err
 returns-in-Err g c = record {
   noted = _;
-  reading = c.tell_reading.ensures;
+  reading = c.print_reading.ensures;
   started = Err c.in-Err.failed;
   starts = c.in-Err.ensures.starts;
   handed = c.in-Err.ensures.handed;

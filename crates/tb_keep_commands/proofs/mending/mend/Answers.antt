@@ -1,4 +1,4 @@
-use Rattle.std.proofs.Common.{arith, ◌≡◌, ◌++◌, List, ℕ, take, drop, ap, ◌∙◌, length-drop}
+use Rattle.std.proofs.Common.{arith, ◌++◌, List, ℕ, take, drop, ap, ◌∙◌, length-drop}
 use Rattle.tb_journal.specs.Contents.{magic}
 use Rattle.tb_keep_commands.proofs.Mends.{over}
 use Rattle.tb_keep_commands.proofs.mending.mend.Goals as goal

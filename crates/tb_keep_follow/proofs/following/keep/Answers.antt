@@ -1,14 +1,14 @@
 use Rattle.std.proofs.Common.{refl, arith}
-use Rattle.tb_keep_commands.proofs.Passing.{told_cut}
+use Rattle.tb_keep_commands.proofs.Passing.{printed_cut}
 use Rattle.tb_keep_follow.proofs.following.keep.Goals as goal
 
 pub returns : goal.returns
 returns g c = record {
   noted = _;
-  made = c.tell_made.ensures;
+  made = c.print_made.ensures;
   started = _;
-  cut = told_cut _ _ _ _ _ _ c.cut_bytes-cut.ensures (omega arith) c.tell_cut.ensures;
-  wanted = rw c.position.ensures at c.tell_wanted.ensures;
+  cut = printed_cut _ _ _ _ _ _ c.cut_bytes-cut.ensures (omega arith) c.print_cut.ensures;
+  wanted = rw c.position.ensures at c.print_wanted.ensures;
   result = c.keep_log-kept.result;
   after = c.keep_log-kept.new.keeper;
   served = c.keep_log-kept.ensures.served;

@@ -1,0 +1,85 @@
+//! The forms that there are over a ledger and over a log: over what a file is by its first bytes.
+ghost use Rattle.std.specs.Prelude.{◌≡◌};
+ghost use Rattle.tb_keep_follow.specs.Exits.{ChecksEither, CopiesEither, DumpsEither, over_ledger, over_log};
+
+use crate::commands::{check_over, copy_over, dump_over};
+use crate::faults::{CommandFault, FollowFault};
+use crate::heads::{Looker, is_log};
+use std::alloc::Global;
+use tb_keep_commands::{Files, KeepCommandFault, Outlet, Part};
+use tb_records::Sink;
+
+/// How a form over a ledger ended.
+pub(crate) fn over_ledger(done: Result<(), KeepCommandFault>) -> Result<(), CommandFault>
+    ensures { result ≡ over_ledger done }
+{
+    match done {
+        Ok(()) => Ok(()),
+        Err(fault) => Err(CommandFault::Ledger(fault)),
+    }
+}
+
+/// How a form over a log ended.
+pub(crate) fn over_log(done: Result<(), FollowFault>) -> Result<(), CommandFault>
+    ensures { result ≡ over_log done }
+{
+    match done {
+        Ok(()) => Ok(()),
+        Err(fault) => Err(CommandFault::Log(fault)),
+    }
+}
+
+/// Writes the dump of the file of a path, or the part of one that was asked for.
+pub(crate) fn dump<O: Looker, W: Outlet>(
+    alloc: Global,
+    opener: &mut O,
+    path: &str,
+    writer: &mut W,
+    part: Part,
+) -> Result<(), CommandFault>
+    ensures { DumpsEither ⟦<O as Files>⟧.its O.looks opener.old path.now opener.new part.after part.follows result
+        (W.output writer.old) (W.output writer.new) }
+{
+    if is_log(opener, path) {
+        over_log(dump_over(alloc, opener, path, writer, part))
+    } else {
+        over_ledger(tb_keep_commands::dump_over(alloc, opener, path, writer, part))
+    }
+}
+
+/// Writes what is in the file of a path.
+pub(crate) fn check<O: Looker, W: Outlet>(
+    alloc: Global,
+    opener: &mut O,
+    path: &str,
+    quick: bool,
+    writer: &mut W,
+) -> Result<(), CommandFault>
+    ensures { ChecksEither ⟦<O as Files>⟧.its O.looks opener.old path.now opener.new quick result
+        (W.output writer.old) (W.output writer.new) }
+{
+    if is_log(opener, path) {
+        over_log(check_over(alloc, opener, path, writer))
+    } else {
+        over_ledger(tb_keep_commands::check_over(alloc, opener, path, quick, writer))
+    }
+}
+
+/// Copies the file of a path into a new one of another path, and writes what was copied.
+pub(crate) fn copy<O: Looker, W: Outlet>(
+    alloc: Global,
+    opener: &mut O,
+    path: &str,
+    new: &str,
+    whole: bool,
+    writer: &mut W,
+) -> Result<(), CommandFault>
+    ensures { CopiesEither ⟦<O as Files>⟧.its O.looks opener.old path.now opener.new new.now whole result
+        (W.output writer.old) (W.output writer.new) }
+{
+    if is_log(opener, path) {
+        over_log(copy_over(alloc, opener, path, new, whole, writer))
+    } else {
+        over_ledger(tb_keep_commands::copy_over(alloc, opener, path, new, whole, writer))
+    }
+}
