@@ -134,7 +134,9 @@ pub fn recover<D: Device>(alloc: Global, device: D) -> Result<Journal<D>, NotOpe
 }
 
 // A journal without records.
-const FIRST: [u8; 12] = [84, 66, 74, 82, 78, 76, 48, 50, 90, 195, 150, 105];
+const FIRST: [u8; 12] = [
+    b'T', b'B', b'J', b'R', b'N', b'L', b'0', b'2', 90, 195, 150, 105,
+];
 
 /// Creates a journal without records in an empty file. Any other file stays as it was, but one such
 /// as a crash leaves of a creation: nothing was acknowledged there, and the call

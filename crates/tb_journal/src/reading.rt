@@ -8,7 +8,7 @@ ghost use Rattle.tb_journal.specs.Checksum.{byte_on, remainder, checksum, zeros_
 use crate::tables::REMAINDERS;
 
 /// The first bytes of a journal's file.
-pub const MAGIC: [u8; 8] = [84, 66, 74, 82, 78, 76, 48, 50];
+pub const MAGIC: [u8; 8] = [b'T', b'B', b'J', b'R', b'N', b'L', b'0', b'2'];
 
 // What is at the head of some bytes.
 #[derive(Clone, Copy, PartialEq, Eq)]

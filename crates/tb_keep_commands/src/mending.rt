@@ -8,7 +8,7 @@ use crate::live::Live;
 use tb_journal::{Device, JournalFault};
 
 /// The first bytes of a journal.
-const MAGIC: [u8; 8] = [84, 66, 74, 82, 78, 76, 48, 50];
+const MAGIC: [u8; 8] = [b'T', b'B', b'J', b'R', b'N', b'L', b'0', b'2'];
 
 /// Puts the first bytes of a journal over bytes that are in a file from this offset on.
 fn mend(at: usize, bytes: &mut [u8])

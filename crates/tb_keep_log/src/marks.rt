@@ -25,7 +25,7 @@ fn write_mark(rules: Rules) -> [u8; 6]
         Profile::One => 1,
         Profile::Two => 2,
     };
-    [84, 66, 70, 49, number, rules.clients_max.get() as u8]
+    [b'T', b'B', b'F', b'1', number, rules.clients_max.get() as u8]
 }
 
 /// The record of an entry of these pairs, behind which a follower is.
@@ -50,10 +50,10 @@ fn other_mark(bytes: &[u8], rules: Rules, last: u64) -> LogStartFault
     requires { starts_with nat_eq bytes.now (By rules mark) ≡ false }
     ensures { By rules (RefusesMark result) last bytes.now }
 {
-    if bytes.starts_with(&[84, 66, 75, 49]) {
+    if bytes.starts_with(b"TBK1") {
         return LogStartFault::Plain;
     }
-    if bytes.starts_with(&[84, 66, 70, 49]) {
+    if bytes.starts_with(b"TBF1") {
         return LogStartFault::OtherRules;
     }
     LogStartFault::NoEntry(last)
