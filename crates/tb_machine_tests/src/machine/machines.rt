@@ -4,7 +4,7 @@ use crate::machine::rows::{TransferRow, transfer_of};
 use std::alloc::{AllocError, Global};
 use std::process::Abort;
 use tb_fixtures::{account, creation, transfers};
-use tb_machine::Machine;
+use tb_machine::{Judged, Machine};
 use tb_records::{Body, ClientsMax, Profile, Request};
 
 /// A request's client, session and number.
@@ -54,8 +54,9 @@ fn enter(
     ask: Ask,
 ) {
     let request = request_of(rt, alloc, numbers, ask);
-    let entry = machine.next_entry(request, 10).expect(rt, "a time");
-    assert!(rt; machine.fits(&entry), "the entry may not come next");
+    let Judged::New(entry) = machine.judge(10, request) else {
+        panic!(rt; "the request is not new, or has no time");
+    };
     let entered = machine.enter(entry);
     holds(rt, entered.is_ok(), "memory");
     drop(entered);
