@@ -18,7 +18,7 @@ use Rattle.tb_keep_log.specs.declared.faults.KeepLogFault.{KeepLogFault}
 use Rattle.tb_keep_log.specs.declared.faults.KeepLogFault.TheVariants as keep
 use Rattle.tb_keep_log.specs.Keeping.{record_of, records_from, IsKept}
 use Rattle.tb_keep_log.specs.Items.{Point, point, Turns, IsUncommitted, Halts, AreTooMany, Served}
-use Rattle.tb_keep_log.specs.Laws.{FollowsFurther, OpenedGoesOn, HasFirst, AfterKill, AnyCrash, WhileCommitting, TellsTheDone, WhileTelling}
+use Rattle.tb_keep_log.specs.Laws.{FollowsFurther, OpenedGoesOn, HasFirst, AfterKill, AnyCrash, WhileCommitting, RepliesToTheDone, WhileReplying}
 use Rattle.tb_keep_log.proofs.Leading.{records_join, answered_join, leads_then}
 
 -- going on
@@ -74,11 +74,11 @@ module _ (tells : Type 0) {D : Type 0} (disk : D → Disk) (profile : Profile) (
   answered_turns [] a b turns = tt
   answered_turns (item ∷ items) a b turns = (turns.1.read.answered, subst (λ (K : Following). AllAnswered K items) turns.1.now (answered_turns items turns.0 b turns.2))
 
-  pub told_behind : (items : List Item) (a b : Point D) → Turns tells disk profile clients_max items a b → Sent (given a.now items) a.output b.output
-  told_behind [] a b turns = subst (λ (p : Point D). Sent [] a.output p.output) (sym turns) (sends_none a.output)
-  told_behind (item ∷ items) a b turns =
+  pub replied_behind : (items : List Item) (a b : Point D) → Turns tells disk profile clients_max items a b → Sent (given a.now items) a.output b.output
+  replied_behind [] a b turns = subst (λ (p : Point D). Sent [] a.output p.output) (sym turns) (sends_none a.output)
+  replied_behind (item ∷ items) a b turns =
       subst (λ (bs : List ℕ). Sent bs a.output b.output) (ap (λ (K : Following). given_to a.now item ++ given K items) turns.1.now)
-      (sends_then (given_to a.now item) (given turns.0.now items) a.output turns.0.output b.output turns.1.told (told_behind items turns.0 b turns.2))
+      (sends_then (given_to a.now item) (given turns.0.now items) a.output turns.0.output b.output turns.1.told (replied_behind items turns.0 b turns.2))
 
   records_behind : tells → (items : List Item) (a b : Point D) → Turns tells disk profile clients_max items a b → seen_of b ≡ seen_of a ++ records_from profile clients_max a.now items
   records_behind t [] a b turns = ap seen_of turns ∙ sym (append-nil (seen_of a))
@@ -242,16 +242,16 @@ module _ (tells : Type 0) {D : Type 0} (disk : D → Disk) where
             keeps.ready.at_rest keeps.file keeps.kept served).later (stays after.journal.device t))
         by (inr during) = during (disk amid).seen (stays amid t)
 
-  pub tells_the_done : TellsTheDone tells disk
-  tells_the_done profile clients_max done first before turns = told_behind tells disk profile clients_max done first before turns
+  pub replies_to_the_done : RepliesToTheDone tells disk
+  replies_to_the_done profile clients_max done first before turns = replied_behind tells disk profile clients_max done first before turns
 
   pub while_committing : WhileCommitting tells disk
   while_committing profile clients_max done item first before after file t turns leaves left =
       subst (λ (rs : List (List ℕ)). IsBeforeOrAfter rs (record_of profile clients_max before.now item) file) (records_behind tells disk profile clients_max t done first before turns)
       (leaves.each file left)
 
-  pub while_telling : WhileTelling tells disk
-  while_telling profile clients_max done item first before after file t turns commits left =
+  pub while_replying : WhileReplying tells disk
+  while_replying profile clients_max done item first before after file t turns commits left =
       let base = recorded (disk first.journal.device).seen in
       ap contents (commits.at_rest.kept file left) ∙ commits.at_rest.reads
       ∙ ap Records (commits.grown

@@ -21,7 +21,7 @@ use Rattle.tb_keep_log.specs.declared.faults.KeepLogFault.TheVariants as keep
 use Rattle.tb_keep_log.specs.Keeping.{record_bytes, record_of}
 use Rattle.tb_keep_log.specs.Rereading.{IsHaltedContent}
 use Rattle.tb_keep_log.specs.Items.{point, IsHalted, RefusesItem, IsRead, Turn, IsUncommitted, Halts}
-use Rattle.tb_keep_log.specs.private.Steps.{TakesEntry, MissesEntry, TellsBytes, IsPut, IsUnput, PutsAndTells, ReadsWhole, KeepsEntry, FailsEntry, EntersEntry}
+use Rattle.tb_keep_log.specs.private.Steps.{TakesEntry, MissesEntry, PassesBytesOn, IsPut, IsUnput, CommitsAndReplies, ReadsWhole, KeepsEntry, FailsEntry, EntersEntry}
 
 -- an entry that is taken
 
@@ -47,18 +47,18 @@ module _ (tells : Type 0) {D : Type 0} (disk : D → Disk) (profile : Profile) (
     committed : IsPut tells disk (bytes ∷ []) old new → IsPut tells disk (record_of profile clients_max F (Entry ps)) old new
     committed put = subst (λ (bs : List ℕ). IsPut tells disk (bs ∷ []) old new) own put
 
-    pub entered : (result : Result (Unit {0}) KeepLogFault) → PutsAndTells tells disk result bytes held old new start written
+    pub entered : (result : Result (Unit {0}) KeepLogFault) → CommitsAndReplies tells disk result bytes held old new start written
         → EntersEntry tells disk profile clients_max result F G old new before after start written
     entered (Ok done) puts = record {
       pairs = ps;
       whole = whole;
       now = takes.holds.now;
       put = committed puts.0;
-      told = subst (λ (bs : List ℕ). TellsBytes (Ok tt) bs start written) takes.holds.holds puts.1;
+      told = subst (λ (bs : List ℕ). PassesBytesOn (Ok tt) bs start written) takes.holds.holds puts.1;
     }
     entered (Err (keep.Journal fault)) puts = (ps, whole, subst (λ (bs : List ℕ). IsUnput tells disk fault bs old new) own puts.0, puts.1)
     entered (Err (keep.Log fault)) puts =
-        inr (ps, whole, committed puts.0, subst (λ (bs : List ℕ). TellsBytes (Err (keep.Log fault)) bs start written) takes.holds.holds puts.1)
+        inr (ps, whole, committed puts.0, subst (λ (bs : List ℕ). PassesBytesOn (Err (keep.Log fault)) bs start written) takes.holds.holds puts.1)
 
   -- an entry by its first byte
 

@@ -69,13 +69,13 @@ module _ (tells : Type 0) {D : Type 0} (disk : D → Disk) where
       → IsBeforeOrAfter (recorded (disk first.journal.device).seen ++ records_from profile clients_max first.now done) (record_of profile clients_max before.now item) file
 
   -- and what was acknowledged until then are the answers to these
-  abbrev pub TellsTheDone : Type 0
-  TellsTheDone = (profile : Profile) (clients_max : ℕ) (done : List Item) (first before : Point D) → Turns tells disk profile clients_max done first before
+  abbrev pub RepliesToTheDone : Type 0
+  RepliesToTheDone = (profile : Profile) (clients_max : ℕ) (done : List Item) (first before : Point D) → Turns tells disk profile clients_max done first before
       → Sent (given first.now done) first.output before.output
 
   -- once it is committed, when its answers are sent, a crash leaves that one too
-  abbrev pub WhileTelling : Type 0
-  WhileTelling = (profile : Profile) (clients_max : ℕ) (done : List Item) (item : Item) (first before : Point D) (after : D) (file : List ℕ)
+  abbrev pub WhileReplying : Type 0
+  WhileReplying = (profile : Profile) (clients_max : ℕ) (done : List Item) (item : Item) (first before : Point D) (after : D) (file : List ℕ)
       → tells → Turns tells disk profile clients_max done first before
       → Commits (record_of profile clients_max before.now item) (disk before.journal.device) (disk after)
       → (disk after).may_leave file

@@ -3,7 +3,7 @@ ghost use Rattle.std.specs.Prelude.{◌≡◌, true, false, [], IfOk, IfErr, OnO
 ghost use Rattle.tb_journal.specs.Ready.{IsReady};
 ghost use Rattle.tb_keep_log.specs.Keeping.{IsUsable};
 ghost use Rattle.tb_keep_log.specs.Items.{KeepsLog};
-ghost use Rattle.tb_keep_log.specs.private.Steps.{TakesFrom, MissesFrom, TellsBytes, AnswersStanding, Puts, PutsAndTells, EntersEntryOn, NextOn, ServedOn};
+ghost use Rattle.tb_keep_log.specs.private.Steps.{TakesFrom, MissesFrom, PassesBytesOn, AnswersStanding, Puts, CommitsAndReplies, EntersEntryOn, NextOn, ServedOn};
 
 use crate::entries::serve_entry;
 use crate::faults::KeepLogFault;
@@ -34,8 +34,8 @@ fn take_entry<A: Allocator + Clone, R: Source>(
 }
 
 /// Writes bytes and passes them on.
-fn tell<W: Sink>(writer: &mut W, bytes: &[u8]) -> Result<(), KeepLogFault>
-    ensures { TellsBytes result bytes.now (W.output writer.old) (W.output writer.new) }
+fn write_and_pass_on<W: Sink>(writer: &mut W, bytes: &[u8]) -> Result<(), KeepLogFault>
+    ensures { PassesBytesOn result bytes.now (W.output writer.old) (W.output writer.new) }
 {
     match put_all(writer, bytes) {
         Ok(()) => {
@@ -47,7 +47,7 @@ fn tell<W: Sink>(writer: &mut W, bytes: &[u8]) -> Result<(), KeepLogFault>
 }
 
 /// Answers a question, and passes the answer on.
-fn tell_standing<A: Allocator + Clone, W: Sink>(
+fn answer_question<A: Allocator + Clone, W: Sink>(
     global: Global,
     follower: &Follower<A>,
     writer: &mut W,
@@ -77,7 +77,7 @@ fn put<D: Device>(journal: &mut Journal<D>, bytes: &[u8]) -> Result<(), JournalF
 }
 
 /// Commits the record of an entry, and then sends its answers.
-fn put_and_tell<D: Device, W: Sink>(
+fn commit_and_reply<D: Device, W: Sink>(
     journal: &mut Journal<D>,
     bytes: &[u8],
     held: &[u8],
@@ -86,11 +86,11 @@ fn put_and_tell<D: Device, W: Sink>(
     requires usable { journal.old.usable ≡ true }
     requires none_waits { journal.old.waiting ≡ [] }
     requires ready { D.tells → IsReady D.disk journal.old }
-    ensures { PutsAndTells D.tells D.disk result bytes.now held.now journal.old journal.new
+    ensures { CommitsAndReplies D.tells D.disk result bytes.now held.now journal.old journal.new
         (W.output writer.old) (W.output writer.new) }
 {
     match put(journal, bytes) {
-        Ok(()) => tell(writer, held),
+        Ok(()) => write_and_pass_on(writer, held),
         Err(fault) => Err(KeepLogFault::Journal(fault)),
     }
 }
@@ -111,7 +111,7 @@ fn keep_entry<D: Device, A: Allocator + Clone, R: Source, W: Sink>(
 {
     match take_entry(global, follower, reader) {
         Ok((content, held)) => match record_of(global, rules, follower, &content) {
-            Ok(record) => put_and_tell(journal, &record, &held, writer),
+            Ok(record) => commit_and_reply(journal, &record, &held, writer),
             Err(_) => Err(KeepLogFault::Log(LogFault::NoMemory)),
         },
         Err(fault) => Err(KeepLogFault::Log(fault)),
@@ -141,7 +141,7 @@ fn keep_next<D: Device, A: Allocator + Clone, R: Source, W: Sink>(
             Ok(()) => Ok(true),
             Err(fault) => Err(fault),
         },
-        Ok(Some(2)) => match tell_standing(global, follower, writer) {
+        Ok(Some(2)) => match answer_question(global, follower, writer) {
             Ok(()) => Ok(true),
             Err(fault) => Err(KeepLogFault::Log(fault)),
         },

@@ -1,6 +1,6 @@
 //! What holds of every kept log, over the definitions alone. A call does nothing; its promise is the law.
 ghost use Rattle.tb_keep_log.specs.Dumping.{PairsOfLog};
-ghost use Rattle.tb_keep_log.specs.Laws.{AfterKill, AnyCrash, FollowsFurther, OneLog, OpenedGoesOn, OtherFormat, TellsTheDone, WhileCommitting, WhileTelling};
+ghost use Rattle.tb_keep_log.specs.Laws.{AfterKill, AnyCrash, FollowsFurther, OneLog, OpenedGoesOn, OtherFormat, RepliesToTheDone, WhileCommitting, WhileReplying};
 
 use tb_journal::Device;
 
@@ -30,10 +30,10 @@ pub fn after_kill<D: Device>()
 
 /// Whatever was acknowledged is in the file: while an entry is committed only the answers to earlier ones were sent, and while its answers are sent
 /// each file that a crash leaves has its record.
-pub fn told_is_kept<D: Device>()
+pub fn acknowledged_is_kept<D: Device>()
     ensures committing { WhileCommitting D.tells D.disk }
-    ensures told { TellsTheDone D.tells D.disk }
-    ensures telling { WhileTelling D.tells D.disk }
+    ensures replied { RepliesToTheDone D.tells D.disk }
+    ensures replying { WhileReplying D.tells D.disk }
 {}
 
 /// The dump of a file is that of the pairs of its entries, and of no others.

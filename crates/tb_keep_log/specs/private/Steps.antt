@@ -118,10 +118,10 @@ module _ {R : Type 0} (input : R → Input) where
   MissesFrom F reader rest fault = MissesEntry fault F (input reader) (input rest)
 
 -- bytes were sent, and passed on, or the writer failed and left a prefix of them
-abbrev pub TellsBytes : Result (Unit {0}) KeepLogFault → List ℕ → Output → Output → Type 0
-TellsBytes (Ok done) bytes before after = Sent bytes before after × (after.held ≡ false)
-TellsBytes (Err (keep.Log fault)) bytes before after = (fault ≡ log.Device) × CutOff bytes before after
-TellsBytes (Err fault) bytes before after = ⊥
+abbrev pub PassesBytesOn : Result (Unit {0}) KeepLogFault → List ℕ → Output → Output → Type 0
+PassesBytesOn (Ok done) bytes before after = Sent bytes before after × (after.held ≡ false)
+PassesBytesOn (Err (keep.Log fault)) bytes before after = (fault ≡ log.Device) × CutOff bytes before after
+PassesBytesOn (Err fault) bytes before after = ⊥
 
 -- a question was answered, and the answer passed on
 abbrev pub AnswersStanding : Result (Unit {0}) LogFault → Following → Output → Output → Type 0
@@ -148,11 +148,11 @@ module _ (tells : Type 0) {D : Type 0} (disk : D → Disk) where
   Puts (Err fault) bytes before after = IsUnput fault bytes before after
 
   -- a record was committed, and then its answers were sent
-  abbrev pub PutsAndTells : Result (Unit {0}) KeepLogFault → List ℕ → List ℕ → Kept D → Kept D → Output → Output → Type 0
-  PutsAndTells (Ok done) bytes held before after start written = IsPut (bytes ∷ []) before after × TellsBytes (Ok tt) held start written
-  PutsAndTells (Err (keep.Journal fault)) bytes held before after start written = IsUnput fault bytes before after × (written ≡ start)
-  PutsAndTells (Err (keep.Log fault)) bytes held before after start written =
-      IsPut (bytes ∷ []) before after × TellsBytes (Err (keep.Log fault)) held start written
+  abbrev pub CommitsAndReplies : Result (Unit {0}) KeepLogFault → List ℕ → List ℕ → Kept D → Kept D → Output → Output → Type 0
+  CommitsAndReplies (Ok done) bytes held before after start written = IsPut (bytes ∷ []) before after × PassesBytesOn (Ok tt) held start written
+  CommitsAndReplies (Err (keep.Journal fault)) bytes held before after start written = IsUnput fault bytes before after × (written ≡ start)
+  CommitsAndReplies (Err (keep.Log fault)) bytes held before after start written =
+      IsPut (bytes ∷ []) before after × PassesBytesOn (Err (keep.Log fault)) held start written
 
   module _ (profile : Profile) (clients_max : ℕ) where
     -- an entry was read behind its kind, with its pairs
@@ -167,7 +167,7 @@ module _ (tells : Type 0) {D : Type 0} (disk : D → Disk) where
       pub whole : ReadsWhole pairs F before after
       pub now : G ≡ with_item F (Entry pairs)
       pub put : IsPut (record_of profile clients_max F (Entry pairs)) old new
-      pub told : TellsBytes (Ok tt) (given_to F (Entry pairs)) start written
+      pub told : PassesBytesOn (Ok tt) (given_to F (Entry pairs)) start written
 
     -- or it was refused; or its record was not committed, and nothing was sent; or it was, and the writer failed
     abbrev pub FailsEntry : KeepLogFault → Following → Kept D → Kept D → Input → Input → Output → Output → Type 0
@@ -177,7 +177,7 @@ module _ (tells : Type 0) {D : Type 0} (disk : D → Disk) where
     FailsEntry (keep.Log fault) F old new before after start written =
         (MissesEntry fault F before after × (new ≡ old) × (written ≡ start))
         ⊎ ((pairs : List Pair) × ReadsWhole pairs F before after × IsPut (record_of profile clients_max F (Entry pairs)) old new
-        × TellsBytes (Err (keep.Log fault)) (given_to F (Entry pairs)) start written)
+        × PassesBytesOn (Err (keep.Log fault)) (given_to F (Entry pairs)) start written)
 
     abbrev pub EntersEntry : Result (Unit {0}) KeepLogFault → Following → Following → Kept D → Kept D → Input → Input → Output → Output → Type 0
     EntersEntry (Ok done) F G old new before after start written = KeepsEntry F G old new before after start written
