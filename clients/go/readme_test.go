@@ -5,6 +5,7 @@ import (
 	"os/exec"
 	"path/filepath"
 	"regexp"
+	"strings"
 	"testing"
 	"time"
 
@@ -65,23 +66,45 @@ func waitUntil(t *testing.T, holds func() bool) {
 	}
 }
 
+// TestSharedClientOfTheREADME compiles the lines on a shared client.
+func TestSharedClientOfTheREADME(t *testing.T) {
+	module(t, "package main\n\nimport (\n\t\"context\"\n\n\ttb \"telovamish.org/tbclient\"\n)\n\n"+
+		"func main() {\n\tctx, transfers := context.Background(), []tb.Transfer{}\n\t"+
+		strings.ReplaceAll(strings.TrimSpace(shown(t, "client, err := ")), "\n", "\n\t")+
+		"\n\t_, _ = results, err\n}\n")
+}
+
 // built is the README's program, as a module of its own.
 func built(t *testing.T) string {
+	t.Helper()
+	folder := module(t, shown(t, "package main\n"))
+	inside(t, folder, "go", "build", "-o", "sale", ".")
+	return filepath.Join(folder, "sale")
+}
+
+// shown is the README's block that begins so.
+func shown(t *testing.T, begins string) string {
 	t.Helper()
 	page, err := os.ReadFile("README.md")
 	if err != nil {
 		t.Fatal(err)
 	}
-	shown := regexp.MustCompile("(?s)```go\n(package main\n.*?)```").FindSubmatch(page)
-	if shown == nil {
-		t.Fatal("the README shows no program")
+	block := regexp.MustCompile("(?s)```go\n(" + begins + ".*?)```").FindSubmatch(page)
+	if block == nil {
+		t.Fatal("the README shows no such block: ", begins)
 	}
+	return string(block[1])
+}
+
+// module is the folder of a program that compiles, and has gofmt's layout.
+func module(t *testing.T, program string) string {
+	t.Helper()
 	client, err := os.Getwd()
 	if err != nil {
 		t.Fatal(err)
 	}
 	folder := t.TempDir()
-	if err := os.WriteFile(filepath.Join(folder, "main.go"), shown[1], 0o600); err != nil {
+	if err := os.WriteFile(filepath.Join(folder, "main.go"), []byte(program), 0o600); err != nil {
 		t.Fatal(err)
 	}
 	inside(t, folder, "go", "mod", "init", "sale")
@@ -89,8 +112,7 @@ func built(t *testing.T) string {
 		"-replace", "telovamish.org/tbclient="+client)
 	inside(t, folder, "go", "vet", ".")
 	inside(t, folder, "gofmt", "-l", "-d", ".")
-	inside(t, folder, "go", "build", "-o", "sale", ".")
-	return filepath.Join(folder, "sale")
+	return folder
 }
 
 func inside(t *testing.T, folder string, words ...string) {
