@@ -1,5 +1,5 @@
 //! A storm: the server's thread, the clients' threads, and the lines that report on them.
-ghost use Rattle.std.specs.Prelude.{◌≡◌, ◌<◌, ◌≤◌, ◌+◌, [], None, IfOk};
+ghost use Rattle.std.specs.Prelude.{◌≡◌, ◌<◌, ◌≤◌, ◌+◌, [], None, length, IfOk};
 ghost use mathlib.Core.List.{IsPrefix};
 ghost use Rattle.tb_records.specs.Transport.{risen};
 ghost use Rattle.tb_commands.specs.ExitStatuses.{PrintsLine};
@@ -79,6 +79,23 @@ fn credited<J: Naming>(seat: &mut Seat<J>) -> Result<u128, StormFault>
     Ok(first_credits(accounts.as_slice()))
 }
 
+/// How many entries the history has, if that is as many as a seat has seen. NoCopy if the copies do not show all of them.
+fn commits_seen<J: Naming>(
+    publisher: &Publisher<J>,
+    seat: &Seat<J>,
+    seen: u64,
+) -> Result<usize, StormFault>
+    ensures history { IfOk result (λ _. IsPrefix seat.now publisher.now.history) }
+    ensures commits { IfOk result (λ commits. commits ≡ length publisher.now.history) }
+    ensures whole { IfOk result (λ commits. seen ≡ commits) }
+{
+    let commits = publisher.history().len();
+    if !publisher.beside(seat) || seen != commits as u64 {
+        return Err(StormFault::NoCopy);
+    }
+    Ok(commits)
+}
+
 /// What the first client's seat finds once it has learnt all. NoCopy where the copies do not show the whole history.
 #[tactic(auto, using(crate::proofs::SeatAnswers::totaled, crate::proofs::SeatAnswers::learnt))]
 fn totals_of<J: Naming>(
@@ -100,10 +117,7 @@ fn totals_of<J: Naming>(
     drop(ids);
     let (seen, transfers) = found?;
     let credited = credited(seat)?;
-    let commits = publisher.history().len();
-    if !publisher.beside(seat) || seen != commits as u64 {
-        return Err(StormFault::NoCopy);
-    }
+    let commits = commits_seen(publisher, seat, seen)?;
     Ok(Totals {
         commits,
         transfers,
