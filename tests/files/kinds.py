@@ -1,6 +1,7 @@
 """Files of each kind before `tbd`: a small ledger by docs/use/TBD.md and FORMATS.md, the same torn
 or damaged, and files that are none. None of them was written by a program."""
 
+import struct
 import subprocess
 
 from frames import dump_entry, dump_head, ids, pair, reply
@@ -25,6 +26,12 @@ def block(record):
     """A record behind its latch, its length and its checksum."""
     checked = len(record).to_bytes(3, "little") + record
     return OPENED + checked[:3] + crc32c(checked).to_bytes(4, "little") + record
+
+
+def item(position, content):
+    """An entry of a log."""
+    numbers = struct.pack("<QI", position, len(content))
+    return b"\1" + numbers + struct.pack("<I", crc32c(numbers + content)) + content
 
 
 def changed(data, at):

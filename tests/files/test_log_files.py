@@ -15,6 +15,7 @@ import pytest
 from tb_client import HEADER, Account, Operation, Transfer, reply_length, request_frame
 from tb_host.checksums import crc32c
 
+from .kinds import item
 from .test_damage import CHECKSUM, LATCH, LENGTH, MAGIC
 
 OPEN, CLOSED = b"\xff" * 4, bytes([90, 195, 150, 105])
@@ -53,12 +54,6 @@ def contents():
 def commits(entries):
     """How many requests of the first entries are executed: no request twice."""
     return 2 * entries
-
-
-def item(position, pairs):
-    """An entry as it is written to a follower."""
-    numbers = struct.pack("<QI", position, len(pairs))
-    return b"\1" + numbers + struct.pack("<I", crc32c(numbers + pairs)) + pairs
 
 
 def block(record):

@@ -5,14 +5,12 @@ tb_follow's own run: an entry, a question, an entry, an entry, a question.
 """
 
 import os
-import struct
 
 import pytest
-from tb_host.checksums import crc32c
 
 from ..conftest import ROOT
 from . import kinds
-from .kinds import FILES, ran
+from .kinds import FILES, item, ran
 
 pytestmark = pytest.mark.quick
 FOLDER = ROOT / "crates/tb_follow"
@@ -113,12 +111,6 @@ def test_a_log_without_entries(tbd, tmp_path):
     assert ran(tbd, tmp_path, FOLLOW) == (0, b"", MADE + at(0))
     assert ran(tbd, tmp_path, ["run", "ledger", "2"]) == (0, b"", "")
     assert ran(tbd, tmp_path, FOLLOW) == (PLAIN[0], b"", PLAIN[1])
-
-
-def item(position, content):
-    """An entry of a log."""
-    numbers = struct.pack("<QI", position, len(content))
-    return b"\1" + numbers + struct.pack("<I", crc32c(numbers + content)) + content
 
 
 ONE = LOG[17:385]  # what the first entry holds
