@@ -12,7 +12,7 @@ ghost use Rattle.tb_keep.specs.private.Taking.{IsNotTaken};
 
 use crate::creating::torn_behind;
 use crate::faults::{DumpFault, SalvageFault, StartFault};
-use crate::recovering::{Rules, replay_behind_head, read_head, read_record};
+use crate::recovering::{Rules, read_head, read_record, replay_behind_head};
 use crate::rounds::BATCH_BYTES_MAX;
 use std::alloc::Global;
 use tb_journal::{Device, Extent, OpenFault, Scan};

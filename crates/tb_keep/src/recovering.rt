@@ -78,7 +78,11 @@ pub(crate) fn read_record<D: Device>(scan: &mut Scan, device: &mut D) -> Result<
 }
 
 /// Reads the head of a file of which nothing was read, and answers whether there is one.
-fn read_head_record<D: Device>(scan: &mut Scan, device: &mut D, rules: Rules) -> Result<bool, StartFault>
+fn read_head_record<D: Device>(
+    scan: &mut Scan,
+    device: &mut D,
+    rules: Rules,
+) -> Result<bool, StartFault>
     ensures head { OfBehind (D.holds device.old) [] scan.old (ReadsHead result rules scan.new) }
     ensures same { (file : List ℕ) → D.holds device.old file → D.holds device.new file }
     ensures stays { D.tells → StaysKept (D.disk device.old) (D.disk device.new) }

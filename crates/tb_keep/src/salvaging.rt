@@ -14,7 +14,7 @@ use crate::creating::{create, torn_behind};
 use crate::dumps::first_rules;
 use crate::faults::{SalvageFault, StartFault};
 use crate::keepers::Keeper;
-use crate::recovering::{Rules, read_record, enter_record};
+use crate::recovering::{Rules, enter_record, read_record};
 use crate::rounds::{BATCH_BYTES_MAX, BLOCK_BYTES_MAX};
 use std::alloc::Global;
 use tb_journal::{Device, Extent, Journal, JournalFault, OpenFault, Scan};

@@ -17,7 +17,9 @@ use crate::faults::LogStartFault;
 use crate::keepers::LogKeeper;
 use crate::rereading::read_log;
 use std::alloc::{Allocator, Global};
-use tb_journal::{Device, Extent, Journal, JournalFault, NotOpened, OpenFault, create, finds_blank};
+use tb_journal::{
+    Device, Extent, Journal, JournalFault, NotOpened, OpenFault, create, finds_blank,
+};
 use tb_keep::Rules;
 use tb_log::Follower;
 
@@ -151,7 +153,9 @@ impl<D: Device, A: Allocator + Copy> LogKeeper<D, A> {
         let mut device = device;
         let same = rules;
         match read_log(global, alloc, same, &mut device) {
-            Ok((follower, extent)) => open_unless_torn_long(global, device, rules, extent, follower),
+            Ok((follower, extent)) => open_unless_torn_long(
+                global, device, rules, extent, follower,
+            ),
             Err(fault) => Err(NotStarted { device, fault }),
         }
     }
