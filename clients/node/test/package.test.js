@@ -153,3 +153,17 @@ test("the README's program, a kill amid a sale, and one in doubt that is refused
     process.kill();
   }
 });
+
+test("the README's lines on a client that callers share", { skip: needs }, async () => {
+  const readme = readFileSync(path.join(TOP, "README.md"), "utf8");
+  const [, shared] = /```js\n(import { createClient[^]*?)```/.exec(readme);
+  const text = `${shared}console.log(Array.isArray(errors));\n`;
+  writeFileSync(path.join(folder, "shared.mjs"), text.replace('"3001"', '"./real.sock"'));
+  const process = await listener();
+  try {
+    assert.equal(run("node", ["shared.mjs"], folder), "true\n");
+  } finally {
+    process.removeAllListeners("exit");
+    process.kill();
+  }
+});

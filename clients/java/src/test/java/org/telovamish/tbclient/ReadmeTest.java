@@ -23,8 +23,6 @@ import org.junit.rules.TemporaryFolder;
 /** The program of README.md, as it stands there, over a listener and its server. */
 public class ReadmeTest {
     private static final Path TOP = Path.of("../..").toAbsolutePath().normalize();
-    private static final Pattern BLOCK =
-            Pattern.compile("```java\n(import .*?)```", Pattern.DOTALL);
     private static final int SESSIONS = 8;
     private static final int[] KILLS = {150, 350, 250}; // ms after the file is there
 
@@ -38,20 +36,26 @@ public class ReadmeTest {
         }
     }
 
-    private String compiled() throws IOException, InterruptedException {
-        Matcher block = BLOCK.matcher(Files.readString(Path.of("README.md")));
-        assertTrue("README.md has a program", block.find());
-        Path source = folder.getRoot().toPath().resolve("Sale.java");
-        Files.writeString(source, block.group(1));
+    /** The class path of a class that is compiled next to the client. */
+    private String compiled(String name, String text) throws IOException, InterruptedException {
+        Files.writeString(folder.getRoot().toPath().resolve(name), text);
         URL place = Session.class.getProtectionDomain().getCodeSource().getLocation();
         String client = new File(place.getPath()).getAbsolutePath();
-        Process javac =
-                new ProcessBuilder("javac", "-Xlint:all", "-Werror", "-cp", client, "Sale.java")
-                        .directory(folder.getRoot())
-                        .inheritIO()
-                        .start();
+        Process javac = new ProcessBuilder("javac", "-Xlint:all", "-Werror", "-cp", client, name)
+                                .directory(folder.getRoot())
+                                .inheritIO()
+                                .start();
         assertEquals("javac", 0, javac.waitFor());
         return client + ":.";
+    }
+
+    /** The README's block that begins so. */
+    private static String shown(String begins) throws IOException {
+        Pattern block =
+                Pattern.compile("```java\n(" + Pattern.quote(begins) + ".*?)```", Pattern.DOTALL);
+        Matcher found = block.matcher(Files.readString(Path.of("README.md")));
+        assertTrue("README.md has a block: " + begins, found.find());
+        return found.group(1);
     }
 
     private Process listener() throws IOException {
@@ -106,10 +110,17 @@ public class ReadmeTest {
         }
     }
 
+    @Test
+    public void theLinesOnASharedClientCompile() throws Exception {
+        compiled("Shared.java",
+                "import org.telovamish.tbclient.*;\nclass Shared {\n    void shared() {\n"
+                        + shown("try (Client client") + "    }\n}\n");
+    }
+
     @Test(timeout = 120_000)
     public void theProgramMovesMoneyOnceAmidKills() throws Exception {
         assumeTrue("python3 is not there", isPythonThere());
-        String path = compiled();
+        String path = compiled("Sale.java", shown("import "));
         Process listener = listener();
         try {
             for (int kill : KILLS) {
