@@ -23,8 +23,6 @@ from .frames import (
 
 SALE = [transfer(11)]
 ASKED = frame_of(1, TRANSFERS, SALE)
-DONE = empty(1, TRANSFERS)
-OK = {"ok": {"results": []}}
 
 
 def groups():

@@ -130,7 +130,6 @@ NOT_SENT = {
     "either": [error("Cancelled", sent=None), error("Cancelled", sent=False)],
 }
 FIRST = begin("a", TRANSFERS, one(11), [*opened(), asked(1, TRANSFERS, one(11))])
-FIRST_REPLY = server(says([]))
 
 
 # Scenarios
