@@ -1,6 +1,6 @@
 //! The steps of a machine: what a request does to the ledger, what its reply says, and the row that keeps both.
 ghost use Rattle.std.specs.Prelude.{◌≡◌, ◌+◌, ◌≤◌, max, OnOk, OnErr, ◌<◌, MatchResult, IsTrue, None, Some};
-ghost use Rattle.tb_records.specs.Messages.{count, item_count, items_max, operation, IsRight, IsLawful};
+ghost use Rattle.tb_records.specs.Messages.{count, item_count, items_max, operation, IsRight};
 ghost use Rattle.tb_records.specs.ReplyFrames.{reply_bytes, IsReply};
 ghost use Rattle.tb_ledger.specs.Verdicts.{max_time};
 ghost use Rattle.tb_machine.specs.Histories.{executed, reply_with, session_of, step, fits};
