@@ -179,7 +179,8 @@ RECORD = len(kinds.MAGIC) + 11, 79 + len(ONE)
 
 
 def damaged(why):
-    return 6, f"tbd: Damaged: ledger: {why}; tbd follow makes a new file of the log\n"
+    next_step = "tbd salvage makes a new file of the entries before it"
+    return 6, f"tbd: Damaged: ledger: {why}; {next_step}\n"
 
 
 NONE = "the record behind position 0 is that of no entry"

@@ -110,8 +110,8 @@ item_line (log.BadEntry at fault) = place_line (codes "tbd: BadEntry at ") at (f
 item_line fault = text_line (codes "tbd: ") (logs.fault_name fault)
 
 -- the lines of what is damaged in a file of this path
-abbrev pub again : List ℕ
-again = codes "; tbd follow makes a new file of the log"
+abbrev pub next_step : List ℕ
+next_step = codes "; tbd salvage makes a new file of the entries before it"
 
 abbrev pub damage_in : KeepCommandFault → Option Damage
 damage_in (Damaged damage) = Some damage
@@ -119,14 +119,14 @@ damage_in fault = None
 
 abbrev pub kept_by : Option Damage → KeepCommandFault → List ℕ → List ℕ
 kept_by None fault path = fault_line fault path
-kept_by (Some damage) fault path = damage_line damage path again
+kept_by (Some damage) fault path = damage_line damage path next_step
 
 abbrev pub kept_line : KeepCommandFault → List ℕ → List ℕ
 kept_line fault path = kept_by (damage_in fault) fault path
 
 abbrev pub damaged_entry_line : List ℕ → List ℕ → ℕ → List ℕ → List ℕ → List ℕ
 damaged_entry_line path before number after name =
-    line_of (named (codes "tbd: Damaged: ") path before ++ (counted number after ++ (name ++ again)))
+    line_of (named (codes "tbd: Damaged: ") path before ++ (counted number after ++ (name ++ next_step)))
 
 abbrev pub no_entry_line : ℕ → List ℕ → List ℕ
 no_entry_line last path = damaged_entry_line path (codes ": the record behind position ") last (codes " is that of no entry") []
@@ -174,7 +174,7 @@ line_of_a_gap = refl
 
 pub line_of_no_entry :
     follow_line (NoEntry 2) (codes "log")
-    ≡ codes "tbd: Damaged: log: the record behind position 2 is that of no entry; tbd follow makes a new file of the log\n"
+    ≡ codes "tbd: Damaged: log: the record behind position 2 is that of no entry; tbd salvage makes a new file of the entries before it\n"
 unfolding digits printable chars lib.Utf8.encode
 line_of_no_entry = refl
 

@@ -54,7 +54,7 @@ const PLAIN: &str = " is a ledger without positions; tbd run serves it";
 const OTHER: &str = " was made with another profile or number of clients";
 
 /// What is to be done about damage.
-const AGAIN: &str = "; tbd follow makes a new file of the log";
+const NEXT_STEP: &str = "; tbd salvage makes a new file of the entries before it";
 
 /// What is damaged, if that is the fault.
 fn damage_in(fault: KeepCommandFault) -> Option<Damage>
@@ -71,7 +71,7 @@ fn print_kept<E: Sink>(fault: KeepCommandFault, path: &str, faults: &mut E)
     ensures { SaysLine (kept_line fault path.now) (E.output faults.old) (E.output faults.new) }
 {
     match damage_in(fault) {
-        Some(damage) => print_damage(damage, path, AGAIN, faults),
+        Some(damage) => print_damage(damage, path, NEXT_STEP, faults),
         None => tb_keep_commands::print_fault(fault, path, faults),
     }
 }
@@ -86,7 +86,7 @@ fn print_no_entry<E: Sink>(last: u64, path: &str, faults: &mut E)
         after: " is that of no entry",
         name: "",
     };
-    print_wrong(&wrong, path, AGAIN, faults);
+    print_wrong(&wrong, path, NEXT_STEP, faults);
 }
 
 /// Reports that the entry of a record may not come next, and why.
@@ -99,7 +99,7 @@ fn print_entry<E: Sink>(fault: LogFault, path: &str, faults: &mut E)
         after: " may not come next: ",
         name: fault.name(),
     };
-    print_wrong(&wrong, path, AGAIN, faults);
+    print_wrong(&wrong, path, NEXT_STEP, faults);
 }
 
 /// Reports that the record of the entry at this position has another position or other hashes than the entry leaves.
@@ -112,7 +112,7 @@ fn print_hashes<E: Sink>(position: u64, path: &str, faults: &mut E)
         after: " has another position or other hashes than it leaves",
         name: "",
     };
-    print_wrong(&wrong, path, AGAIN, faults);
+    print_wrong(&wrong, path, NEXT_STEP, faults);
 }
 
 /// Reports a fault over a log of this path, in one line.
