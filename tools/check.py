@@ -103,6 +103,8 @@ PARTS = [
     *(Part(f"types of {it}", it, ["mypy"], by_status) for it in PACKAGES),
     Part("types of callers of the clients", "clients/python", TYPES, by_status),
     *(Part(f"format of {it}", ".", [*FORMATS, it], by_status) for it in LANGUAGES),
+    Part("texts of edits", ".", ["tools/edits.py", "--texts"], closing_line),
+    Part("texts of mutants", ".", ["tools/mutants.py", "--texts"], closing_line),
     Part("quick tests", ".", [*PYTEST, "-n", "4", "-m", "quick", "tests"], pytest_counts),
     Part("packages", ".", [*PYTEST, "-n", "2", "-m", "quick", "packaging/tests"], pytest_counts),
     Part("telovamish", "apps/telovamish", [*PYTEST, *WORDS], pytest_counts),
