@@ -3,7 +3,7 @@
 that one is built on directly. Crates under the headings of tools and tests are left out."""
 import pathlib
 
-PROGRAMS = {"tb_script", "tbs", "tbd", "tb_follow", "tb_embed"}
+PROGRAMS = {"tb_script", "tbs", "tbd", "tb_embed"}
 
 
 def product() -> dict[str, set[str]]:

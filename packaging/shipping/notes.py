@@ -7,7 +7,7 @@ from .programs import Record
 
 PACKAGES = """| Package | For |
 |---|---|
-| `telovamish_{0}_amd64.deb` | the proved programs: `tbs`, `tb_script`, `tbd`, `tb_follow` |
+| `telovamish_{0}_amd64.deb` | the proved programs: `tbs`, `tb_script`, `tbd` |
 | `telovamish-tools_{0}_all.deb` | `telovamish`: statements, a terminal, audits |
 | `telovamish-server_{0}_all.deb` | `tb-listen`, `tb-replica`, their units |
 | `telovamish-books_{0}_all.deb` | `tb-sql`: SQL and pages |

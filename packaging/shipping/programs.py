@@ -10,7 +10,7 @@ from pathlib import Path
 from .running import Failed, run
 from .table import ROOT
 
-PROGRAMS = ("tbs", "tb_script", "tbd", "tb_follow")
+PROGRAMS = ("tbs", "tb_script", "tbd")
 LIBRARY = "libtb_embed.a"
 
 

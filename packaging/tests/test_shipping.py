@@ -15,7 +15,7 @@ from shipping.table import ROOT
 from trying import watching
 
 PROGRAMS = table.whole()
-SUMS = {it: "0" * 64 for it in ("tbs", "tb_script", "tbd", "tb_follow", "libtb_embed.a")}
+SUMS = {it: "0" * 64 for it in ("tbs", "tb_script", "tbd", "libtb_embed.a")}
 RECORD = Record("0.1.0", "c" * 40, "2026-11-29T00:00:00Z", "kit", "left by rt ci", True, SUMS)
 pytestmark = pytest.mark.quick
 
@@ -49,7 +49,7 @@ def test_a_rewritten_copy_has_one_version(tmp_path: Path) -> None:
 
 def test_forms_of_tbd_are_those_of_its_usage() -> None:
     usage = (ROOT / "crates/tb_keep_commands/src/help.rt").read_text()
-    shown = set(re.findall(r"^  ([a-z]+) FILE", usage, re.M))
+    shown = set(re.findall(r"^  ([a-z-]+) (?:FILE|CLIENTS_MAX)", usage, re.M))
     assert {it.name() for it in PROGRAMS["tbd"].forms} == shown
     flags = set(re.findall(r"(?<![\w-])--[a-z]+(?:-[a-z]+)*", usage))
     assert set(completion.flags(completion.all_options(PROGRAMS["tbd"]))) == flags | {"-h"}
@@ -62,8 +62,8 @@ def definitions(name: str, text: str) -> dict[str, list[str]]:
 
 
 def forms_of_the_table() -> dict[str, set[tuple[str, bool]]]:
-    """The forms of tbd and tb_follow as usage shows them, with each option and whether it has a
-    value: from the definitions that the proofs are about."""
+    """The forms of tbd as usage shows them, with each option and whether it has a value: from the
+    definitions that the proofs are about."""
     text = (ROOT / "crates/tb_cli/specs/Table.antt").read_text()
     shown = {"File": "FILE", "New": "NEW", "ClientsMax": "CLIENTS_MAX", "Profile": "[PROFILE]"}
     words, operands = definitions("form_word", text), definitions("operands_of", text)
@@ -74,12 +74,12 @@ def forms_of_the_table() -> dict[str, set[tuple[str, bool]]]:
             (flags[it][0], it in with_value) for it in options[form]
         }
         for form, word in words.items()
-        if not word or not word[0].startswith("-")
+        if not word[0].startswith("-")
     }
 
 
-def test_forms_of_tbd_and_tb_follow_are_those_of_the_table() -> None:
-    forms = PROGRAMS["tbd"].forms + PROGRAMS["tb_follow"].forms
+def test_forms_of_tbd_are_those_of_the_table() -> None:
+    forms = PROGRAMS["tbd"].forms
     listed = {it.words: {(o.flags[0], bool(o.value)) for o in it.options} for it in forms}
     assert listed == forms_of_the_table()
 

@@ -153,8 +153,8 @@ class Machines:
         keeps_replies=True,
         sync=0.0,
     ):
-        """`server` is tb_script, tb_follow or tbd, and `sync` by how many seconds each sync of the
-        engine takes longer."""
+        """`server` is tb_script, follow-memory or tbd, and `sync` by how many seconds each sync of
+        the engine takes longer."""
         self.folder, self.count, self.clients_max = folder, count, clients_max
         self.program, self.server, self.sync = program, server, sync
         self.keeps_replies = keeps_replies
@@ -167,7 +167,7 @@ class Machines:
 
     @property
     def follows(self):
-        return self.server == "tb_follow"
+        return self.server == "follow-memory"
 
     @property
     def keeps(self):
@@ -187,10 +187,10 @@ class Machines:
         """The server of a replica, and its words."""
         if self.keeps:
             return [self.keeps, "follow", self.file(at), str(self.clients_max)]
-        program = [str(self.program(self.server))]
+        program = [str(self.program("tbd" if self.follows else self.server))]
         if self.keeps_replies:
             program = ["bash", "-c", KEEPING, "bash", *program, self.out(at)]
-        return [*program, *([] if self.follows else ["run"]), str(self.clients_max)]
+        return [*program, self.server if self.follows else "run", str(self.clients_max)]
 
     def replica_words(self, at, words, more=()):
         given = ["--log", self.log(at), "--copy", self.copy(at), "--name", f"r{at}", *more]

@@ -67,7 +67,7 @@ def test_faults(cluster_of, given, show):
 
 def test_faults_with_positions(cluster_of, given):
     """The server takes entries with their positions."""
-    cluster = cluster_of(server="tb_follow")
+    cluster = cluster_of(server="follow-memory")
     traffic = moving(cluster)
     Faults(cluster, given.seed).some(13)
     agreed(cluster, traffic)

@@ -17,7 +17,7 @@ import pytest
 
 ROOT = Path(__file__).resolve().parent.parent.parent
 SCRIPT = ROOT / "examples/first.script"
-LOG = ROOT / "crates/tb_follow/stdin"
+LOG = ROOT / "examples/first.log"
 TORN = b"\xff" * 5  # no block: a write that a crash cut off
 EMPTY = b"TBJRNL02" + bytes((90, 195, 150, 105))  # a journal without a record
 SECONDS = 60
@@ -31,6 +31,7 @@ FORMS = {
     "run, a torn end": (["run", "torn", "4"], SCRIPT, True),
     "follow, a new file": (["follow", "new", "2"], LOG, True),
     "follow": (["follow", "log", "2"], "question", True),
+    "follow-memory": (["follow-memory", "2"], LOG, True),
     "dump": (["dump", "ledger"], None, True),
     "dump, later entries": (["dump", "ledger", "--after", "1"], None, True),
     "dump, a log": (["dump", "log"], None, True),

@@ -105,42 +105,16 @@ def items_of(rng):
     return [item(place + 1, pairs) for place, pairs in enumerate(contents(ENTRIES, rng))]
 
 
-# Words of `tb_follow` that are wrong, and what is said of them.
-WRONG = [
-    ([], "CLIENTS_MAX is missing, 1 to 64"),
-    (["65"], "CLIENTS_MAX is 1 to 64"),
-    (["8", "3"], "PROFILE is 1 or 2"),
-    (["8", "2", "1"], "too many words"),
-    (["8", "--existing"], "unknown option; those of the program are --help and --version"),
-]
-
-
-@pytest.mark.quick
-def test_words_of_tb_follow(program):
-    """Help and version have status 0; of wrong words the line says what is wrong, with status 2."""
-    followed = program("tb_follow")
-    for words, line in WRONG:
-        status, output, told = tried.ran([followed, *words], b"")
-        line = f"tb_follow: Usage: {line}; tb_follow --help shows how it is called\n"
-        case(f"wrong words: {words}", (status, output, told) == (2, b"", line.encode()), told)
-    status, page, told = tried.ran([followed, "--help"], b"")
-    well = (status, told) == (0, b"") and page.startswith(b"Usage: tb_follow CLIENTS_MAX")
-    case("--help prints the usage", well, (status, page, told))
-    case("-h does too", tried.ran([followed, "8", "-h"], b"") == (0, page, b""))
-    version = tried.ran([followed, "--version"], b"")
-    case("--version prints the version", version == (0, b"tb_follow 0.1.0\n", b""), version)
-
-
 @pytest.mark.slow
-def test_kills(tbd, program, folder, rng, pytestconfig):
+def test_kills(tbd, folder, rng, pytestconfig):
     """One file that is killed and opened again, until it has the whole log."""
-    followed, items = program("tb_follow"), items_of(rng)
+    followed, items = [tbd, "follow-memory", CLIENTS], items_of(rng)
     answers = []  # to the entries, one by one, by a follower without a file
     before = b""
-    _, whole, _ = tried.ran([followed, CLIENTS], b"".join(items))
+    _, whole, _ = tried.ran(followed, b"".join(items))
     for place in range(len(items) + 1):
         given = b"".join(items[:place])
-        _, output, _ = tried.ran([followed, CLIENTS], given + QUESTION)
+        _, output, _ = tried.ran(followed, given + QUESTION)
         answers.append((len(output) - STANDING, output[-STANDING:]))
         case("a follower answers", whole.startswith(output[:-STANDING]))
         before = output

@@ -10,7 +10,7 @@ from pathlib import Path
 import pytest
 
 ROOT = Path(__file__).resolve().parent.parent.parent
-LOG = (ROOT / "crates/tb_follow/stdin").read_bytes()
+LOG = (ROOT / "examples/first.log").read_bytes()
 FIRST = 385  # where the first of its three entries ends
 HEAD, ENTRY = 16, 64  # bytes of a dump's head, and of the first entry of the log's history
 SECONDS = 60

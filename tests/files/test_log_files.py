@@ -1,6 +1,6 @@
 """`tbd check`, `backup` and `salvage` of a log's file, whose bytes the test writes itself: blocks
 and records as docs/use/TBD.md and FORMATS.md have them, the position and hashes behind each entry
-by `tb_follow`, which has no file. What `tbd follow` refuses is refused by the forms that read, with
+by `tbd follow-memory`, which has no file. What `tbd follow` refuses is refused by the forms that read, with
 the same line.
 
     python3 -m pytest -m quick tests/files/test_log_files.py
@@ -82,7 +82,7 @@ class Log:
 
 @pytest.fixture(scope="module", name="log")
 def fixture_log(program):
-    words, pairs = [program("tb_follow"), str(CLIENTS)], list(contents())
+    words, pairs = [program("tbd"), "follow-memory", str(CLIENTS)], list(contents())
     items = [item(place + 1, it) for place, it in enumerate(pairs)]
     records, chain = [], bytes(32)
     for place, it in enumerate(pairs):

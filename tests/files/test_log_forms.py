@@ -1,5 +1,5 @@
-"""The forms of `tbd` over a log: followed, started again, dumped and refused. The log is that of
-tb_follow's own run: an entry, a question, an entry, an entry, a question.
+"""The forms of `tbd` over a log: followed, started again, dumped and refused. The log has an entry, a
+question, an entry, an entry, a question.
 
     python3 -m pytest -m quick tests/files/test_log_forms.py
 """
@@ -13,12 +13,12 @@ from . import kinds
 from .kinds import FILES, item, ran
 
 pytestmark = pytest.mark.quick
-FOLDER = ROOT / "crates/tb_follow"
-LOG, ANSWERS = ((FOLDER / name).read_bytes() for name in ("stdin", "stdout"))
+LOG, ANSWERS = ((ROOT / "examples" / it).read_bytes() for it in ("first.log", "first.answers"))
 # Where the items of the log end, and the position after each.
 ENDS = {0: 0, 385: 1, 386: 1, 587: 2, 860: 3, 861: 3}
 PAIRS = LOG[17:385] + LOG[403:587] + LOG[604:860]
 FOLLOW = ["follow", "ledger", "2"]
+MEMORY = ["follow-memory", "2"]
 MADE = "tbd: made ledger\n"
 PLAIN = 5, "tbd: Plain: ledger is a ledger without positions; tbd run serves it\n"
 NO_HEAD = 5, "tbd: NotAJournal: ledger has no ledger's head; tbd follow serves a log\n"
@@ -152,10 +152,20 @@ def test_items_behind_the_first_that_are_refused(tbd, tmp_path, item, said):
 @pytest.mark.parametrize("item, said", FIRST)
 def test_items_before_any_that_are_refused(tbd, tmp_path, item, said):
     assert ran(tbd, tmp_path, FOLLOW, item) == (2, b"", f"{MADE}{at(0)}tbd: {said}\n")
+    assert ran(tbd, tmp_path, MEMORY, item) == (2, b"", f"tbd: {said}\n")
+
+
+@pytest.mark.parametrize("item, said", BEHIND)
+def test_in_memory_the_items_before_a_fault_are_answered(tbd, tmp_path, item, said):
+    wanted = 2, ANSWERS[:122], f"tbd: {said}\n"
+    assert ran(tbd, tmp_path, MEMORY, LOG[:385] + item) == wanted
+    assert ran(tbd, tmp_path, MEMORY, LOG) == (0, ANSWERS, "")
+    assert os.listdir(tmp_path) == []
 
 
 def test_a_question_before_any_entry(tbd, tmp_path):
     assert ran(tbd, tmp_path, FOLLOW, b"\2") == (0, b"\2" + bytes(72), MADE + at(0))
+    assert ran(tbd, tmp_path, MEMORY, b"\2") == (0, b"\2" + bytes(72), "")
 
 
 def test_a_log_cut_at_each_length(tbd, tmp_path):

@@ -31,7 +31,7 @@ PAIRS = [
 SCRIPT = b"".join(PAIRS)
 REPLIES = [48, 48, 48, 48, 48, 176]  # the bytes of each
 ENTRIES = 4  # that the script makes: the fourth pair is a repeat, the fifth is older
-LOG = (ROOT / "crates/tb_follow/stdin").read_bytes()
+LOG = (ROOT / "examples/first.log").read_bytes()
 # Where an item of the log ends, and how many bytes answer all up to there.
 ITEMS = [(385, 122), (386, 195), (587, 256), (860, 506), (861, 579)]
 
@@ -88,9 +88,9 @@ def test_replies_leave_before_it_waits(tbd, tbs, tmp_path, piece):
 
 @pytest.mark.parametrize("piece", [1, 16, 385, 386, 387, 600, 1000])
 def test_answers_to_a_log_leave_before_it_waits(tbd, tmp_path, piece):
-    words = [tbd, "follow", "ledger", "2"]
-    wanted = (ROOT / "crates/tb_follow/stdout").read_bytes()
-    assert conversed(words, tmp_path, LOG, ITEMS, piece) == wanted
+    wanted = (ROOT / "examples/first.answers").read_bytes()
+    for words in (["follow", "ledger", "2"], ["follow-memory", "2"]):
+        assert conversed([tbd, *words], tmp_path, LOG, ITEMS, piece) == wanted
 
 
 def test_a_repeat_after_a_start_gets_its_first_reply(tbd, tmp_path):

@@ -75,7 +75,8 @@ while head := stdin.read(56):
 """
 COMMAND = [sys.executable, "-SEc", SERVER, "run", "64"]
 
-# The same with entries and their positions, as `tb_follow` takes them. WRONG makes one thing wrong.
+# The same with entries and their positions, as `tbd follow-memory` takes them. WRONG makes one
+# thing wrong.
 FOLLOWER = """
 import hashlib, os, struct, sys
 stdin, stdout, wrong = sys.stdin.buffer, sys.stdout.buffer, os.environ.get("WRONG")
@@ -2908,11 +2909,11 @@ class Words(unittest.TestCase):
     def test_what_replicas_have_in_common(self):
         head = {"format": 3, "rules": 1, "clients_max": 64, "profile": 1}
         self.assertEqual(head_of(["tb_script", "run", "64"]), head)
-        self.assertEqual(head_of(["tb_follow", "64"], True), head)
-        self.assertEqual(head_of(["tb_follow", "64", "1"], True), head)
+        self.assertEqual(head_of(["tbd", "follow-memory", "64"], True), head)
+        self.assertEqual(head_of(["tbd", "follow-memory", "64", "1"], True), head)
         self.assertEqual(head_of(["tbd", "follow", "a.tbl", "64", "1"]), head)
         self.assertEqual(head_of(["tbd", "follow", "a.tbl", "64"], True), head)
-        for wrong in (["64"], ["tb_follow", "run"], ["a", "x", "1", "2", "x"]):
+        for wrong in (["64"], ["tbd", "follow-memory"], ["a", "x", "1", "2", "x"]):
             with self.assertRaises(ValueError):
                 head_of(wrong, True)
         self.assertEqual(

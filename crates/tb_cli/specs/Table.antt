@@ -14,7 +14,7 @@ form_word form.Follow = codes "follow"
 form_word form.Check = codes "check"
 form_word form.Salvage = codes "salvage"
 form_word form.Backup = codes "backup"
-form_word form.Memory = []
+form_word form.Memory = codes "follow-memory"
 form_word form.Help = codes "--help"
 form_word form.Version = codes "--version"
 

@@ -140,16 +140,6 @@ asked_of forms words =
     if length words == 0 then Err (record { shown = 0; fault = fault.NoForm })
     else asked_by (form_named forms (word_at words 0)) (drop 1 words)
 
-abbrev pub is_version : List ℕ → Bool
-is_version word = pointwise nat_eq word (codes "--version")
-
--- what words ask for of a program with one form, whose operands are the first words
-abbrev pub asked_alone : FormName → List (List ℕ) → Result Asked Wrong
-asked_alone name words =
-    if list_any is_help words then Ok (Help name)
-    else if list_any is_version words then Ok (Form form.Version nothing)
-    else form_given name (reads name start 0 words)
-
 -- what a line shows of a fault
 -- no FILE is given, and nothing behind it
 abbrev pub file_text : FormName → List ℕ
@@ -176,7 +166,7 @@ option_text form.Run = codes "unknown option; those of run are --existing, --pro
 option_text form.Dump = codes "unknown option; those of dump are --after COMMIT and --follow"
 option_text form.Follow = codes "unknown option; those of follow are --existing and --drop-torn"
 option_text form.Check = codes "unknown option; that of check is --quick"
-option_text form.Memory = codes "unknown option; those of the program are --help and --version"
+option_text form.Memory = codes "unknown option; follow-memory has none"
 option_text name = codes "unknown option; write ./NAME for a file of that name"
 
 abbrev pub fault_text : Fault → List ℕ
@@ -233,11 +223,16 @@ help_of_a_form = refl
 pub help_of_the_program : asked_of two_forms (codes "-h" ∷ []) ≡ Ok (Form form.Help nothing)
 help_of_the_program = refl
 
-pub a_program_of_one_form : asked_alone form.Memory (codes "64" ∷ codes "2" ∷ []) ≡ Ok (Form form.Memory (record nothing { clients_max = Some 64; profile = Two }))
-a_program_of_one_form = refl
+pub a_log_is_followed_in_memory : asked_of (form.Memory ∷ []) (codes "follow-memory" ∷ codes "64" ∷ codes "2" ∷ [])
+    ≡ Ok (Form form.Memory (record nothing { clients_max = Some 64; profile = Two }))
+a_log_is_followed_in_memory = refl
 
-pub help_of_a_program_of_one_form : asked_alone form.Memory (codes "64" ∷ codes "--help" ∷ []) ≡ Ok (Help form.Memory)
-help_of_a_program_of_one_form = refl
+pub help_of_a_form_without_a_file : asked_of (form.Memory ∷ []) (codes "follow-memory" ∷ codes "64" ∷ codes "--help" ∷ []) ≡ Ok (Help form.Memory)
+help_of_a_form_without_a_file = refl
+
+pub a_form_without_options : asked_of (form.Memory ∷ []) (codes "follow-memory" ∷ codes "64" ∷ codes "--existing" ∷ [])
+    ≡ Err (record { shown = 3; fault = fault.NoOption form.Memory })
+a_form_without_options = refl
 
 pub no_form_of_the_program : asked_of two_forms (codes "check" ∷ codes "ledger" ∷ []) ≡ Err (record { shown = 1; fault = fault.NoForm })
 no_form_of_the_program = refl

@@ -61,9 +61,7 @@ impl Fault {
                 "unknown option; those of follow are --existing and --drop-torn"
             }
             Fault::NoOption(FormName::Check) => "unknown option; that of check is --quick",
-            Fault::NoOption(FormName::Memory) => {
-                "unknown option; those of the program are --help and --version"
-            }
+            Fault::NoOption(FormName::Memory) => "unknown option; follow-memory has none",
             Fault::NoOption(_) => "unknown option; write ./NAME for a file of that name",
             Fault::Twice => "an option is given once",
             Fault::Wrong(Operand::File) => "FILE is a number; write ./FILE",

@@ -6,7 +6,7 @@
 //! - `table`: the words, operands and options of each form.
 //! - `given`: what the words of a form give.
 //! - `faults`: what is wrong with words that no form takes.
-//! - `reading`: `read`, from words to a form and what is given for it; `read_alone` in a program of one form.
+//! - `reading`: `read`, from words to a form and what is given for it.
 //!
 //! specs/Table is the table, specs/Words which words a form takes, and what is wrong with all others.
 #![tactic(auto)]
@@ -18,5 +18,5 @@ mod table;
 
 pub use faults::{Fault, Wrong};
 pub use given::{Given, NOTHING};
-pub use reading::{Asked, given_word, read, read_alone};
+pub use reading::{Asked, given_word, read};
 pub use table::{FormName, Operand, OptionName};

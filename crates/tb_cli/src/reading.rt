@@ -4,7 +4,7 @@ ghost use Rattle.std.specs.Cmp.Lexicographic.{pointwise};
 ghost use Rattle.std.specs.List.{list_any};
 ghost use Rattle.std.specs.Option.{option_copied};
 ghost use Rattle.tb_cli.specs.Table.{operands_of, option_word, options_of};
-ghost use Rattle.tb_cli.specs.Words.{asked_alone, asked_by, asked_of, at_end, form_given, form_named, given_word, is_help, is_version, is_option, operand_next, option_named, reads, start, value_read, whole_word, with_value, with_word, word_at};
+ghost use Rattle.tb_cli.specs.Words.{asked_by, asked_of, at_end, form_given, form_named, given_word, is_help, is_option, operand_next, option_named, reads, start, value_read, whole_word, with_value, with_word, word_at};
 
 use crate::faults::{Fault, Wrong};
 use crate::given::{Given, NOTHING, with_operand, with_option, with_value};
@@ -174,18 +174,6 @@ fn asks_help(words: &[String]) -> bool
     false
 }
 
-/// Says that one of the words asks for the program's version.
-fn asks_version(words: &[String]) -> bool
-    ensures { result ≡ list_any is_version (map string_bytes words.now) }
-{
-    for word in words {
-        if word.as_str() == "--version" {
-            return true;
-        }
-    }
-    false
-}
-
 /// A form with what is given for it.
 fn with_form(form: FormName, given: Result<Given, Wrong>) -> Result<Asked, Wrong>
     ensures { result ≡ form_given form given }
@@ -194,19 +182,6 @@ fn with_form(form: FormName, given: Result<Given, Wrong>) -> Result<Asked, Wrong
         Ok(given) => Ok(Asked::Form(form, given)),
         Err(wrong) => Err(wrong),
     }
-}
-
-/// What the words ask for of a program with one form, whose operands are the first words; or which of them is wrong, and how.
-pub fn read_alone(form: FormName, words: &[String]) -> Result<Asked, Wrong>
-    ensures { result ≡ asked_alone form (map string_bytes words.now) }
-{
-    if asks_help(words) {
-        return Ok(Asked::Help(form));
-    }
-    if asks_version(words) {
-        return Ok(Asked::Form(FormName::Version, NOTHING));
-    }
-    with_form(form, read_from(form, words, 0))
 }
 
 /// What the words ask for, of which the first one is that of a form.

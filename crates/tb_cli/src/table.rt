@@ -17,7 +17,7 @@ pub enum FormName {
     Salvage,
     /// Copy a whole file into a new one.
     Backup,
-    /// Follow a log in memory. It has no word: its operands are the first words.
+    /// Follow a log, with the ledger in memory.
     Memory,
     /// Print the page of usage.
     Help,
@@ -67,7 +67,7 @@ impl FormName {
             FormName::Check => "check",
             FormName::Salvage => "salvage",
             FormName::Backup => "backup",
-            FormName::Memory => "",
+            FormName::Memory => "follow-memory",
             FormName::Help => "--help",
             FormName::Version => "--version",
         }

@@ -32,6 +32,10 @@ abbrev pub follow_by : Option ℕ → Profile → Options → Option Form
 follow_by None profile options = None
 follow_by (Some clients_max) profile options = Some (form.Follow clients_max profile options)
 
+abbrev pub memory_by : Option ℕ → Profile → Option Form
+memory_by None profile = None
+memory_by (Some clients_max) profile = Some (form.Memory clients_max profile)
+
 -- the form that is asked for, by what is given for it
 abbrev pub form_by : FormName → Given → Option Form
 form_by name.Run given = run_by given.clients_max given.profile (options_of given)
@@ -40,7 +44,7 @@ form_by name.Follow given = follow_by given.clients_max given.profile (options_o
 form_by name.Check given = Some (form.Check given.quick)
 form_by name.Salvage given = Some form.Salvage
 form_by name.Backup given = Some form.Backup
-form_by name.Memory given = None
+form_by name.Memory given = memory_by given.clients_max given.profile
 form_by name.Help given = Some (form.Help name.Help)
 form_by name.Version given = Some form.Version
 
@@ -130,6 +134,10 @@ pub both_options_of_a_log : form_of (codes "follow" ∷ codes "--drop-torn" ∷ 
     ≡ Ok (form.Follow 64 One (record { reports = false; existing = true; drops = true }))
 unfolding asked_in
 both_options_of_a_log = refl
+
+pub a_log_is_followed_in_memory : form_of (codes "follow-memory" ∷ codes "64" ∷ []) ≡ Ok (form.Memory 64 One)
+unfolding asked_in
+a_log_is_followed_in_memory = refl
 
 pub no_start_of_a_log_is_reported : form_of (codes "follow" ∷ codes "log" ∷ codes "64" ∷ codes "--progress" ∷ [])
     ≡ Err (record { shown = 4; fault = fault.NoOption name.Follow })

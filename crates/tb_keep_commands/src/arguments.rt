@@ -24,6 +24,8 @@ pub enum Form {
     Run(ClientsMax, Profile, Options),
     /// Follow a log over a file, which is made where there is none, unless the options say otherwise.
     Follow(ClientsMax, Profile, Options),
+    /// Follow a log, with the ledger in memory.
+    Memory(ClientsMax, Profile),
     /// Write the history of a file as a dump: all of it, or the entries above a commit number, without a head. The flag has more waited
     /// for.
     Dump(Option<u64>, bool),
@@ -54,6 +56,7 @@ pub const FORMS: &[FormName] = &[
     FormName::Run,
     FormName::Dump,
     FormName::Follow,
+    FormName::Memory,
     FormName::Check,
     FormName::Salvage,
     FormName::Backup,
@@ -111,7 +114,7 @@ fn form_by(form: FormName, given: Given) -> Option<Form>
         FormName::Backup => Some(Form::Backup),
         FormName::Help => Some(Form::Help(form)),
         FormName::Version => Some(Form::Version),
-        FormName::Memory => None,
+        FormName::Memory => Some(Form::Memory(given.clients_max?, given.profile)),
     }
 }
 

@@ -30,9 +30,12 @@ macro_rules! page {
                                   log FILE it writes the entries without positions"
 "
   follow FILE CLIENTS_MAX [PROFILE] [--existing] [--drop-torn]
-                                  serves a log of entries with positions as tb_follow does; each
-                                  reply goes out when its entry is on the disk. Its start says
-                                  up to which position FILE has the log"
+                                  serves a log of entries with positions; each reply goes out
+                                  when its entry is on the disk. Its start says up to which
+                                  position FILE has the log"
+"
+  follow-memory CLIENTS_MAX [PROFILE]
+                                  serves such a log from its first entry on, in memory"
 "
   check FILE [--quick]            reads all of FILE and prints what is in it, or the damage. With
                                   --quick only checksums, commit numbers and times are checked,
@@ -54,32 +57,35 @@ served. The exit status is 0 where all is done; else a line of standard error na
 "
         )
     };
-    (@ all $run:literal $dump:literal $follow:literal $check:literal $salvage:literal $backup:literal $end:literal) => {
+    (@ all $run:literal $dump:literal $follow:literal $memory:literal $check:literal $salvage:literal $backup:literal $end:literal) => {
         concat!(
             "Usage: tbd FORM\n\n",
             "Keeps a ledger in a file: what was answered is in the file, whenever the program or the machine ends.\n",
-            $run, $dump, $follow, $check, $salvage, $backup,
+            $run, $dump, $follow, $memory, $check, $salvage, $backup,
             "\n  FORM --help                     prints the lines of one form\n",
             "  --help, -h, --version",
             $end
         )
     };
-    (@ run $run:literal $dump:literal $follow:literal $check:literal $salvage:literal $backup:literal $end:literal) => {
+    (@ run $run:literal $dump:literal $follow:literal $memory:literal $check:literal $salvage:literal $backup:literal $end:literal) => {
         concat!("Usage: tbd FORM\n", $run, $end)
     };
-    (@ dump $run:literal $dump:literal $follow:literal $check:literal $salvage:literal $backup:literal $end:literal) => {
+    (@ dump $run:literal $dump:literal $follow:literal $memory:literal $check:literal $salvage:literal $backup:literal $end:literal) => {
         concat!("Usage: tbd FORM\n", $dump, $end)
     };
-    (@ follow $run:literal $dump:literal $follow:literal $check:literal $salvage:literal $backup:literal $end:literal) => {
+    (@ follow $run:literal $dump:literal $follow:literal $memory:literal $check:literal $salvage:literal $backup:literal $end:literal) => {
         concat!("Usage: tbd FORM\n", $follow, $end)
     };
-    (@ check $run:literal $dump:literal $follow:literal $check:literal $salvage:literal $backup:literal $end:literal) => {
+    (@ memory $run:literal $dump:literal $follow:literal $memory:literal $check:literal $salvage:literal $backup:literal $end:literal) => {
+        concat!("Usage: tbd FORM\n", $memory, $end)
+    };
+    (@ check $run:literal $dump:literal $follow:literal $memory:literal $check:literal $salvage:literal $backup:literal $end:literal) => {
         concat!("Usage: tbd FORM\n", $check, $end)
     };
-    (@ salvage $run:literal $dump:literal $follow:literal $check:literal $salvage:literal $backup:literal $end:literal) => {
+    (@ salvage $run:literal $dump:literal $follow:literal $memory:literal $check:literal $salvage:literal $backup:literal $end:literal) => {
         concat!("Usage: tbd FORM\n", $salvage, $end)
     };
-    (@ backup $run:literal $dump:literal $follow:literal $check:literal $salvage:literal $backup:literal $end:literal) => {
+    (@ backup $run:literal $dump:literal $follow:literal $memory:literal $check:literal $salvage:literal $backup:literal $end:literal) => {
         concat!("Usage: tbd FORM\n", $backup, $end)
     };
 }
@@ -95,6 +101,9 @@ pub const DUMP: &str = page!(dump);
 
 /// The page of `follow`.
 pub const FOLLOW: &str = page!(follow);
+
+/// The page of `follow-memory`.
+pub const MEMORY: &str = page!(memory);
 
 /// The page of `check`.
 pub const CHECK: &str = page!(check);
@@ -116,6 +125,7 @@ pub fn page(form: FormName) -> &'static str
         FormName::Check => CHECK,
         FormName::Salvage => SALVAGE,
         FormName::Backup => BACKUP,
-        FormName::Memory | FormName::Help | FormName::Version => USAGE,
+        FormName::Memory => MEMORY,
+        FormName::Help | FormName::Version => USAGE,
     }
 }

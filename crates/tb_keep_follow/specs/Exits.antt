@@ -21,6 +21,7 @@ use Rattle.tb_keep_follow.specs.Checks.{ChecksOver}
 use Rattle.tb_keep_follow.specs.Copies.{CopiesOver}
 use Rattle.tb_keep_follow.specs.Faults.{command_exit_status, command_line, command_path}
 use Rattle.tb_keep_follow.specs.Heads.{LooksLikeLog}
+use Rattle.tb_keep_follow.specs.Memory.{FollowsMemory}
 use Rattle.tb_keep_follow.specs.Outcomes.{Outcome, FollowsOver, DumpsOver}
 
 -- done, or not to its end
@@ -104,6 +105,8 @@ module _ {O D E : Type 0} (its : KnownFiles O D E) (looks : O → List ℕ → R
   Performs (form.Follow clients_max profile options) ending first last start written quiet told =
       OverLog (λ outcome. FollowsOver its.file (made_by its options.existing before name) (its.opener.reasons left) left outcome (rules_of profile clients_max) name options.existing
       first last start written quiet told) ending
+  Performs (form.Memory clients_max profile) ending first last start written quiet told =
+      (left ≡ before) × (told ≡ quiet) × OverLog (λ outcome. FollowsMemory outcome profile clients_max first last start written) ending
   Performs (form.Dump after follows) ending first last start written quiet told =
       (last ≡ first) × (told ≡ quiet) × DumpsEither its looks before name left after follows ending start written
   Performs (form.Check quick) ending first last start written quiet told =

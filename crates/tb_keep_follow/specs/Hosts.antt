@@ -21,11 +21,14 @@ use Rattle.tb_keep_follow.specs.Exits.{Exits}
 abbrev pub input_size : Form → ℕ
 input_size (form.Run clients_max profile options) = 2 ^ 20
 input_size (form.Follow clients_max profile options) = 2 ^ 20
+input_size (form.Memory clients_max profile) = 2 ^ 20
 input_size asked = 0
 
--- the bytes of output that a form holds at a time: none but of a dump, so that each reply goes out when it is written
+-- the bytes of output that a form holds at a time: none but of a dump, so that each reply goes out when it is written; and of a log in
+-- memory, whose replies go out before more of it is waited for
 abbrev pub output_size : Form → ℕ
 output_size (form.Dump after follows) = 2 ^ 16
+output_size (form.Memory clients_max profile) = 2 ^ 16
 output_size asked = 0
 
 abbrev pub input_of : {R : Type 0} → (R → Option (List ℕ)) → Watched (BufReader R Global) → Input

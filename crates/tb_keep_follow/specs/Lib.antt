@@ -4,6 +4,7 @@ pub mod Exits
 pub mod Faults
 pub mod Heads
 pub mod Hosts
+pub mod Memory
 pub mod Naming
 pub mod Outcomes
 pub mod Parts

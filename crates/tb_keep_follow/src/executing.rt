@@ -8,6 +8,7 @@ use crate::commands::follow_over;
 use crate::faults::CommandFault;
 use crate::heads::Looker;
 use crate::lines::print_fault;
+use crate::memory::follow_memory;
 use std::alloc::Global;
 use tb_keep::Rules;
 use tb_keep_commands::{
@@ -77,6 +78,10 @@ fn perform<O: Looker, R: Source, W: Outlet, E: Sink>(
                 alloc, opener, rules, path, existing, reader, writer, faults,
             );
             over_log(followed)
+        }
+        Form::Memory(clients_max, profile) => {
+            let rules = rules_of(profile, clients_max);
+            over_log(follow_memory(alloc, rules, reader, writer))
         }
         Form::Dump(after, follows) => dump(alloc, opener, path, writer, Part { after, follows }),
         Form::Check(quick) => check(alloc, opener, path, quick, writer),

@@ -57,7 +57,7 @@ pub(crate) fn started_fault(fault: LogStartFault) -> FollowFault
 }
 
 /// The fault of an item that is not served, or of its answer, where this pipe failed if one did.
-fn item_fault(fault: LogFault, pipe: Failed) -> FollowFault
+pub(crate) fn item_fault(fault: LogFault, pipe: Failed) -> FollowFault
     ensures { result ≡ item_fault pipe fault }
 {
     match fault {

@@ -14,12 +14,13 @@
 //! - `copying`: `salvage` and `backup`, a log's file copied into a new one.
 //! - `dumping`: `dump`, a file read to its end and then written as a dump, or a part of it.
 //! - `following`: `follow`, a log kept over a file.
+//! - `memory`: `follow-memory`, a log followed without a file.
 //! - `commands`: each form over a log, over what opens devices.
 //! - `by_file`: the forms that there are over a ledger too.
 //! - `executing`: `execute`, each command, and the exit status of each outcome.
 //! - `host`: `serve`, from a program's input and output to `execute`.
 //!
-//! specs/Heads is whose log a file is, specs/Outcomes, specs/Parts and specs/Checks what each form over a log does, specs/Exits what each
+//! specs/Heads is whose log a file is, specs/Outcomes, specs/Memory, specs/Parts and specs/Checks what each form over a log does, specs/Exits what each
 //! command does and how it ends, specs/Faults the exit status and the line of each fault, specs/Hosts what `serve` does.
 #![tactic(auto)]
 
@@ -34,6 +35,7 @@ mod following;
 mod heads;
 mod host;
 mod lines;
+mod memory;
 mod naming;
 mod parts;
 

@@ -21,7 +21,7 @@ from .pipes import Outgoing, Process
 from .process import ServerProcess, kill
 from .taken import KEPT, Item, Taken
 
-# what is written to `tb_follow`, and what it writes
+# what is written to `tbd follow-memory`, and what it writes
 ENTRY, QUESTION = b"\1", b"\2"
 NUMBERS, REPLIED = struct.Struct("<QI"), struct.Struct("<QI")
 HASHES = struct.Struct("<Q32s32s")
@@ -257,9 +257,9 @@ class Follower(ServerProcess):
 
 
 class PositionFollower(Follower):
-    """A server process that takes entries with their positions, as `tb_follow` does. It refuses a
-    gap, a repeat and a damaged entry, writes each reply with its place in the log, and answers with
-    the hashes of the log and of the replies behind each entry."""
+    """A server process that takes entries with their positions, as `tbd follow-memory` does. It
+    refuses a gap, a repeat and a damaged entry, writes each reply with its place in the log, and
+    answers with the hashes of the log and of the replies behind each entry."""
 
     def parts(self, position: int, pairs: bytes) -> Sequence[bytes]:
         numbers = NUMBERS.pack(position, len(pairs))

@@ -219,7 +219,7 @@ def _run_words(given: Sequence[str]) -> argparse.Namespace:
     parser.add_argument(
         "--positions",
         action="store_true",
-        help="COMMAND takes entries with their positions, as tb_follow 64 does",
+        help="COMMAND takes entries with their positions, as tbd follow-memory 64 does",
     )
     add_command(parser)
     found = parser.parse_args(given)

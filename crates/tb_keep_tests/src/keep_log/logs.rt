@@ -1,4 +1,4 @@
-//! A log, what it is answered, and what keeps it. The log is the one that `tb_follow` is run on, its checksums by Python.
+//! A log, what it is answered, and what keeps it. The log is examples/first.log, its checksums by Python.
 ghost use Rattle.std.specs.Prelude.{◌≡◌, true, Ok};
 ghost use Rattle.tb_journal.specs.Memory.{memory_disk};
 ghost use Rattle.tb_journal.specs.Ready.{IsReady};

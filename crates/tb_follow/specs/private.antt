@@ -1,2 +1,0 @@
--- what private contracts alone cite
-pub mod ExitStatuses

@@ -1,0 +1,52 @@
+//! A log followed with the ledger in memory.
+ghost use Rattle.std.specs.Prelude.{◌≡◌};
+ghost use Rattle.tb_keep_follow.specs.Memory.{FollowsMemory, SendsReplies, memory_outcome};
+
+use crate::faults::{FollowFault, item_fault};
+use std::alloc::Global;
+use tb_keep::Rules;
+use tb_keep_commands::{Failed, KeepCommandFault, Outlet, failed_pipe};
+use tb_log::{LogFault, follow};
+use tb_records::{Sink, Source};
+
+/// How a log ended, where this pipe failed if one did.
+fn memory_outcome(followed: Result<u64, LogFault>, pipe: Failed) -> Result<(), FollowFault>
+    ensures { result ≡ memory_outcome pipe followed }
+{
+    match followed {
+        Ok(_) => Ok(()),
+        Err(fault) => Err(item_fault(fault, pipe)),
+    }
+}
+
+/// Sends the replies before a fault, which are held back. Where they do not go out, that is the fault.
+fn send_replies<W: Outlet>(
+    followed: Result<(), FollowFault>,
+    writer: &mut W,
+) -> Result<(), FollowFault>
+    ensures { SendsReplies followed result (W.output writer.old) (W.output writer.new) }
+{
+    match followed {
+        Ok(()) => Ok(()),
+        Err(fault) => match writer.finish() {
+            Ok(()) => Err(fault),
+            Err(_) => Err(FollowFault::Kept(KeepCommandFault::Device(Failed::Output))),
+        },
+    }
+}
+
+/// Follows a log from its first entry on, until it ends.
+pub(crate) fn follow_memory<R: Source, W: Outlet>(
+    alloc: Global,
+    rules: Rules,
+    reader: &mut R,
+    writer: &mut W,
+) -> Result<(), FollowFault>
+    ensures { FollowsMemory result rules.profile rules.clients_max (R.input reader.old) (R.input reader.new)
+        (W.output writer.old) (W.output writer.new) }
+{
+    let failures = reader.failures();
+    let followed = follow(alloc, rules.profile, rules.clients_max, reader, writer);
+    let pipe = failed_pipe(failures, reader.failures());
+    send_replies(memory_outcome(followed, pipe), writer)
+}
