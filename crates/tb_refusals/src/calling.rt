@@ -143,7 +143,7 @@ fn call_beside<J: Naming, R: Wait + Eprint>(
 }
 
 /// Says how the run ended and what was refused in it.
-fn tell_end<J: Naming, R: Eprint>(rt: &R, finished: &Finished<J>) {
+fn print_end<J: Naming, R: Eprint>(rt: &R, finished: &Finished<J>) {
     for (_, fault) in finished.refused.as_slice() {
         if *fault == TakeFault::NoMemory {
             note(rt, "enter NoMemory");
@@ -236,7 +236,7 @@ pub fn call_all<J: Naming + Send + Sync, R: Threads + Wait + Eprint + Sync>(
         Ok(false) => Ok(()),
         _ => put_history(clients_max, finished.publisher.history(), work.out),
     };
-    tell_end(rt, &finished);
+    print_end(rt, &finished);
     drop(finished.close(rt));
     written?;
     outcome

@@ -216,7 +216,7 @@ fn show_all<J: Naming, R: Wait + Eprint>(
 }
 
 /// Says which places were refused, and how the run ended.
-fn tell_end<J: Naming, R: Eprint>(rt: &R, finished: &Finished<J>, taken: u64) {
+fn print_end<J: Naming, R: Eprint>(rt: &R, finished: &Finished<J>, taken: u64) {
     for (place, fault) in finished.refused.as_slice() {
         let _ = eprintln!(rt; "refused {place} {fault}");
     }
@@ -246,7 +246,7 @@ fn check_end<J: Naming, R: Wait + Eprint>(
     drop(second);
     let shown = show_all(rt, &mut finished, seats);
     let written = put_history(clients_max, finished.publisher.history(), out);
-    tell_end(rt, &finished, taken.unwrap_or(0));
+    print_end(rt, &finished, taken.unwrap_or(0));
     drop(finished.close(rt));
     taken?;
     shown?;

@@ -23,7 +23,7 @@ fn outcome_of_replay(answer: Result<u64, DumpFault>) -> Outcome {
 }
 
 /// Says how a call ended and how many bytes are unread.
-fn tell<R: Eprint>(rt: &R, outcome: Outcome, unread: usize) {
+fn print_outcome<R: Eprint>(rt: &R, outcome: Outcome, unread: usize) {
     let (kind, name) = outcome;
     let _ = eprintln!(rt; "{kind} {unread} {name}");
 }
@@ -54,5 +54,5 @@ pub fn call_once<R: Eprint>(
         Call::Dump => outcome_of(dump(alloc, clients_max, Some(2), &mut reader, &mut writer)),
         Call::Replay => outcome_of_replay(replay(alloc, &mut reader, &mut writer)),
     };
-    tell(rt, outcome, reader.into_inner().len());
+    print_outcome(rt, outcome, reader.into_inner().len());
 }

@@ -22,12 +22,12 @@ struct Between(AtomicU64);
 
 impl Between {
     /// One seat more has.
-    fn tell(&self) {
+    fn count(&self) {
         self.0.fetch_add(1, Ordering::SeqCst);
     }
 
     /// Waits until all four have; says whether they have.
-    fn is_told(&self) -> bool {
+    fn are_all(&self) -> bool {
         reaches(&self.0, 4, LOOKS)
     }
 }
@@ -62,7 +62,7 @@ fn watch<J: Naming>(seat: &mut Seat<J>, last: &Request, between: &Between) -> bo
         }
         if seen > 0 && !beside {
             beside = true;
-            between.tell();
+            between.count();
         }
         thread::yield_now();
     }
@@ -120,7 +120,7 @@ fn take_many<J: Naming, R: Wait + Abort>(
     between: &Between,
 ) -> bool {
     for number in 0..200 {
-        if number == 199 && !between.is_told() {
+        if number == 199 && !between.are_all() {
             return false;
         }
         let request = register_or_lookup(rt, alloc, (7, u64::from(number.min(1)), number));
