@@ -25,7 +25,14 @@ fn write_mark(rules: Rules) -> [u8; 6]
         Profile::One => 1,
         Profile::Two => 2,
     };
-    [b'T', b'B', b'F', b'1', number, rules.clients_max.get() as u8]
+    [
+        b'T',
+        b'B',
+        b'F',
+        b'1',
+        number,
+        rules.clients_max.get() as u8,
+    ]
 }
 
 /// The record of an entry of these pairs, behind which a follower is.

@@ -16,11 +16,15 @@ returns-in-Follow g c = rw c.in-Follow.is (record {
 })
 
 pub returns-in-Memory : goal.returns-in-Memory
-returns-in-Memory g c = rw c.in-Memory.is (refl, refl, record {
-  outcome = c.follow_memory.result;
-  does = rw c.rules_of-rules-in-Memory.ensures at c.follow_memory.ensures;
-  ending_is = c.over_log-in-Memory.ensures;
-})
+returns-in-Memory g c = rw c.in-Memory.is (
+  refl,
+  refl,
+  record {
+    outcome = c.follow_memory.result;
+    does = rw c.rules_of-rules-in-Memory.ensures at c.follow_memory.ensures;
+    ending_is = c.over_log-in-Memory.ensures;
+  },
+)
 
 pub returns-in-Dump : goal.returns-in-Dump
 returns-in-Dump g c = rw c.in-Dump.is (refl, refl, c.dump.ensures)
