@@ -73,7 +73,7 @@ def replies_of(cluster, at):
 
 
 def frames_of(data):
-    """The replies of `tbd follow-memory` without their places, and without the hashes between them."""
+    """The replies of `tbd follow-memory` without their places and the hashes between them."""
     at = 0
     while at < len(data):
         if data[at] == 2:

@@ -1,7 +1,7 @@
 """`tbd check`, `backup` and `salvage` of a log's file, whose bytes the test writes itself: blocks
 and records as docs/use/TBD.md and FORMATS.md have them, the position and hashes behind each entry
-by `tbd follow-memory`, which has no file. What `tbd follow` refuses is refused by the forms that read, with
-the same line.
+by `tbd follow-memory`, which has no file. What `tbd follow` refuses is refused by the forms that
+read, with the same line.
 
     python3 -m pytest -m quick tests/files/test_log_files.py
 """

@@ -1,5 +1,5 @@
-"""The forms of `tbd` over a log: followed, started again, dumped and refused. The log has an entry, a
-question, an entry, an entry, a question.
+"""The forms of `tbd` over a log: followed, started again, dumped and refused. The log has an entry,
+a question, an entry, an entry, a question.
 
     python3 -m pytest -m quick tests/files/test_log_forms.py
 """
