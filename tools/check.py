@@ -9,6 +9,7 @@ ended. The last line is 'N passed, M failed' over all parts; a part that cannot 
 failure.
 """
 
+import argparse
 import json
 import os
 import re
@@ -181,6 +182,7 @@ def run_all(parts: list[Part]) -> list[Counts]:
 
 
 def main() -> int:
+    argparse.ArgumentParser(description=__doc__).parse_args()
     needed = missing()
     if needed and not install(needed):
         print("packages are missing\n0 passed, 1 failed")
