@@ -52,6 +52,7 @@ FILES = {
     "a dump": DUMP,
     "a script": SCRIPT,
     "other bytes": bytes(range(1, 9)),
+    "the former format": b"TBJRNL01\0",
     "no record": MAGIC + CLOSED,
     "no head": MAGIC + block(b"\1\2\3") + CLOSED,
     "no entry": HEAD + block(b"\1\2\3") + CLOSED,
@@ -62,6 +63,18 @@ FILES = {
     "torn": LEDGER + b"\1\2\3\4\5",
     "torn long": LEDGER + b"\7" * TOO_LONG,
 }
+
+
+def none(why):
+    """What a form answers over a file that does not begin as a journal."""
+    return 5, f"tbd: NotAJournal: ledger {why}\n"
+
+
+A_TEXT = none("is a text; telovamish script makes request frames of statements")
+A_DUMP = none("is a dump; tbs replay and telovamish dump read it")
+A_SCRIPT = none("is a script; tbs and tbd run read it as standard input")
+FORMER = none("has the former format TBJRNL01; tools/convert_journal.py makes a new file of it")
+OTHERS = none("does not begin as a ledger's file")
 
 
 def up_to(end):

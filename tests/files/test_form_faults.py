@@ -55,10 +55,10 @@ class Failing:
             self.tbd, self.folder, self.words, SCRIPT, env={**self.env, "KEEP_FAULT": fault}
         )
 
-    def turns(self, kind, call, why, first=1):
+    def turns(self, kind, call, why):
         """What is answered where the first such call fails, then the second, up to the last; each
         time over a new file of this kind."""
-        for number in itertools.count(first):
+        for number in itertools.count(1):
             for it in self.folder.iterdir():
                 it.unlink()
             kinds.made(self.folder, kind)
@@ -77,15 +77,32 @@ def is_told(told, fault, file, news=("",)):
 @pytest.mark.parametrize("call, why, fault", FAULTS)
 @pytest.mark.parametrize("words", ["check ledger", "dump ledger", "dump ledger --after 1"])
 def test_a_form_that_reads(tbd, shim, tmp_path, words, call, why, fault):
-    """It syncs and writes nothing. The first read looks whether the file is a log's; if it fails
-    the file is read as a ledger's."""
+    """It syncs and writes nothing. The first read looks whether the file is a log's."""
     failing = Failing(tbd, shim, tmp_path, words)
-    told = list(failing.turns("a ledger", call, why, 2))
+    told = list(failing.turns("a ledger", call, why))
     assert bool(told) == (call == "read")
     whole = {"check ledger": b"", "dump ledger": kinds.DUMP}.get(words, kinds.ENTRIES[1])
     for number, it in told:
         assert is_told(it, fault, "ledger") and whole.startswith(it[1]), (number, it)
     assert (tmp_path / "ledger").read_bytes() == kinds.LEDGER
+
+
+@pytest.mark.parametrize(
+    "words", ["check ledger", "dump ledger", "salvage ledger new", "backup ledger new"]
+)
+def test_a_form_that_reads_a_log(tbd, shim, tmp_path, words):
+    """Whichever read fails, the line says that, and nothing of what the file is."""
+    assert kinds.ran(tbd, tmp_path, ["follow", "ledger", "2"], kinds.item(1, SCRIPT))[0] == 0
+    log = (tmp_path / "ledger").read_bytes()
+    failing = Failing(tbd, shim, tmp_path, words)
+    for number in itertools.count(1):
+        told = failing.ran("read", number, errno.EIO)
+        assert (tmp_path / "ledger").read_bytes() == log
+        if told[0] == 0:
+            break
+        assert is_told(told, FAILED, "ledger"), (number, told)
+        (tmp_path / "new").unlink(missing_ok=True)
+    assert number > 3
 
 
 @pytest.mark.parametrize("call, why, fault", FAULTS)
@@ -112,12 +129,10 @@ def test_a_start_and_a_commit(tbd, shim, tmp_path, kind, call, why, fault):
 @pytest.mark.parametrize("call, why, fault", [FAULTS[0], FAULTS[3]])
 @pytest.mark.parametrize("form", ["salvage", "backup"])
 def test_a_copy_whose_file_fails(tbd, shim, tmp_path, form, call, why, fault):
-    """The first read looks whether the file is a log's; if it fails the file is read as a
-    ledger's."""
+    """The first read looks whether the file is a log's."""
     failing = Failing(tbd, shim, tmp_path, f"{form} ledger new")
-    first = 2 if call == "read" else 1
     count = 0
-    for number, told in failing.turns("a ledger", call, why, first):
+    for number, told in failing.turns("a ledger", call, why):
         assert is_told(told, fault, "ledger") or is_told(told, fault, "new"), (number, told)
         assert told[1] == b"" and (tmp_path / "ledger").read_bytes() == kinds.LEDGER
         count = number

@@ -11,7 +11,8 @@ import subprocess
 import pytest
 
 from . import kinds
-from .kinds import AGAIN, DUMP, EMPTY_DUMP, ENTRIES, FILES, REPLIES, SCRIPT
+from .kinds import A_DUMP, A_SCRIPT, A_TEXT, AGAIN, DUMP, EMPTY_DUMP, ENTRIES, FILES, FORMER
+from .kinds import OTHERS, REPLIES, SCRIPT, none
 
 pytestmark = pytest.mark.quick
 CLIENTS = "CLIENTS_MAX is 1 to 64"
@@ -225,14 +226,6 @@ def test_a_dump_that_goes_on(tbd, tmp_path, kind, options, out):
         assert rest == b""
 
 
-def none(why):
-    return 5, f"tbd: NotAJournal: ledger {why}\n"
-
-
-A_TEXT = none("is a text; telovamish script makes request frames of statements")
-A_DUMP = none("is a dump; tbs replay and telovamish dump read it")
-A_SCRIPT = none("is a script; tbs and tbd run read it as standard input")
-OTHERS = none("does not begin as a ledger's file")
 NO_HEAD = none("has no ledger's head; tbd follow serves a log")
 EMPTY = none("is empty; tbd run makes a ledger in it")
 RULES = "tbd: OtherRules: ledger was made with CLIENTS_MAX 2 and PROFILE 1, not with"
@@ -242,6 +235,7 @@ REFUSED = [
     *((form, "a dump", *A_DUMP) for form in FORMS),
     *((form, "a script", *A_SCRIPT) for form in FORMS),
     *((form, "other bytes", *OTHERS) for form in FORMS),
+    *((form, "the former format", *FORMER) for form in FORMS),
     *((form, "no head", *NO_HEAD) for form in FORMS),
     *((form, "torn long", 6, TORN_LONG) for form in FORMS),
     *((form, "second entry changed", 6, CHANGED) for form in FORMS),

@@ -63,8 +63,8 @@ def test_dumped_as_its_pairs(tbd, tbs, tmp_path, whole):
 
 
 ROTTEN = (
-    "tbd: Damaged: ledger: the block at byte 740 (entry 3) is not what was written; tbd follow"
-    " makes a new file of the log\n"
+    "tbd: Damaged: ledger: the block at byte 740 (entry 3) is not what was written; tbd salvage"
+    " makes a new file of the entries before it\n"
 )
 
 
@@ -95,8 +95,10 @@ def test_a_damaged_log(tbd, tmp_path, whole, words):
     "kind, told",
     [
         ("a ledger", PLAIN),
-        ("a text", (5, "tbd: NotAJournal: ledger does not begin as a ledger's file\n")),
-        ("a dump", (5, "tbd: NotAJournal: ledger does not begin as a ledger's file\n")),
+        ("a text", kinds.A_TEXT),
+        ("a dump", kinds.A_DUMP),
+        ("the former format", kinds.FORMER),
+        ("other bytes", kinds.OTHERS),
     ],
 )
 def test_no_other_file_is_followed(tbd, tmp_path, kind, told):

@@ -283,6 +283,7 @@ failed_text New path = named (codes "Device: ") path (codes ": a read or write f
 abbrev pub kind_text : Kind → List ℕ → List ℕ
 kind_text kind.Unread path = codes "NotAJournal"
 kind_text kind.Empty path = codes "NotAJournal: " ++ (printable path ++ codes " is empty; tbd run makes a ledger in it")
+kind_text kind.Former path = codes "NotAJournal: " ++ (printable path ++ codes " has the former format TBJRNL01; tools/convert_journal.py makes a new file of it")
 kind_text kind.Dump path = codes "NotAJournal: " ++ (printable path ++ codes " is a dump; tbs replay and telovamish dump read it")
 kind_text kind.Script path = codes "NotAJournal: " ++ (printable path ++ codes " is a script; tbs and tbd run read it as standard input")
 kind_text kind.Text path = codes "NotAJournal: " ++ (printable path ++ codes " is a text; telovamish script makes request frames of statements")

@@ -4,8 +4,8 @@ use Rattle.std.specs.List.{list_all}
 use Rattle.std.specs.Cmp.Lexicographic.{pointwise}
 use Rattle.tb_journal.specs.declared.faults.JournalFault.{JournalFault}
 use Rattle.tb_keep_commands.specs.declared.kinds.Kind.{Kind}
-use Rattle.tb_keep_commands.specs.declared.kinds.TheConstants.{DUMP, REGISTER}
-use Rattle.tb_keep_commands.specs.declared.kinds.Kind.TheVariants.{Unread, Empty, Dump, Script, Text, Other}
+use Rattle.tb_keep_commands.specs.declared.kinds.TheConstants.{DUMP, FORMER, REGISTER}
+use Rattle.tb_keep_commands.specs.declared.kinds.Kind.TheVariants.{Unread, Empty, Former, Dump, Script, Text, Other}
 
 -- bytes that begin with a prefix
 abbrev pub begins : List ℕ → List ℕ → Bool
@@ -23,6 +23,7 @@ is_script first = if nat_lt (length first) 24 then false else begins REGISTER.no
 abbrev pub kind_of : List ℕ → Kind
 kind_of first =
     if nat_eq (length first) 0 then Empty
+    else if begins FORMER.now first then Former
     else if begins DUMP.now first then Dump
     else if is_script first then Script
     else if list_all is_text first then Text
@@ -37,6 +38,9 @@ kind_by (Err fault) file = Unread
 
 pub a_dump : kind_of (codes "TBSDUMP1" ++ 1 ∷ 0 ∷ 0 ∷ 0 ∷ 2 ∷ 0 ∷ 0 ∷ 0 ∷ []) ≡ Dump
 a_dump = refl
+
+pub a_file_of_the_former_format : kind_of (codes "TBJRNL01" ++ 90 ∷ []) ≡ Former
+a_file_of_the_former_format = refl
 
 pub a_text : kind_of (codes "register 7\n") ≡ Text
 a_text = refl

@@ -10,6 +10,8 @@ pub enum Kind {
     Unread,
     /// It has no byte.
     Empty,
+    /// A ledger or log in the format before this one.
+    Former,
     /// A dump, by its head.
     Dump,
     /// Moments with request frames, of which the first one registers a client.
@@ -19,6 +21,9 @@ pub enum Kind {
     /// Other bytes.
     Other,
 }
+
+/// The bytes that a file of the former format begins with.
+pub const FORMER: &[u8] = b"TBJRNL01";
 
 /// The bytes that a dump begins with.
 pub const DUMP: &[u8] = b"TBSDUMP1";
@@ -66,6 +71,9 @@ pub(crate) fn kind_of(first: &[u8]) -> Kind
 {
     if first.is_empty() {
         return Kind::Empty;
+    }
+    if begins(FORMER, first) {
+        return Kind::Former;
     }
     if begins(DUMP, first) {
         return Kind::Dump;

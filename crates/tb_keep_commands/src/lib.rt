@@ -78,7 +78,7 @@ pub use lines::{
 };
 pub use live::Live;
 pub use mending::Mended;
-pub use naming::entry_at;
+pub use naming::{entry_at, kind_in};
 pub use openers::{Opener, OpeningFault, opening_fault, unread_fault};
 pub use outlets::{Outgoing, Outlet};
 pub use places::{Named, Place, Silent};

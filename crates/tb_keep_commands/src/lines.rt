@@ -286,6 +286,12 @@ fn put_kind<E: Sink>(faults: &mut E, kind: Kind, path: &str) -> Result<(), Frame
             path,
             " is empty; tbd run makes a ledger in it",
         ),
+        Kind::Former => put_named(
+            faults,
+            "NotAJournal: ",
+            path,
+            " has the former format TBJRNL01; tools/convert_journal.py makes a new file of it",
+        ),
         Kind::Dump => put_named(
             faults,
             "NotAJournal: ",

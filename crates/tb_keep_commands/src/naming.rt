@@ -12,7 +12,7 @@ use tb_journal::{Device, Extent, OpenFault, Scan};
 use tb_keep::{Rules, StartFault, read_rules};
 
 /// What a file is that holds no ledger. Its first bytes are read.
-fn kind_in<D: Device>(device: &mut D) -> Kind
+pub fn kind_in<D: Device>(device: &mut D) -> Kind
     ensures { IsOfKind D.Device result device.old device.new }
 {
     let mut first = [0; FIRST_BYTES];

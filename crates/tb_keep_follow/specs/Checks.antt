@@ -1,5 +1,5 @@
 -- What `check` reports of a log's file.
-use Rattle.std.specs.Prelude.{ℕ, true, ◌≡◌, ◌-◌, List, ◌++◌, [], ◌∷◌, codes, Option, Some, None, Result, Ok, Err, MatchResult, refl}
+use Rattle.std.specs.Prelude.{ℕ, true, ◌≡◌, ◌-◌, List, ◌++◌, [], ◌∷◌, codes, Result, Ok, Err, MatchResult, refl}
 use Rattle.std.specs.Fmt.{decimal, digits}
 use Rattle.tb_records.specs.declared.limits.Profile.TheVariants.{One}
 use Rattle.tb_records.specs.Transport.{Output}
@@ -9,8 +9,7 @@ use Rattle.tb_keep.specs.declared.recovering.Rules.{Rules}
 use Rattle.tb_keep.specs.Reading.{rules_of}
 use Rattle.tb_keep_log.specs.declared.checking.Reached.{Reached}
 use Rattle.tb_keep_log.specs.declared.faults.LogStartFault.{LogStartFault}
-use Rattle.tb_keep_commands.specs.declared.faults.KeepCommandFault.TheVariants.{NotAJournal}
-use Rattle.tb_keep_commands.specs.declared.kinds.Kind.TheVariants as kind
+use Rattle.tb_keep_commands.specs.declared.faults.KeepCommandFault.{KeepCommandFault}
 use Rattle.tb_keep_commands.specs.declared.openers.OpeningFault.{OpeningFault}
 use Rattle.tb_keep_commands.specs.ExitStatuses.{disk_fault}
 use Rattle.tb_keep_commands.specs.Outcomes as commands
@@ -62,12 +61,12 @@ module _ {D : Type 0} (its : devices.Ghosts D) where
           (λ fault. (outcome ≡ Err (Kept (disk_fault fault))) × (after ≡ between) × (written ≡ start))
 
     -- by the rules that its first bytes name; nothing of any other file
-    abbrev pub ChecksNamed : Outcome → Option Rules → D → D → Output → Output → Type 0
-    ChecksNamed outcome (Some rules) device after start written = ChecksFile outcome rules device after start written
-    ChecksNamed outcome None device after start written = (outcome ≡ Err (Kept (NotAJournal kind.Other))) × (after ≡ device) × (written ≡ start)
+    abbrev pub ChecksNamed : Outcome → Result Rules KeepCommandFault → D → D → Output → Output → Type 0
+    ChecksNamed outcome (Ok rules) device after start written = ChecksFile outcome rules device after start written
+    ChecksNamed outcome (Err fault) device after start written = (outcome ≡ Err (Kept fault)) × (after ≡ device) × (written ≡ start)
 
     pub record ChecksFound (outcome : Outcome) (device after : D) (start written : Output) : Type 0 where
-      pub found : Option Rules
+      pub found : Result Rules KeepCommandFault
       pub between : D
       pub finds : FindsRules its found device between
       pub checks : ChecksNamed outcome found between after start written

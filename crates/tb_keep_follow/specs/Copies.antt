@@ -23,8 +23,8 @@ use Rattle.tb_keep_log.specs.Keeping.{By}
 use Rattle.tb_keep_log.specs.Rereading.{HasLogCause}
 use Rattle.tb_keep_commands.specs.declared.faults.Damage.{Damage}
 use Rattle.tb_keep_commands.specs.declared.faults.Damage.TheVariants.{Block, Torn}
-use Rattle.tb_keep_commands.specs.declared.faults.KeepCommandFault.TheVariants.{Making, NotAJournal}
-use Rattle.tb_keep_commands.specs.declared.kinds.Kind.TheVariants as kind
+use Rattle.tb_keep_commands.specs.declared.faults.KeepCommandFault.{KeepCommandFault}
+use Rattle.tb_keep_commands.specs.declared.faults.KeepCommandFault.TheVariants.{Making}
 use Rattle.tb_keep_commands.specs.declared.mending.Mended.{Mended}
 use Rattle.tb_keep_commands.specs.declared.openers.OpeningFault.{OpeningFault}
 use Rattle.tb_keep_commands.specs.Copies.{copied_text, mended_line}
@@ -164,13 +164,13 @@ module _ {O D E : Type 0} (its : KnownFiles O D E) (new : List ℕ) where
         (λ fault. CopiesIf (is_mended whole fault) fault rules outcome before left between start written)
 
   -- by the rules that its first bytes name. Of any other file none is made
-  abbrev pub CopiesNamed : Bool → Option Rules → Outcome → O → O → E → Output → Output → Type 0
-  CopiesNamed whole (Some rules) outcome before left from start written = CopiesBegun whole rules outcome before left from start written
-  CopiesNamed whole None outcome before left from start written =
-      (outcome ≡ Err (Kept (NotAJournal kind.Other))) × (left ≡ before) × (written ≡ start)
+  abbrev pub CopiesNamed : Bool → Result Rules KeepCommandFault → Outcome → O → O → E → Output → Output → Type 0
+  CopiesNamed whole (Ok rules) outcome before left from start written = CopiesBegun whole rules outcome before left from start written
+  CopiesNamed whole (Err fault) outcome before left from start written =
+      (outcome ≡ Err (Kept fault)) × (left ≡ before) × (written ≡ start)
 
   pub record CopiesFound (whole : Bool) (outcome : Outcome) (before left : O) (from : E) (start written : Output) : Type 0 where
-    pub found : Option Rules
+    pub found : Result Rules KeepCommandFault
     pub between : E
     pub finds : FindsRules its.reading found from between
     pub copies : CopiesNamed whole found outcome before left between start written

@@ -6,7 +6,7 @@ use Rattle.tb_keep_commands.specs.declared.arguments.Command.{Command}
 use Rattle.tb_keep_commands.specs.declared.arguments.Form.{Form}
 use Rattle.tb_keep_commands.specs.declared.arguments.Form.TheVariants as form
 use Rattle.tb_keep_commands.specs.declared.faults.Failed.TheVariants as failed
-use Rattle.tb_keep_commands.specs.declared.faults.KeepCommandFault.TheVariants.{Device}
+use Rattle.tb_keep_commands.specs.declared.faults.KeepCommandFault.TheVariants.{Device, Opening}
 use Rattle.tb_keep_commands.specs.declared.help.TheConstants.{VERSION}
 use Rattle.tb_keep_commands.specs.declared.openers.OpeningFault.{OpeningFault}
 use Rattle.tb_keep_commands.specs.Copies.{CopiesOver as CopiesLedger}
@@ -49,9 +49,10 @@ pub record OverLog (Does : Outcome → Type 0) (ending : Ending) : Type 0 where
   pub ending_is : ending ≡ over_log outcome
 
 -- the one where a file is a log's, and the other where it is not
-abbrev pub EitherBy : Bool → Type 0 → Type 0 → Type 0
-EitherBy true OfLog OfLedger = OfLog
-EitherBy false OfLog OfLedger = OfLedger
+abbrev pub EitherBy : Result Bool OpeningFault → Type 0 → Type 0 → (OpeningFault → Type 0) → Type 0
+EitherBy (Ok true) OfLog OfLedger Unread = OfLog
+EitherBy (Ok false) OfLog OfLedger Unread = OfLedger
+EitherBy (Err fault) OfLog OfLedger Unread = Unread fault
 
 -- what was held back went out where all was done; where it does not go out, that is the outcome
 abbrev pub Finishes : Type 0 → Ending → Ending → Output → Output → Type 0
@@ -69,28 +70,29 @@ PrintsFault (Ok done) file new before after = after ≡ before
 PrintsFault (Err fault) file new before after = SaysLine (command_line fault (command_path fault file new)) before after
 
 module _ {O D E : Type 0} (its : KnownFiles O D E) (looks : O → List ℕ → Result ℕ OpeningFault → List ℕ → O → Type 0) (before : O) (name : List ℕ) (left : O) where
-  -- the file of a name was looked at, and this was done over a log's, or over any other
-  pub record ByFile (OfLog OfLedger : O → Ending → Type 0) (ending : Ending) : Type 0 where
-    pub is_log : Bool
+  -- the file of a name was looked at, and this was done over a log's, or over any other; or the look failed, and nothing was written
+  pub record ByFile (start written : Output) (OfLog OfLedger : O → Ending → Type 0) (ending : Ending) : Type 0 where
+    pub is_log : Result Bool OpeningFault
     pub between : O
     pub looked : LooksLikeLog looks name is_log before between
     pub does : EitherBy is_log (OfLog between ending) (OfLedger between ending)
+        (λ fault. (ending ≡ Err (Ledger (Opening fault))) × (left ≡ between) × (written ≡ start))
 
   abbrev pub DumpsEither : Option ℕ → Bool → Ending → Output → Output → Type 0
   DumpsEither after follows ending start written =
-      ByFile
+      ByFile start written
       (λ between. OverLog (λ outcome. DumpsOver its.reading (its.opener.opens between name) left (its.opener.ended left) after follows outcome start written))
       (λ between. OverLedger (λ outcome. DumpsLedger its name between left after follows outcome start written)) ending
 
   abbrev pub ChecksEither : Bool → Ending → Output → Output → Type 0
   ChecksEither quick ending start written =
-      ByFile
+      ByFile start written
       (λ between. OverLog (λ outcome. ChecksOver its.reading its.whole (its.opener.opens between name) left outcome start written))
       (λ between. OverLedger (λ outcome. ChecksLedger its name between left quick outcome start written)) ending
 
   abbrev pub CopiesEither : List ℕ → Bool → Ending → Output → Output → Type 0
   CopiesEither new whole ending start written =
-      ByFile
+      ByFile start written
       (λ between. OverLog (λ outcome. CopiesOver its new whole name outcome between left start written))
       (λ between. OverLedger (λ outcome. CopiesLedger its new name between left whole outcome start written)) ending
 

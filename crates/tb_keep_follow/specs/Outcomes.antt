@@ -21,8 +21,8 @@ use Rattle.tb_keep_log.specs.Rereading.{HasLogCause}
 use Rattle.tb_keep_log.specs.Items.{Served, point}
 use Rattle.tb_keep_commands.specs.declared.asides.Reason.{Reason}
 use Rattle.tb_keep_commands.specs.declared.faults.Failed.{Failed}
-use Rattle.tb_keep_commands.specs.declared.faults.KeepCommandFault.TheVariants.{Opening, Gone, NotAJournal}
-use Rattle.tb_keep_commands.specs.declared.kinds.Kind.TheVariants as kind
+use Rattle.tb_keep_commands.specs.declared.faults.KeepCommandFault.{KeepCommandFault}
+use Rattle.tb_keep_commands.specs.declared.faults.KeepCommandFault.TheVariants.{Opening, Gone}
 use Rattle.tb_keep_commands.specs.declared.openers.OpeningFault.{OpeningFault}
 use Rattle.tb_keep_commands.specs.Ends.{KnownEnds, On, made_by}
 use Rattle.tb_keep_commands.specs.Outcomes.{IsAsked}
@@ -107,13 +107,13 @@ module _ {D : Type 0} (its : devices.Ghosts D) where
   DumpsPart Ended from follows outcome rules device after start written = DumpsLater Ended from follows outcome rules device after start written
 
   -- of a log, by the rules that its first bytes name; nothing of any other file
-  abbrev pub DumpsNamed : Type 0 → Option ℕ → Bool → Outcome → Option Rules → D → D → Output → Output → Type 0
-  DumpsNamed Ended from follows outcome (Some rules) device after start written = DumpsPart Ended from follows outcome rules device after start written
-  DumpsNamed Ended from follows outcome None device after start written =
-      (outcome ≡ Err (Kept (NotAJournal kind.Other))) × (after ≡ device) × (written ≡ start)
+  abbrev pub DumpsNamed : Type 0 → Option ℕ → Bool → Outcome → Result Rules KeepCommandFault → D → D → Output → Output → Type 0
+  DumpsNamed Ended from follows outcome (Ok rules) device after start written = DumpsPart Ended from follows outcome rules device after start written
+  DumpsNamed Ended from follows outcome (Err fault) device after start written =
+      (outcome ≡ Err (Kept fault)) × (after ≡ device) × (written ≡ start)
 
   pub record DumpsFound (Ended : Type 0) (from : Option ℕ) (follows : Bool) (outcome : Outcome) (device after : D) (start written : Output) : Type 0 where
-    pub found : Option Rules
+    pub found : Result Rules KeepCommandFault
     pub between : D
     pub finds : FindsRules its found device between
     pub dumps : DumpsNamed Ended from follows outcome found between after start written

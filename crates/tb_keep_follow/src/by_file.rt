@@ -40,10 +40,10 @@ pub(crate) fn dump<O: Looker, W: Outlet>(
     ensures { DumpsEither ⟦<O as Files>⟧.its O.looks opener.old path.now opener.new part.after part.follows result
         (W.output writer.old) (W.output writer.new) }
 {
-    if is_log(opener, path) {
-        over_log(dump_over(alloc, opener, path, writer, part))
-    } else {
-        over_ledger(tb_keep_commands::dump_over(alloc, opener, path, writer, part))
+    match is_log(opener, path) {
+        Ok(true) => over_log(dump_over(alloc, opener, path, writer, part)),
+        Ok(false) => over_ledger(tb_keep_commands::dump_over(alloc, opener, path, writer, part)),
+        Err(fault) => over_ledger(Err(KeepCommandFault::Opening(fault))),
     }
 }
 
@@ -58,10 +58,10 @@ pub(crate) fn check<O: Looker, W: Outlet>(
     ensures { ChecksEither ⟦<O as Files>⟧.its O.looks opener.old path.now opener.new quick result
         (W.output writer.old) (W.output writer.new) }
 {
-    if is_log(opener, path) {
-        over_log(check_over(alloc, opener, path, writer))
-    } else {
-        over_ledger(tb_keep_commands::check_over(alloc, opener, path, quick, writer))
+    match is_log(opener, path) {
+        Ok(true) => over_log(check_over(alloc, opener, path, writer)),
+        Ok(false) => over_ledger(tb_keep_commands::check_over(alloc, opener, path, quick, writer)),
+        Err(fault) => over_ledger(Err(KeepCommandFault::Opening(fault))),
     }
 }
 
@@ -77,9 +77,11 @@ pub(crate) fn copy<O: Looker, W: Outlet>(
     ensures { CopiesEither ⟦<O as Files>⟧.its O.looks opener.old path.now opener.new new.now whole result
         (W.output writer.old) (W.output writer.new) }
 {
-    if is_log(opener, path) {
-        over_log(copy_over(alloc, opener, path, new, whole, writer))
-    } else {
-        over_ledger(tb_keep_commands::copy_over(alloc, opener, path, new, whole, writer))
+    match is_log(opener, path) {
+        Ok(true) => over_log(copy_over(alloc, opener, path, new, whole, writer)),
+        Ok(false) => over_ledger(tb_keep_commands::copy_over(
+            alloc, opener, path, new, whole, writer,
+        )),
+        Err(fault) => over_ledger(Err(KeepCommandFault::Opening(fault))),
     }
 }

@@ -10,7 +10,7 @@ use std::alloc::Global;
 use std::{fmt, format};
 use tb_journal::Device;
 use tb_keep::Rules;
-use tb_keep_commands::{Failed, KeepCommandFault, Kind, Live, Summary, disk_fault};
+use tb_keep_commands::{Failed, KeepCommandFault, Live, Summary, disk_fault};
 use tb_keep_log::{Reached, check_log};
 use tb_records::{Sink, put_all};
 
@@ -123,7 +123,7 @@ pub(crate) fn check_found<D: Live, W: Sink>(
     ensures { ChecksFoundOn D.Device W.output D.whole result device.old device.new writer.old writer.new }
 {
     match find_rules(device) {
-        Some(rules) => check_file(alloc, rules, device, writer),
-        None => Err(FollowFault::Kept(KeepCommandFault::NotAJournal(Kind::Other))),
+        Ok(rules) => check_file(alloc, rules, device, writer),
+        Err(fault) => Err(FollowFault::Kept(fault)),
     }
 }

@@ -13,8 +13,8 @@ use std::{fmt, format};
 use tb_journal::{Device, OpenFault, Refusal, Scan};
 use tb_keep::Rules;
 use tb_keep_commands::{
-    Copied, Damage, Failed, Files, KeepCommandFault, Kind, Live, Mended, Opener, disk_fault,
-    new_fault, opened_fault, print_mended,
+    Copied, Damage, Failed, Files, KeepCommandFault, Live, Mended, Opener, disk_fault, new_fault,
+    opened_fault, print_mended,
 };
 use tb_keep_log::{CopiedLog, CopyLogFault, LogStartFault, NotCopiedLog, copy_log};
 use tb_records::{Sink, put_all};
@@ -294,10 +294,10 @@ pub(crate) fn copy_found<O: Opener, W: Sink>(
 {
     let mut from = from;
     match find_rules(&mut from) {
-        Some(rules) => copy_begun(alloc, opener, rules, from, new, whole, writer),
-        None => {
+        Ok(rules) => copy_begun(alloc, opener, rules, from, new, whole, writer),
+        Err(fault) => {
             drop(from);
-            Err(FollowFault::Kept(KeepCommandFault::NotAJournal(Kind::Other)))
+            Err(FollowFault::Kept(fault))
         }
     }
 }

@@ -9,7 +9,7 @@ use crate::parts::write_part;
 use std::alloc::Global;
 use tb_journal::Device;
 use tb_keep::Rules;
-use tb_keep_commands::{KeepCommandFault, Kind, Opener, Outlet, Part};
+use tb_keep_commands::{Opener, Outlet, Part};
 use tb_keep_log::{DumpLogFault, check_log, write_log_dump};
 use tb_records::Sink;
 
@@ -97,7 +97,7 @@ pub(crate) fn dump_found<O: Opener, W: Outlet>(
     ensures { DumpsFoundOn O.Reading.Device W.output (O.ended opener.now) part result device.old device.new writer.old writer.new }
 {
     match find_rules(device) {
-        Some(rules) => dump_part(alloc, opener, rules, device, writer, part),
-        None => Err(FollowFault::Kept(KeepCommandFault::NotAJournal(Kind::Other))),
+        Ok(rules) => dump_part(alloc, opener, rules, device, writer, part),
+        Err(fault) => Err(FollowFault::Kept(fault)),
     }
 }

@@ -1,11 +1,11 @@
 //! Which log a file is of, by its first bytes.
 ghost use Rattle.std.specs.Prelude.{◌≡◌, ◌≤◌, ℕ, List, Result, length, IfOk};
 ghost use Rattle.tb_keep_commands.specs.declared.openers.OpeningFault.{OpeningFault};
-ghost use Rattle.tb_keep_follow.specs.Heads.{FindsRules, LooksLikeLog, profile_numbered, rules_behind, rules_by, rules_in, rules_of_mark};
+ghost use Rattle.tb_keep_follow.specs.Heads.{FindsRules, LooksLikeLog, profile_numbered, rules_behind, rules_by, rules_in, rules_of_mark, rules_or_fault};
 
 use tb_journal::Device;
 use tb_keep::Rules;
-use tb_keep_commands::{Opener, OpeningFault};
+use tb_keep_commands::{KeepCommandFault, Kind, Opener, OpeningFault, disk_fault};
 use tb_records::{ClientsMax, Profile};
 
 /// The bytes before the first record of a file: the text of a journal, a latch, a length and a checksum.
@@ -81,26 +81,36 @@ pub(crate) fn rules_in(first: &[u8]) -> Option<Rules>
     rules_of_mark(&first[BEFORE_BYTES..])
 }
 
-/// The rules of the log that the file of a device is of. Its first bytes are read.
-pub(crate) fn find_rules<D: Device>(device: &mut D) -> Option<Rules>
+/// The rules, if the file is a log's.
+fn rules_or_fault(rules: Option<Rules>) -> Result<Rules, KeepCommandFault>
+    ensures { result ≡ rules_or_fault rules }
+{
+    match rules {
+        Some(rules) => Ok(rules),
+        None => Err(KeepCommandFault::NotAJournal(Kind::Other)),
+    }
+}
+
+/// The rules of the log that the file of a device is of, by its first bytes; or why they are not known.
+pub(crate) fn find_rules<D: Device>(device: &mut D) -> Result<Rules, KeepCommandFault>
     ensures { FindsRules D.Device result device.old device.new }
 {
     let mut first = [0; FIRST_BYTES];
     let first: &mut [u8] = &mut first;
     match device.read_at(0, first) {
-        Ok(count) => rules_in(&first[..count]),
-        Err(_) => None,
+        Ok(count) => rules_or_fault(rules_in(&first[..count])),
+        Err(fault) => Err(disk_fault(fault)),
     }
 }
 
-/// Says whether the file of a name is a log's, by a look at its first bytes.
-pub(crate) fn is_log<O: Looker>(opener: &mut O, name: &str) -> bool
+/// Says whether the file of a name is a log's, by a look at its first bytes; or why they were not read.
+pub(crate) fn is_log<O: Looker>(opener: &mut O, name: &str) -> Result<bool, OpeningFault>
     ensures { LooksLikeLog O.looks name.now result opener.old opener.new }
 {
     let mut first = [0; FIRST_BYTES];
     let first: &mut [u8] = &mut first;
     match opener.look(name, first) {
-        Ok(count) => rules_in(&first[..count]).is_some(),
-        Err(_) => false,
+        Ok(count) => Ok(rules_in(&first[..count]).is_some()),
+        Err(fault) => Err(fault),
     }
 }

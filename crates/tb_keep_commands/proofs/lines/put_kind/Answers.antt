@@ -6,6 +6,9 @@ returns-in-Unread g c = rw c.in-Unread.is c.put_all.ensures
 pub returns-in-Empty : goal.returns-in-Empty
 returns-in-Empty g c = rw c.in-Empty.is c.put_named.ensures
 
+pub returns-in-Former : goal.returns-in-Former
+returns-in-Former g c = rw c.in-Former.is c.put_named-in-Former.ensures
+
 pub returns-in-Dump : goal.returns-in-Dump
 returns-in-Dump g c = rw c.in-Dump.is c.put_named-in-Dump.ensures
 

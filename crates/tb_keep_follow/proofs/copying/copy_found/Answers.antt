@@ -1,8 +1,8 @@
-use Rattle.std.proofs.Common.{Some, None, refl}
+use Rattle.std.proofs.Common.{Ok, Err, refl}
 use Rattle.tb_keep_follow.proofs.copying.copy_found.Goals as goal
 
-pub returns-in-Some : goal.returns-in-Some
-returns-in-Some g c = record { found = Some c.in-Some.rules; between = c.find_rules.new.device; finds = c.in-Some.ensures; copies = c.copy_begun.ensures }
+pub returns-in-Ok : goal.returns-in-Ok
+returns-in-Ok g c = record { found = Ok c.in-Ok.rules; between = c.find_rules.new.device; finds = c.in-Ok.ensures; copies = c.copy_begun.ensures }
 
-pub returns-in-None : goal.returns-in-None
-returns-in-None g c = record { found = None; between = c.find_rules.new.device; finds = c.in-None.ensures; copies = (refl, refl, refl) }
+pub returns-in-Err : goal.returns-in-Err
+returns-in-Err g c = record { found = Err c.in-Err.fault; between = c.find_rules.new.device; finds = c.in-Err.ensures; copies = (refl, refl, refl) }
