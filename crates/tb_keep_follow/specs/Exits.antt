@@ -50,9 +50,9 @@ pub record OverLog (Does : Outcome → Type 0) (ending : Ending) : Type 0 where
 
 -- the one where a file is a log's, and the other where it is not
 abbrev pub EitherBy : Result Bool OpeningFault → Type 0 → Type 0 → (OpeningFault → Type 0) → Type 0
-EitherBy (Ok true) OfLog OfLedger Unread = OfLog
-EitherBy (Ok false) OfLog OfLedger Unread = OfLedger
-EitherBy (Err fault) OfLog OfLedger Unread = Unread fault
+EitherBy (Ok true) OfLog OfLedger not_looked = OfLog
+EitherBy (Ok false) OfLog OfLedger not_looked = OfLedger
+EitherBy (Err fault) OfLog OfLedger not_looked = not_looked fault
 
 -- what was held back went out where all was done; where it does not go out, that is the outcome
 abbrev pub Finishes : Type 0 → Ending → Ending → Output → Output → Type 0

@@ -15,7 +15,7 @@ position_of (Some count) = Some (min (count + 1) (2 ^ 64 - 1))
 
 -- of a file that does not begin as a journal it is said what it is, and of a block that is not what was written which entry
 abbrev pub Names : {D : Type 0} → devices.Ghosts D → FollowFault → FollowFault → D → D → Type 0
-Names its (Kept (NotAJournal unread)) fault device after = (kind : Kind) × (fault ≡ Kept (NotAJournal kind)) × IsOfKind its kind device after
+Names its (Kept (NotAJournal _)) fault device after = (kind : Kind) × (fault ≡ Kept (NotAJournal kind)) × IsOfKind its kind device after
 Names its (Kept (Damaged (Block at uncounted))) fault device after =
     (count : Option ℕ) × (fault ≡ Kept (Damaged (Block at (position_of count)))) × IsEntryAt its at count device after
 Names its named fault device after = (fault ≡ named) × (after ≡ device)
