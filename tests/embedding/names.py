@@ -261,7 +261,7 @@ def statuses_of_outcomes():
     """The statuses by the names of outcomes. Of outcomes with one status a caller sees the
     first: out of memory has one, wherever it was met."""
     first = {}
-    for name, number in numbers(spec("Outcomes", "tb_embed"), "status_of").items():
+    for name, number in numbers(spec("Outcomes", "tb_embed"), "outcome_status").items():
         first.setdefault(number, name)
     return {name: number for number, name in first.items()}
 

@@ -25,6 +25,22 @@ SYNC = (
     9,
     "tbd: SyncFailed: {}: restart the machine or copy the file before the next start\n",
 )
+# The same of a new file, which is there then, so that the next try would be refused.
+NEW = {
+    FAILED: (
+        1,
+        "tbd: Device: {}: a read or write failed; remove it, look at the disk, and start again\n",
+    ),
+    FULL: (
+        8,
+        "tbd: Full: {}: the disk is full, or the file has its greatest length; remove it, free"
+        " space, and start again\n",
+    ),
+    SYNC: (
+        9,
+        "tbd: SyncFailed: {}: it may be lost; remove it, look at the disk, and start again\n",
+    ),
+}
 # The call that fails and with what, and how that is told.
 FAULTS = [
     ("read", errno.EIO, FAILED),
@@ -133,7 +149,7 @@ def test_a_copy_whose_file_fails(tbd, shim, tmp_path, form, call, why, fault):
     failing = Failing(tbd, shim, tmp_path, f"{form} ledger new")
     count = 0
     for number, told in failing.turns("a ledger", call, why):
-        assert is_told(told, fault, "ledger") or is_told(told, fault, "new"), (number, told)
+        assert is_told(told, fault, "ledger") or is_told(told, NEW[fault], "new"), (number, told)
         assert told[1] == b"" and (tmp_path / "ledger").read_bytes() == kinds.LEDGER
         count = number
     assert count
@@ -155,7 +171,7 @@ def test_a_copy_whose_new_file_fails(tbd, shim, tmp_path, form, call, why, fault
     failing = Failing(tbd, shim, tmp_path, f"{form} ledger new", "new")
     seen = []
     for number, told in failing.turns("a ledger", call, why):
-        assert is_told(told, fault, "new") and told[1] == b"", (number, told)
+        assert is_told(told, NEW[fault], "new") and told[1] == b"", (number, told)
         data = (tmp_path / "new").read_bytes()
         assert is_stage(data), (number, data)
         seen.append(next(n for n, it in reversed(list(enumerate(STAGES))) if data.startswith(it)))

@@ -226,7 +226,8 @@ def test_a_dump_that_goes_on(tbd, tmp_path, kind, options, out):
         assert rest == b""
 
 
-NO_HEAD = none("has no ledger's head; tbd follow serves a log")
+NO_HEAD = none("has a first record that is no ledger's head; restore a backup")
+NO_RECORD = none("has no record yet; tbd run makes a ledger in it, and tbd follow a log")
 EMPTY = none("is empty; tbd run makes a ledger in it")
 RULES = "tbd: OtherRules: ledger was made with CLIENTS_MAX 2 and PROFILE 1, not with"
 FORMS = ("run ledger 2", "dump ledger", "check ledger")
@@ -240,13 +241,13 @@ REFUSED = [
     *((form, "torn long", 6, TORN_LONG) for form in FORMS),
     *((form, "second entry changed", 6, CHANGED) for form in FORMS),
     *((form, "no byte", *EMPTY) for form in FORMS[1:]),
-    *((form, "no record", *NO_HEAD) for form in FORMS[1:]),
+    *((form, "no record", *NO_RECORD) for form in FORMS[1:]),
     *((form, "nothing", 1, missing("ledger")) for form in FORMS[1:]),
     ("run ledger 2 --existing", "nothing", 1, missing("ledger")),
     (
         "run ledger 2 --existing",
         "no byte",
-        *none("is empty; tbd run without --existing makes a ledger in it"),
+        *none("is empty; without --existing tbd run makes a ledger in it, and tbd follow a log"),
     ),
     (
         "run ledger 2 --progress",
@@ -468,7 +469,7 @@ def test_what_is_whole_is_copied(tbd, tmp_path, form, kind, printed, end):
 UNCOPIED = [
     ("salvage", "a text", *A_TEXT, None),
     ("backup", "a text", *A_TEXT, None),
-    ("salvage", "no record", *NO_HEAD, None),
+    ("salvage", "no record", *NO_RECORD, None),
     ("backup", "no head", *NO_HEAD, None),
     ("salvage", "nothing", 1, missing("ledger"), None),
     (

@@ -699,7 +699,7 @@ def test_told_of_words(tbd, folder):
             == (
                 1,
                 b"",
-                "tbd: Device: no permission to open words.tbk; change its mode, or run tbd as a user that may\n",
+                "tbd: Device: no permission to open words.tbk; change its mode or its folder's, or run tbd as a user that may\n",
             ),
             told,
         )
@@ -928,7 +928,7 @@ def test_read_only(tbd, folder):
             == (
                 1,
                 b"",
-                "tbd: Device: no permission to open kept.tbk; change its mode, or run tbd as a user that may\n",
+                "tbd: Device: no permission to open kept.tbk; change its mode or its folder's, or run tbd as a user that may\n",
             ),
             told,
         )

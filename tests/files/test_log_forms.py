@@ -21,7 +21,7 @@ FOLLOW = ["follow", "ledger", "2"]
 MEMORY = ["follow-memory", "2"]
 MADE = "tbd: made ledger\n"
 PLAIN = 5, "tbd: Plain: ledger is a ledger without positions; tbd run serves it\n"
-NO_HEAD = 5, "tbd: NotAJournal: ledger has no ledger's head; tbd follow serves a log\n"
+A_LOG = 5, "tbd: NotAJournal: ledger is a log; tbd follow serves it\n"
 RULES = 7, "tbd: OtherRules: ledger was made with another profile or number of clients\n"
 
 
@@ -71,7 +71,7 @@ ROTTEN = (
 @pytest.mark.parametrize(
     "words, told",
     [
-        (["run", "ledger", "2"], NO_HEAD),
+        (["run", "ledger", "2"], A_LOG),
         (["follow", "ledger", "3"], RULES),
         (["follow", "ledger", "2", "2"], RULES),
     ],
@@ -122,16 +122,18 @@ def put(data, at, value):
     return data[:at] + bytes([value]) + data[at + 1 :]
 
 
+SHORT = "Short: standard input ends within an item; those before it were answered"
+NO_ITEM = "standard input goes on with no item; those before it were answered"
 # Items that are refused, behind the first entry or before any.
 BEHIND = [
     (LOG[:385], "Repeat at 1"),
     (LOG[587:860], "Gap at 3"),
-    (LOG[386:586], "Short"),
-    (b"\7", "UnknownKind 7"),
+    (LOG[386:586], SHORT),
+    (b"\7", f"UnknownKind 7: {NO_ITEM}"),
 ]
 FIRST = [
     (LOG[386:587], "Gap at 2"),
-    (b"\3", "UnknownKind 3"),
+    (b"\3", f"UnknownKind 3: {NO_ITEM}"),
     (put(LOG, 1, 0), "Repeat at 0"),
     (put(LOG, 12, 1), "TooLong at 1"),
     (put(LOG, 13, 0), "Damaged at 1"),
@@ -178,7 +180,7 @@ def test_a_log_cut_at_each_length(tbd, tmp_path):
         status, out, said = ran(tbd, tmp_path, FOLLOW, LOG[:end])
         whole = end in ENDS
         assert (status, said) == (
-            (0, MADE + at(0)) if whole else (2, f"{MADE}{at(0)}tbd: Short\n")
+            (0, MADE + at(0)) if whole else (2, f"{MADE}{at(0)}tbd: {SHORT}\n")
         ), end
         assert ANSWERS.startswith(out), end
         position = max(there for begin, there in ENDS.items() if begin <= end)

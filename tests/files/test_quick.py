@@ -77,9 +77,9 @@ SECOND = registered(2, 11, 8)
 REFUSED = {
     "nothing": (b"", 5, b"is empty"),
     "another file": (b"a text\n", 5, b"is a text"),
-    "no head": (journal(FIRST), 5, b"has no ledger's head"),
-    "no record": (journal(), 5, b"has no ledger's head"),
-    "no such clients": (journal(b"TBK1\1\0", FIRST), 5, b"has no ledger's head"),
+    "no head": (journal(FIRST), 5, b"that is no ledger's head"),
+    "no record": (journal(), 5, b"has no record yet"),
+    "no such clients": (journal(b"TBK1\1\0", FIRST), 5, b"that is no ledger's head"),
     "a commit again": (journal(HEAD, FIRST, registered(1, 11, 8)), 6, b"entry 2 may not come"),
     "a commit left out": (journal(HEAD, FIRST, registered(3, 11, 8)), 6, b"next: Commit"),
     "a time again": (journal(HEAD, FIRST, registered(2, 10, 8)), 6, b"next: Time"),

@@ -18,7 +18,7 @@ EARLY = dump_entry(2, 10, FRAME)
 AGAIN = dump_entry(2, 11, FRAME)
 SHORT = FIRST[:15]
 SALVAGE = "; tbd salvage makes a new file of the entries before it"
-NO_HEAD = "NotAJournal: ledger has no ledger's head; tbd follow serves a log"
+NO_HEAD = "NotAJournal: ledger has a first record that is no ledger's head; restore a backup"
 
 
 def damaged(why):

@@ -116,7 +116,8 @@ def test_a_fault_ends_serving_behind_those_before_it(tbd, tmp_path, change, faul
     else:
         given[AT + change[0]] = change[1]
     status, out, said = ran(tbd, tmp_path, ["run", "ledger", "2"], bytes(given))
-    assert (status, len(out), said) == (2, 96, f"tbd: made ledger\ntbd: {fault}\n")
+    line = "the next request on standard input is refused; those before it were answered"
+    assert (status, len(out), said) == (2, 96, f"tbd: made ledger\ntbd: {fault}: {line}\n")
     assert b"entries 2\n" in ran(tbd, tmp_path, ["check", "ledger"])[1]
 
 
@@ -191,6 +192,6 @@ def test_the_folder_of_a_new_file_is_synced(tbd, shim, tmp_path, path):
 def test_a_file_that_nobody_may_write(tbd, tmp_path):
     line = (
         "tbd: Device: no permission to open /sys/kernel/notes;"
-        " change its mode, or run tbd as a user that may\n"
+        " change its mode or its folder's, or run tbd as a user that may\n"
     )
     assert ran(tbd, tmp_path, ["run", "/sys/kernel/notes", "2"]) == (1, b"", line)

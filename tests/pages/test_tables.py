@@ -1,7 +1,9 @@
-"""Tables of pages against the code: the names that a closed connection is sent, and the faults of
-tbs with their exit statuses, each of which is brought about."""
+"""Tables of pages against the code: what tools/tables.py makes and compares, the names that a
+closed connection is sent, and the faults of tbs with their exit statuses, each of which is brought
+about."""
 
 import re
+import sys
 
 import frames
 import pytest
@@ -22,6 +24,11 @@ FAULTS = (
 # Where the listener has the names that it sends.
 HOST = ("access", "command", "connections", "lines", "process", "serving", "shares")
 SENT = re.compile(r'(?:Told\(|given\.(?:idle|slow), |stop\(|return |else )"([A-Z]\w+)"')
+
+
+def test_the_table_of_names_and_layouts():
+    status, output, errors = ran([sys.executable, ROOT / "tools/tables.py"])
+    assert (status, errors) == (0, b""), output.decode()
 
 
 def section(page, heading):

@@ -141,11 +141,11 @@ def named(table, sources):
         lambda: r.arms(sources.code("tb_embed"), "Outcome", "number"),
     )
     yield (
-        "embed_statuses: status_of",
+        "embed_statuses: outcome_status",
         by_variant(table["embed_statuses"], "number"),
         lambda: {
             name: number
-            for name, number in r.numbers(sources.specs("tb_embed"), "status_of").items()
+            for name, number in r.numbers(sources.specs("tb_embed"), "outcome_status").items()
             if name != "Unread"
         },
     )
@@ -250,13 +250,12 @@ def tests(text, names):
 
 
 def classes(text):
-    """The classes of a request in the order of its lines: without a row, the lines of a row,
+    """The classes of a request in the order of its tests: without a row, the tests of a row,
     else."""
-    none = r.first(
-        r"^class_by None r = if is_register r.body then New else (\w+)", text, "class_by"
-    )[1]
-    lines = re.findall(r", (\w+)\)\s*∷", r.body(text, "request_lines"))
-    other = r.first(r"first_class (\w+) \(request_lines", text, "class_beside")[1]
+    none = r.first(r"if is_register r\.body then New else (\w+)\)$", text, "class_of")[1]
+    tests = r.body(text, "class_beside")
+    lines = re.findall(r"^    else if .* then (\w+)$", tests, re.M)
+    other = r.first(r"^    else (\w+)$", tests, "class_beside")[1]
     return [none, *lines, other]
 
 
@@ -316,7 +315,7 @@ def layouts(table, sources):
 
 def limits(table, sources):
     size, most = t.sizes(table), t.limits(table)
-    code, specs = sources.code, sources.specs
+    code, specs, proofs = sources.code, sources.specs, sources.proofs
     rows = [
         (
             "items_max",
@@ -356,17 +355,17 @@ def limits(table, sources):
         (
             "record",
             size,
-            lambda: r.constant(specs("tb_records"), r"length \(account_bytes a\) ≡ (\d+)"),
+            lambda: r.constant(proofs("tb_records"), r"length \(account_bytes a\) ≡ (\d+)"),
         ),
         (
             "result",
             size,
-            lambda: r.constant(specs("tb_records"), r"length \(result_bytes a\) ≡ (\d+)"),
+            lambda: r.constant(proofs("tb_records"), r"length \(result_bytes a\) ≡ (\d+)"),
         ),
         (
             "id",
             size,
-            lambda: r.constant(specs("tb_records"), r"length \(le_bytes (\d+) x\) ≡ \d+$"),
+            lambda: r.constant(proofs("tb_records"), r"length \(le_bytes (\d+) x\) ≡ \d+$"),
         ),
         (
             "header",

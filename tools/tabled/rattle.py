@@ -38,6 +38,9 @@ class Sources:
     def specs(self, crate):
         return self.crate(crate, "specs", "antt")
 
+    def proofs(self, crate):
+        return self.crate(crate, "proofs", "antt")
+
 
 def first(pattern, text, what):
     found = re.search(pattern, text, re.M | re.S)

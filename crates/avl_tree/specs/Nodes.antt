@@ -157,12 +157,12 @@ IsSpareChain Empty = Unit {0}
 IsSpareChain (Fork' h p k l r v) = IsSpareChain l × (r ≡ Empty)
 
 -- how many nodes such a chain has
-abbrev pub chain_length : {K V A : Type 0} → Tree K V A → ℕ
-chain_length Empty = 0
-chain_length (Fork' h p k l r v) = chain_length l + 1
+abbrev pub nodes_in_chain : {K V A : Type 0} → Tree K V A → ℕ
+nodes_in_chain Empty = 0
+nodes_in_chain (Fork' h p k l r v) = nodes_in_chain l + 1
 
 -- what the fields of a map keep: a balanced tree whose keys rise, its size, and a count of all nodes that fits
-pub record IsWhole {K V A : Type 0} (cmp : K → K → Ordering) (root : Tree K V A) (len spare : ℕ) : Type 0 where
+pub record IsWholeTree {K V A : Type 0} (cmp : K → K → Ordering) (root : Tree K V A) (len spare : ℕ) : Type 0 where
   pub balanced : IsAvl root
   pub sorted : IsOrdered cmp (entries root)
   pub counted : len ≡ length (entries root)

@@ -11,7 +11,7 @@ ghost use Rattle.std.specs.BTreeMap.{insert_entry, is_at};
 ghost use Rattle.std.specs.declared.option.Option.TheVariants.{None, Some};
 ghost use Rattle.avl_tree.specs.Changes.{Changed, ChangedTwo, TakesFound};
 ghost use Rattle.avl_tree.specs.Map.{entries, get, IsShallow};
-ghost use Rattle.avl_tree.specs.Nodes.{entry, with_first, search_of, IsBare, IsWhole};
+ghost use Rattle.avl_tree.specs.Nodes.{entry, with_first, search_of, IsBare, IsWholeTree};
 ghost use Rattle.avl_tree.specs.Search.{path_length};
 ghost use Rattle.avl_tree.specs.Visits.{between, VisitsTo};
 
@@ -44,11 +44,11 @@ impl<K: Ord + Copy, V, A: Allocator + Clone> Model for AvlMap<K, V, A> {
 
     ghost coded = { map_code K.code V.code };
 
-    ghost use Rattle.avl_tree.specs.Nodes.{search_of, IsWhole};
+    ghost use Rattle.avl_tree.specs.Nodes.{search_of, IsWholeTree};
 
     ghost view = { λ m. record { tree = search_of m.root; spare = m.spare } };
 
-    ghost invariant = { λ m. IsWhole K.cmp m.root m.len m.spare };
+    ghost invariant = { λ m. IsWholeTree K.cmp m.root m.len m.spare };
 
     ghost also_owns = { λ _. ftrue };
 
@@ -107,7 +107,7 @@ fn retire<K: Copy, V: Default, A: Allocator>(
 impl<K: Ord + Copy, V, A: Allocator + Clone> AvlMap<K, V, A> {
     /// The map of these parts.
     fn of(root: Tree<K, V, A>, len: usize, spare: SpareNodes<K, V, A>, alloc: A) -> Self
-        requires { IsWhole K.cmp root len spare }
+        requires { IsWholeTree K.cmp root len spare }
         ensures tree { result.tree ≡ search_of root }
         ensures spare { result.spare ≡ spare }
     {

@@ -1,6 +1,6 @@
 // Nodes that wait for an entry.
 ghost use Rattle.std.specs.Prelude.{◌≡◌, ◌+◌, ◌<◌, ◌≤◌, ◌^◌, max, IfOk};
-ghost use Rattle.avl_tree.specs.Nodes.{IsBare, IsSpareChain, chain_length};
+ghost use Rattle.avl_tree.specs.Nodes.{IsBare, IsSpareChain, nodes_in_chain};
 
 use crate::tree::{Node, Tree, put, take};
 use std::alloc::{AllocError, Allocator};
@@ -17,11 +17,11 @@ impl<K, V, A: Allocator> Model for SpareNodes<K, V, A> {
 
     ghost Value = { ℕ };
 
-    ghost use Rattle.avl_tree.specs.Nodes.{IsSpareChain, chain_length};
+    ghost use Rattle.avl_tree.specs.Nodes.{IsSpareChain, nodes_in_chain};
 
     ghost view = { λ s. s.count };
 
-    ghost invariant = { λ s. IsSpareChain s.first × (s.count ≡ chain_length s.first) };
+    ghost invariant = { λ s. IsSpareChain s.first × (s.count ≡ nodes_in_chain s.first) };
 }
 
 impl<K: Drop, V: Drop, A: Allocator> Drop for SpareNodes<K, V, A> {

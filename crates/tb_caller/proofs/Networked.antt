@@ -18,7 +18,7 @@ use Rattle.tb_caller.specs.Clients.{open_request, heard}
 use Rattle.tb_caller.specs.Endpoints.{Endpoint, Act, MayAct, acted, IsAmong, returned_by}
 use Rattle.tb_caller.specs.Endpoints.Act.{Call, Send, Hear, Store, Restart}
 use Rattle.tb_caller.specs.Calls.{NoneInvented, IsAnswered}
-use Rattle.tb_caller.specs.Networks.{World, Event, frames_of, IsReadFrom, WasGiven, MayHappen, happens, Runs, run, begun, BeginsWith, CallsOnce, NeverRefused}
+use Rattle.tb_caller.specs.Networks.{World, Event, frames_of, IsReadFrom, WasGiven, MayHappen, happens, Runs, run, begun, BeginsWithOthers, CallsOnce, NeverRefused}
 use Rattle.tb_caller.specs.Networks.Event.{Client, Enter, Answer_by}
 use Rattle.tb_caller.proofs.Frames.{one_reply, sent_by_frame, answer_has_frame}
 use Rattle.tb_caller.proofs.Lists.{each_among}
@@ -125,7 +125,7 @@ module _ (profile : Profile) (clients_max : ℕ) (mark : Option ℕ) where
     on_run w [] on runs = on
     on_run w (event ∷ events) on runs = on_run (happens profile clients_max mark ours w event) events (on_event w on event runs.0) runs.1
 
-    on_begun : (h : List Entry) → BeginsWith profile clients_max mark ours h → IsRun (begun h)
+    on_begun : (h : List Entry) → BeginsWithOthers profile clients_max mark ours h → IsRun (begun h)
     on_begun h begins = record {
       legal = begins.legal;
       requests = begins.requests;

@@ -8,7 +8,8 @@ use Rattle.tb_records.specs.Same.{same_body}
 use Rattle.tb_records.proofs.OneBody.{body_same}
 use Rattle.tb_sessions.specs.declared.rows.Row.{Row}
 use Rattle.tb_sessions.specs.declared.classes.Class.TheVariants.{New, Repeat}
-use Rattle.tb_sessions.specs.Judged.{client_of, row_of, class_by, class_of}
+use Rattle.tb_sessions.specs.Judged.{row_of, class_of, client_of}
+use Rattle.tb_sessions.proofs.ByRow.{class_by}
 use Rattle.tb_machine.specs.declared.entries.Entry.{Entry}
 use Rattle.tb_machine.specs.Histories.{State, session_of}
 use Rattle.tb_machine.specs.HistoryLaws.{HasSession}

@@ -3,7 +3,7 @@ use Rattle.std.proofs.Common.{◌≡◌, ℕ, inl, inr, List, [], ◌∷◌, ◌
 use Rattle.std.specs.List.{flat_map}
 use Rattle.tb_records.specs.Messages.{Answer, status_code}
 use Rattle.tb_records.specs.Ordered.{Each}
-use Rattle.tb_records.specs.ReplyFrames.{header_of_reply, reply_body_bytes, reply_bytes, IsReply}
+use Rattle.tb_records.specs.ReplyFrames.{reply_body_bytes, reply_bytes, IsReply, reply_header_bytes}
 use Rattle.tb_records.proofs.ReplyLaws.{one_reading}
 use Rattle.tb_records.proofs.ReplyPlaces.{length-reply_header}
 use Rattle.tb_caller.specs.Endpoints.{IsAmong}
@@ -18,7 +18,7 @@ among_frames [] earlier a rest all others is same =
       ap length same,
       length-append (flat_map reply_bytes earlier) (reply_bytes a ++ rest),
       length-append (reply_bytes a) rest,
-      length-append (header_of_reply a (length (reply_body_bytes a.body))) (reply_body_bytes a.body),
+      length-append (reply_header_bytes a.client a.session a.request a.operation (status_code a.status) (length (reply_body_bytes a.body)) a.commit) (reply_body_bytes a.body),
       length-reply_header a.client a.session a.request a.operation (status_code a.status) (length (reply_body_bytes a.body)) a.commit,
     ))
 among_frames (y ∷ ys) [] a rest all others is same = inl (sym (one_reading y a (flat_map reply_bytes ys) rest all.0 is same).0)

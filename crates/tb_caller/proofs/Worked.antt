@@ -11,13 +11,13 @@ use Rattle.tb_machine.specs.Dumps.{IsLegalWith}
 use Rattle.tb_machine.specs.ReplyLaws.{HoldRequests}
 use Rattle.tb_caller.specs.Endpoints.{IsAmong}
 use Rattle.tb_caller.specs.Networks.{IsReadFrom}
-use Rattle.tb_caller.specs.Worked.{register, lookup, first, second, answer_in, BothReturn}
+use Rattle.tb_caller.specs.Worked.{worked_register, worked_lookup, first, second_entry, answer_in, BothReturn}
 use Rattle.tb_caller.proofs.Frames.{answer_has_frame}
 
-register_is : IsRequest register
+register_is : IsRequest worked_register
 register_is = record { client = omega arith; session = omega arith; request = omega arith; items = tt; lawful = refl }
 
-lookup_is : IsRequest lookup
+lookup_is : IsRequest worked_lookup
 lookup_is = record { client = omega arith; session = omega arith; request = omega arith; items = one; lawful = refl }
   where
     one : All IsId (5 ∷ [])
@@ -25,7 +25,7 @@ lookup_is = record { client = omega arith; session = omega arith; request = omeg
     one (suc k) d within = absurd (omega (arith, within))
 
 abbrev both : List Entry
-both = first ∷ second ∷ []
+both = first ∷ second_entry ∷ []
 
 legal : IsLegalWith One 4 None both
 legal = (refl, (refl, tt))
@@ -52,7 +52,7 @@ both_return = (
         (
           (([], refl), register_is),
           (
-            (inl refl, read _ (first ∷ []) register (second ∷ [], refl) register_is (inl refl)),
+            (inl refl, read _ (first ∷ []) worked_register (second_entry ∷ [], refl) register_is (inl refl)),
             (
               (refl, tt),
               (
@@ -70,9 +70,9 @@ both_return = (
                           (
                             (([], refl), lookup_is),
                             (
-                              (inl refl, read _ (first ∷ []) lookup (second ∷ [], refl) lookup_is (inr (inl refl))),
+                              (inl refl, read _ (first ∷ []) worked_lookup (second_entry ∷ [], refl) lookup_is (inr (inl refl))),
                               (
-                                (inl refl, read _ both lookup ([], refl) lookup_is (inl refl)),
+                                (inl refl, read _ both worked_lookup ([], refl) lookup_is (inl refl)),
                                 tt,
                               ),
                             ),

@@ -25,11 +25,11 @@ pub record Client : Type 0 where
   pub last : ℕ  -- the number of the last request that was made, 0 before
   pub phase : Phase
 
-abbrev pub client_of : ℕ → ℕ → ℕ → Phase → Client
-client_of id session last phase = record { id = id; session = session; last = last; phase = phase }
+abbrev pub client_with : ℕ → ℕ → ℕ → Phase → Client
+client_with id session last phase = record { id = id; session = session; last = last; phase = phase }
 
 abbrev pub fresh : ℕ → Client
-fresh id = client_of id 0 0 Unregistered
+fresh id = client_with id 0 0 Unregistered
 
 -- the request that waits for its reply: it may be sent, again and again
 abbrev pub open_request : Phase → Option Message

@@ -79,7 +79,7 @@ abbrev pub begun : List Entry → World
 begun h = record { clients = started; history = h; given = [] }
 
 -- a history to begin with, of requests of others
-pub record BeginsWith (profile : Profile) (clients_max : ℕ) (mark : Option ℕ) (ours : ℕ → Bool) (h : List Entry) : Type 0 where
+pub record BeginsWithOthers (profile : Profile) (clients_max : ℕ) (mark : Option ℕ) (ours : ℕ → Bool) (h : List Entry) : Type 0 where
   pub legal : IsLegalWith profile clients_max mark h
   pub requests : HoldRequests h
   pub others : Each (λ (e : Entry). ours e.request.client ≡ false) h
@@ -87,7 +87,7 @@ pub record BeginsWith (profile : Profile) (clients_max : ℕ) (mark : Option ℕ
 -- any clients and any schedule, from any such history
 abbrev pub CallsOnce : Type 0
 CallsOnce = (profile : Profile) (clients_max : ℕ) (mark : Option ℕ) (ours : ℕ → Bool) (h : List Entry) (events : List Event)
-    → BeginsWith profile clients_max mark ours h
+    → BeginsWithOthers profile clients_max mark ours h
     → Runs profile clients_max mark ours (begun h) events
     → (id : ℕ) → ours id ≡ true
     → let w = run profile clients_max mark ours (begun h) events in
@@ -96,7 +96,7 @@ CallsOnce = (profile : Profile) (clients_max : ℕ) (mark : Option ℕ) (ours : 
 -- while the session is in the server's table, the request that a client waits for is entered next or has its reply: it is never refused
 abbrev pub NeverRefused : Type 0
 NeverRefused = (profile : Profile) (clients_max : ℕ) (mark : Option ℕ) (ours : ℕ → Bool) (h : List Entry) (events : List Event)
-    → BeginsWith profile clients_max mark ours h
+    → BeginsWithOthers profile clients_max mark ours h
     → Runs profile clients_max mark ours (begun h) events
     → (id : ℕ) (r : Message) → ours id ≡ true → IsCall r
     → let w = run profile clients_max mark ours (begun h) events in

@@ -1,4 +1,4 @@
--- A schedule in which a register and a lookup return: the premises of the laws can be met.
+-- A schedule in which a worked_register and a worked_lookup return: the premises of the laws can be met.
 use Rattle.std.specs.Prelude.{ℕ, true, ◌≡◌, List, [], ◌∷◌, length, None}
 use Rattle.tb_records.specs.declared.bodies.Body.TheVariants.{Register, LookupAccounts}
 use Rattle.tb_records.specs.declared.limits.Profile.TheVariants.{One}
@@ -10,40 +10,40 @@ use Rattle.tb_caller.specs.Endpoints.Act.{Call, Send, Hear, Store, Restart}
 use Rattle.tb_caller.specs.Networks.{Event, Runs, run, begun}
 use Rattle.tb_caller.specs.Networks.Event.{Client, Enter, Answer_by}
 
-abbrev pub register : Message
-register = asked 7 0 0 Register
+abbrev pub worked_register : Message
+worked_register = asked 7 0 0 Register
 
-abbrev pub lookup : Message
-lookup = asked 7 1 1 (LookupAccounts (5 ∷ []))
+abbrev pub worked_lookup : Message
+worked_lookup = asked 7 1 1 (LookupAccounts (5 ∷ []))
 
 abbrev pub first : Entry
-first = record { commit = 1; time = 1; request = register }
+first = record { commit = 1; time = 1; request = worked_register }
 
-abbrev pub second : Entry
-second = record { commit = 2; time = 2; request = lookup }
+abbrev pub second_entry : Entry
+second_entry = record { commit = 2; time = 2; request = worked_lookup }
 
 abbrev pub answer_in : List Entry → Message → Answer
 answer_in h r = answer_to (next_in One 4 None h) r
 
--- the lookup's process ends while the lookup waits, and another one goes on; a stale NotYet comes between, and the frame comes twice
-abbrev pub events : List Event
-events =
+-- the lookup's process ends while the worked_lookup waits, and another one goes on; a stale NotYet comes between, and the frame comes twice
+abbrev pub worked_events : List Event
+worked_events =
     Client 7 (Call Register)
-    ∷ Client 7 (Send register)
+    ∷ Client 7 (Send worked_register)
     ∷ Enter first
-    ∷ Answer_by (first ∷ []) register
-    ∷ Client 7 (Hear (answer_in (first ∷ []) register))
+    ∷ Answer_by (first ∷ []) worked_register
+    ∷ Client 7 (Hear (answer_in (first ∷ []) worked_register))
     ∷ Client 7 (Call (LookupAccounts (5 ∷ [])))
     ∷ Client 7 Store
-    ∷ Client 7 (Send lookup)
-    ∷ Answer_by (first ∷ []) lookup
-    ∷ Enter second
+    ∷ Client 7 (Send worked_lookup)
+    ∷ Answer_by (first ∷ []) worked_lookup
+    ∷ Enter second_entry
     ∷ Client 7 Restart
-    ∷ Client 7 (Send lookup)
-    ∷ Answer_by (first ∷ second ∷ []) lookup
-    ∷ Client 7 (Hear (answer_in (first ∷ []) lookup))
-    ∷ Client 7 (Hear (answer_in (first ∷ second ∷ []) lookup))
+    ∷ Client 7 (Send worked_lookup)
+    ∷ Answer_by (first ∷ second_entry ∷ []) worked_lookup
+    ∷ Client 7 (Hear (answer_in (first ∷ []) worked_lookup))
+    ∷ Client 7 (Hear (answer_in (first ∷ second_entry ∷ []) worked_lookup))
     ∷ []
 
 abbrev pub BothReturn : Type 0
-BothReturn = Runs One 4 None (λ (id : ℕ). true) (begun []) events × (length ((run One 4 None (λ (id : ℕ). true) (begun []) events).clients 7).returned ≡ 2)
+BothReturn = Runs One 4 None (λ (id : ℕ). true) (begun []) worked_events × (length ((run One 4 None (λ (id : ℕ). true) (begun []) worked_events).clients 7).returned ≡ 2)

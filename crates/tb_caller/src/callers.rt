@@ -1,6 +1,6 @@
 //! The session of one client.
 ghost use Rattle.std.specs.Prelude.{◌≡◌, MatchOption, Some, None, Ok, Err};
-ghost use Rattle.tb_caller.specs.Clients.{client_of, fresh, open_request, request_fault, field_fault, called, names, heard_by, heard, received, ended_in, IsMade, Makes, WritesCall, WritesAgain, ReadsReply};
+ghost use Rattle.tb_caller.specs.Clients.{client_with, fresh, open_request, request_fault, field_fault, called, names, heard_by, heard, received, ended_in, IsMade, Makes, WritesCall, WritesAgain, ReadsReply};
 
 use crate::faults::{CallFault, FieldFault};
 use std::alloc::{AllocError, Global};
@@ -121,7 +121,7 @@ impl Caller {
         last: u32,
         phase: Phase,
     ) -> Result<Caller, FieldFault>
-        ensures { let c = client_of id session last phase in
+        ensures { let c = client_with id session last phase in
             MatchOption (field_fault c) (result ≡ Ok c) (λ f. result ≡ Err f) }
     {
         let caller = Caller {

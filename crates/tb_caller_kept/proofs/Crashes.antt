@@ -9,7 +9,7 @@ use Rattle.tb_journal.specs.Device.{Disk}
 use Rattle.tb_machine.specs.declared.entries.Entry.{Entry}
 use Rattle.tb_machine.specs.Histories.{State}
 use Rattle.tb_machine.specs.Scripts.{Pair, after_pair}
-use Rattle.tb_keep.specs.Keeping.{History, state_of, longer, IsKeepable, IsLedger}
+use Rattle.tb_keep.specs.Keeping.{History, history_state, longer, IsKeepable, IsLedger}
 use Rattle.tb_keep.specs.Rounds.{entries_from, answers_from, AreServed}
 use Rattle.tb_keep.proofs.Lasting.{lasts, served_front}
 use Rattle.tb_keep.proofs.OneHistory.{one_history}
@@ -30,9 +30,9 @@ replies_spelled S (p ∷ ps) served = (served.0.reply, replies_spelled (after_pa
 -- after some pairs
 module _ (h : History) (ps : List Pair) where
   abbrev next : History
-  next = longer h (entries_from (state_of h) ps)
+  next = longer h (entries_from (history_state h) ps)
 
-  answer_after : (a : Answer) → IsAmong a (answers_from (state_of h) ps) → IsAnswered h.profile h.clients_max None next.entries a
+  answer_after : (a : Answer) → IsAmong a (answers_from (history_state h) ps) → IsAnswered h.profile h.clients_max None next.entries a
   answer_after a is =
       subst (λ (l : List Entry). IsAnswered h.profile h.clients_max None l a) (sym (entries_are h.profile h.clients_max h.entries ps))
       (each_among (IsAnswered h.profile h.clients_max None _) a _ (answered h.profile h.clients_max h.entries ps)
@@ -56,21 +56,21 @@ module _ (tells : Type 0) {D : Type 0} (disk : D → Disk) (id : ℕ) (sent : Li
 
   -- of one run
   module _ (h : History) (r : Run D) (keepable : IsKeepable h) (is : IsRunFrom tells disk h r) where
-    stands : IsLedger (longer h (entries_from (state_of h) is.backs.pairs)) r.file
+    stands : IsLedger (longer h (entries_from (history_state h) is.backs.pairs)) r.file
     stands = lasts tells disk h r.first r.all r.file r.bytes keepable is.began is.state is.served is.backs
 
-    served : AreServed (state_of h) is.backs.pairs
-    served = served_front (state_of h) is.backs.pairs is.backs.others
-        (subst (AreServed (state_of h)) is.backs.all_are (subst (λ (S : State). AreServed S r.all) is.state is.served))
+    served : AreServed (history_state h) is.backs.pairs
+    served = served_front (history_state h) is.backs.pairs is.backs.others
+        (subst (AreServed (history_state h)) is.backs.all_are (subst (λ (S : State). AreServed S r.all) is.state is.served))
 
-    read_among : (a : Answer) → IsReadIn r.bytes a → IsAmong a (answers_from (state_of h) is.backs.pairs)
+    read_among : (a : Answer) → IsReadIn r.bytes a → IsAmong a (answers_from (history_state h) is.backs.pairs)
     read_among a read =
-        reads_what_was_sent (answers_from (state_of h) is.backs.pairs) r.bytes is.backs.untold a (replies_spelled (state_of h) is.backs.pairs served)
+        reads_what_was_sent (answers_from (history_state h) is.backs.pairs) r.bytes is.backs.untold a (replies_spelled (history_state h) is.backs.pairs served)
         (ap (λ (S : State). flat_map reply_bytes (answers_from S is.backs.pairs)) (sym is.state) ∙ is.backs.told) read
 
   -- the history that a run leaves
   abbrev after_run : (h : History) (r : Run D) → IsRunFrom tells disk h r → History
-  after_run h r is = longer h (entries_from (state_of h) is.backs.pairs)
+  after_run h r is = longer h (entries_from (history_state h) is.backs.pairs)
 
   one_run : (h : History) (r : Run D) → IsKeepable h → (is : IsRunFrom tells disk h r) → NoneInvented id sent h.entries → OnlySent r.all → NoneInvented id sent (after_run h r is).entries
   one_run h r keepable is none only =
@@ -81,8 +81,8 @@ module _ (tells : Type 0) {D : Type 0} (disk : D → Disk) (id : ℕ) (sent : Li
   join : (h k : History) (r : Run D) (runs : List (Run D)) (keepable : IsKeepable h) (is : IsRunFrom tells disk h r) → LeadsTo (after_run h r is) k runs → LeadsTo h k (r ∷ runs)
   join h k r runs keepable is rest = record {
     keepable = rest.keepable;
-    more = entries_from (state_of h) is.backs.pairs ++ rest.more;
-    grown = ap (λ (l : List Entry). record { profile = h.profile; clients_max = h.clients_max; entries = l }) (sym (append_assoc h.entries (entries_from (state_of h) is.backs.pairs) rest.more)) ∙ rest.grown;
+    more = entries_from (history_state h) is.backs.pairs ++ rest.more;
+    grown = ap (λ (l : List Entry). record { profile = h.profile; clients_max = h.clients_max; entries = l }) (sym (append_assoc h.entries (entries_from (history_state h) is.backs.pairs) rest.more)) ∙ rest.grown;
     none = rest.none;
     given = given;
   }

@@ -5,7 +5,7 @@ use Rattle.tb_records.specs.Ordered.{Each}
 use Rattle.tb_journal.specs.Device.{Disk}
 use Rattle.tb_journal.specs.Contents.{recorded}
 use Rattle.tb_machine.specs.Scripts.{Pair}
-use Rattle.tb_keep.specs.Keeping.{History, state_of, records_of, IsKeepable, IsLedger}
+use Rattle.tb_keep.specs.Keeping.{History, history_state, records_of, IsKeepable, IsLedger}
 use Rattle.tb_keep.specs.Rounds.{Standing, AreServed}
 use Rattle.tb_keep.specs.Moments.{Backs}
 use Rattle.tb_caller.specs.Endpoints.{IsAmong}
@@ -28,7 +28,7 @@ module _ (tells : Type 0) {D : Type 0} (disk : D → Disk) where
   -- it began with the file of a history, and whatever it acknowledged is in the file that it left
   pub record IsRunFrom (h : History) (r : Run D) : Type 0 where
     pub began : recorded (disk r.first.device).seen ≡ records_of h
-    pub state : r.first.state ≡ state_of h
+    pub state : r.first.state ≡ history_state h
     pub served : AreServed r.first.state r.all
     pub backs : Backs tells disk r.first r.all r.file r.bytes
 

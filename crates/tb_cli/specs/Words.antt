@@ -4,7 +4,7 @@ use Rattle.std.specs.Char.{is_ascii_digit}
 use Rattle.std.specs.List.{list_all, list_any}
 use Rattle.std.specs.Option.{option_map}
 use Rattle.std.specs.Cmp.Lexicographic.{pointwise}
-use Rattle.tb_commands.specs.Forms.{clients_of, profile_of, commit_of}
+use Rattle.tb_commands.specs.Forms.{clients_of, profile_word, commit_of}
 use Rattle.tb_records.specs.declared.limits.Profile.TheVariants.{One, Two}
 use Rattle.tb_cli.specs.declared.faults.Fault.{Fault}
 use Rattle.tb_cli.specs.declared.faults.Fault.TheVariants as fault
@@ -40,7 +40,7 @@ abbrev pub with_operand : Given → Operand → ℕ → List ℕ → Option Give
 with_operand given operand.File at word = if is_number word then None else Some (record given { file = Some at })
 with_operand given operand.New at word = if is_number word then None else Some (record given { new = Some at })
 with_operand given operand.ClientsMax at word = option_map (λ clients. record given { clients_max = Some clients }) (clients_of word)
-with_operand given operand.Profile at word = option_map (λ profile. record given { profile = profile }) (profile_of word)
+with_operand given operand.Profile at word = option_map (λ profile. record given { profile = profile }) (profile_word word)
 
 -- with an option, if it was not given before
 abbrev pub with_option : Given → OptionName → Option Given
@@ -102,8 +102,8 @@ reads name reader at (word ∷ rest) =
     elim (with_word name reader at word) [ Ok after ↦ reads name after (at + 1) rest | Err wrong ↦ Err (record { shown = at + 1; fault = wrong }) ]
 
 -- before the first word
-abbrev pub start : Reader
-start = record { given = nothing; operands = 0; waits = false }
+abbrev pub first_reader : Reader
+first_reader = record { given = nothing; operands = 0; waits = false }
 
 -- `-h` is `--help`
 abbrev pub whole_word : List ℕ → List ℕ
@@ -119,7 +119,7 @@ form_given name (Err wrong) = Err wrong
 -- words behind that of a form: one of them asks for help, or they are what the form takes
 abbrev pub asked_by : Option FormName → List (List ℕ) → Result Asked Wrong
 asked_by None rest = Err (record { shown = 1; fault = fault.NoForm })
-asked_by (Some name) rest = if list_any is_help rest then Ok (Help name) else form_given name (reads name start 1 rest)
+asked_by (Some name) rest = if list_any is_help rest then Ok (Help name) else form_given name (reads name first_reader 1 rest)
 
 -- the form of a word, among these
 abbrev pub form_named : List FormName → List ℕ → Option FormName
@@ -155,11 +155,11 @@ missing_text name operand.New = codes "NEW is missing"
 missing_text name operand.ClientsMax = CLIENTS_MISSING.now
 missing_text name operand.Profile = codes "PROFILE is missing"
 
-abbrev pub wrong_text : Operand → List ℕ
-wrong_text operand.File = codes "FILE is a number; write ./FILE"
-wrong_text operand.New = codes "NEW is a number; write ./NEW"
-wrong_text operand.ClientsMax = CLIENTS_WRONG.now
-wrong_text operand.Profile = codes "PROFILE is 1 or 2"
+abbrev pub wrong_operand_text : Operand → List ℕ
+wrong_operand_text operand.File = codes "FILE is a number; write ./FILE"
+wrong_operand_text operand.New = codes "NEW is a number; write ./NEW"
+wrong_operand_text operand.ClientsMax = CLIENTS_WRONG.now
+wrong_operand_text operand.Profile = codes "PROFILE is 1 or 2"
 
 abbrev pub option_text : FormName → List ℕ
 option_text form.Run = codes "unknown option; those of run are --existing, --progress and --drop-torn"
@@ -169,15 +169,15 @@ option_text form.Check = codes "unknown option; that of check is --quick"
 option_text form.Memory = codes "unknown option; follow-memory has none"
 option_text name = codes "unknown option; write ./NAME for a file of that name"
 
-abbrev pub fault_text : Fault → List ℕ
-fault_text fault.NoForm = codes "unknown; --help shows the forms"
-fault_text (fault.NoOption name) = option_text name
-fault_text fault.Twice = codes "an option is given once"
-fault_text (fault.Wrong next) = wrong_text next
-fault_text fault.WrongValue = codes "COMMIT is 0 to 9223372036854775807"
-fault_text fault.TooMany = codes "too many words"
-fault_text (fault.Missing name next) = missing_text name next
-fault_text fault.NoValue = codes "COMMIT is missing, 0 to 9223372036854775807"
+abbrev pub word_fault_text : Fault → List ℕ
+word_fault_text fault.NoForm = codes "unknown; --help shows the forms"
+word_fault_text (fault.NoOption name) = option_text name
+word_fault_text fault.Twice = codes "an option is given once"
+word_fault_text (fault.Wrong next) = wrong_operand_text next
+word_fault_text fault.WrongValue = codes "COMMIT is 0 to 9223372036854775807"
+word_fault_text fault.TooMany = codes "too many words"
+word_fault_text (fault.Missing name next) = missing_text name next
+word_fault_text fault.NoValue = codes "COMMIT is missing, 0 to 9223372036854775807"
 
 -- rows
 

@@ -1,6 +1,6 @@
 //! What is wrong with words that no form takes.
 ghost use Rattle.std.specs.Prelude.{◌≡◌};
-ghost use Rattle.tb_cli.specs.Words.{fault_text, file_text};
+ghost use Rattle.tb_cli.specs.Words.{word_fault_text, file_text};
 
 use crate::table::{FormName, Operand};
 use tb_commands::with_clients_range;
@@ -47,7 +47,7 @@ fn missing_file(form: FormName) -> &'static str
 impl Fault {
     /// What is wrong, as a line shows it behind the words.
     pub fn text(self) -> &'static str
-        ensures { result.now ≡ fault_text self }
+        ensures { result.now ≡ word_fault_text self }
     {
         match self {
             Fault::NoForm => "unknown; --help shows the forms",

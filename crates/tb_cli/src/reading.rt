@@ -4,7 +4,7 @@ ghost use Rattle.std.specs.Cmp.Lexicographic.{pointwise};
 ghost use Rattle.std.specs.List.{list_any};
 ghost use Rattle.std.specs.Option.{option_copied};
 ghost use Rattle.tb_cli.specs.Table.{operands_of, option_word, options_of};
-ghost use Rattle.tb_cli.specs.Words.{asked_by, asked_of, at_end, form_given, form_named, given_word, is_help, is_option, operand_next, option_named, reads, start, value_read, whole_word, with_value, with_word, word_at};
+ghost use Rattle.tb_cli.specs.Words.{asked_by, asked_of, at_end, form_given, form_named, given_word, is_help, is_option, operand_next, option_named, reads, first_reader, value_read, whole_word, with_value, with_word, word_at};
 
 use crate::faults::{Fault, Wrong};
 use crate::given::{Given, NOTHING, with_operand, with_option, with_value};
@@ -138,7 +138,7 @@ fn read_end(form: FormName, reader: Reader, at: usize) -> Result<Given, Wrong>
 /// What the words from a place on give for a form; or which of them is wrong, and how.
 fn read_from(form: FormName, words: &[String], from: usize) -> Result<Given, Wrong>
     requires { from ≤ length words.now }
-    ensures { result ≡ reads form start from (map string_bytes (drop from words.now)) }
+    ensures { result ≡ reads form first_reader from (map string_bytes (drop from words.now)) }
 {
     let mut reader = START;
     for at in from..words.len() {

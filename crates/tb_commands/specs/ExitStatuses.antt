@@ -50,17 +50,17 @@ outcome_exit_status (Ok count) = 0
 outcome_exit_status (Err fault) = fault_exit_status fault
 
 -- a fault's name, as its line shows it
-abbrev pub fault_name : CommandFault → List ℕ
-fault_name Usage = codes "Usage"
-fault_name (Serving fault) = run_fault_name fault
-fault_name (Replaying fault) = dump_fault_name fault
+abbrev pub command_fault_name : CommandFault → List ℕ
+command_fault_name Usage = codes "Usage"
+command_fault_name (Serving fault) = run_fault_name fault
+command_fault_name (Replaying fault) = dump_fault_name fault
 
 -- the line of a fault with a name
 abbrev pub line_named : List ℕ → List ℕ
 line_named name = codes "tbs: " ++ name ++ codes "\n"
 
 abbrev pub fault_line : CommandFault → List ℕ
-fault_line fault = line_named (fault_name fault)
+fault_line fault = line_named (command_fault_name fault)
 
 -- a line was written, or a prefix of it, where the writer failed or took nothing
 abbrev pub PrintsLine : List ℕ → Output → Output → Type 0

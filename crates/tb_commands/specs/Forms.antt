@@ -39,13 +39,13 @@ id_of word = within 0 (2 ^ 128 - 1) (number_of word)
 abbrev pub clients_of : List ℕ → Option ℕ
 clients_of word = within 1 CLIENTS_MAX (number_of word)
 
-abbrev pub profile_by : Option ℕ → Option Profile
-profile_by None = None
-profile_by (Some n) = Some (if nat_le n 1 then One else Two)
+abbrev pub given_profile : Option ℕ → Option Profile
+given_profile None = None
+given_profile (Some n) = Some (if nat_le n 1 then One else Two)
 
 -- profile 1 or 2
-abbrev pub profile_of : List ℕ → Option Profile
-profile_of word = profile_by (within 1 2 (number_of word))
+abbrev pub profile_word : List ℕ → Option Profile
+profile_word word = given_profile (within 1 2 (number_of word))
 
 abbrev pub run_by : Option ℕ → Option Profile → Option Form
 run_by None profile = None
@@ -88,7 +88,7 @@ form_with word clients =
 -- `run CLIENTS_MAX PROFILE` or `dump CLIENTS_MAX AT`
 abbrev pub form_with_two : List ℕ → List ℕ → List ℕ → Option Form
 form_with_two word clients last =
-    if is_run word then run_by (clients_of clients) (profile_of last)
+    if is_run word then run_by (clients_of clients) (profile_word last)
     else if is_dump word then dump_at_by (clients_of clients) (commit_of last)
     else None
 

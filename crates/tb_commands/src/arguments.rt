@@ -1,6 +1,6 @@
 //! What the words of the command line ask for.
 ghost use Rattle.std.specs.Prelude.{◌≡◌, ◌<◌, ◌≤◌, map, string_bytes, IfSome, Some, None, if◌then◌else◌};
-ghost use Rattle.tb_commands.specs.Forms.{digit_of, number_of, with_digit, within, clients_of, profile_of, id_of, commit_of, form_alone, form_with, form_with_two, form_of};
+ghost use Rattle.tb_commands.specs.Forms.{digit_of, number_of, with_digit, within, clients_of, profile_word, id_of, commit_of, form_alone, form_with, form_with_two, form_of};
 
 use tb_records::{CLIENTS_MAX, ClientsMax, Profile};
 
@@ -84,7 +84,7 @@ pub fn read_clients_max(word: &[u8]) -> Option<ClientsMax>
 
 /// The profile that a word spells, 1 or 2.
 pub fn read_profile(word: &[u8]) -> Option<Profile>
-    ensures { result ≡ profile_of word.now }
+    ensures { result ≡ profile_word word.now }
 {
     let n = number(word, 1, 2)?;
     Some(if n <= 1 { Profile::One } else { Profile::Two })

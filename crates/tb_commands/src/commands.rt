@@ -1,6 +1,6 @@
 //! The forms `run`, `dump` and `replay`, over any reader and writer, and the exit status of each outcome.
 ghost use Rattle.std.specs.Prelude.{◌≡◌, ◌<◌, map, string_bytes};
-ghost use Rattle.tb_commands.specs.ExitStatuses.{fault_exit_status, fault_name, fault_line, On, PrintsLine, PrintsUsage, PerformsOn, RefusesWords, ServesWords};
+ghost use Rattle.tb_commands.specs.ExitStatuses.{fault_exit_status, command_fault_name, fault_line, On, PrintsLine, PrintsUsage, PerformsOn, RefusesWords, ServesWords};
 
 use crate::arguments::{Form, read_form};
 use crate::lines::{LINE_BYTES, line_of, put_line};
@@ -61,7 +61,7 @@ impl CommandFault {
 
     /// The fault's name, as its line shows it.
     pub fn name(self) -> &'static str
-        ensures { result.now ≡ fault_name self }
+        ensures { result.now ≡ command_fault_name self }
     {
         match self {
             CommandFault::Usage => "Usage",

@@ -11,8 +11,8 @@ use Rattle.tb_caller.specs.declared.callers.Phase.{Phase}
 use Rattle.tb_caller.specs.declared.callers.Phase.TheVariants.{Unregistered, Open, Idle, Ended}
 use Rattle.tb_caller.specs.declared.faults.CallFault.TheVariants as call
 use Rattle.tb_caller.specs.declared.faults.FieldFault.{FieldFault}
-use Rattle.tb_caller.specs.Clients.{Client, client_of, field_fault, heard, ended_in, moved, received}
-use Rattle.tb_embed.specs.Calls.{id_of}
+use Rattle.tb_caller.specs.Clients.{Client, client_with, field_fault, heard, ended_in, moved, received}
+use Rattle.tb_embed.specs.Calls.{id_of_halves}
 use Rattle.tb_embed.specs.Callers.{HasNumbers, HasFrame, IsClient, CallsBody, CallsFrame, Checks, phase_number, step_length}
 use Rattle.tb_embed.specs.private.Calling.{IsResting, stored}
 use Rattle.tb_embed.specs.declared.steps.Step.{Step}
@@ -33,37 +33,37 @@ abbrev IsOf : Client → Client → Option FieldFault → Type 0
 IsOf made c fault = MatchOption fault (read c ≡ read made) (λ f. read c ≡ Err f)
 
 pub numbers_read : (kept : TbCaller) (id : ℕ) (phase : Phase) (c : Client)
-    → id ≡ id_of kept.id_low kept.id_high
+    → id ≡ id_of_halves kept.id_low kept.id_high
     → kept.phase ≡ phase_number phase
-    → IsOf (client_of id kept.session kept.last phase) c (field_fault (client_of id kept.session kept.last phase))
+    → IsOf (client_with id kept.session kept.last phase) c (field_fault (client_with id kept.session kept.last phase))
     → IsRead kept phase c
-numbers_read kept id phase c id_is number fields = by (field_fault (client_of id kept.session kept.last phase)) refl fields
+numbers_read kept id phase c id_is number fields = by (field_fault (client_with id kept.session kept.last phase)) refl fields
   where
     made : Client
-    made = client_of id kept.session kept.last phase
+    made = client_with id kept.session kept.last phase
 
     by : (o : Option FieldFault) → field_fault made ≡ o → IsOf made c o → IsRead kept phase c
     by None right e = subst (λ (d : Client). IsRead kept phase d) (sym cc) (record { numbers = record { id = id_is; session = refl; last = refl; phase = number }; phase_is = refl; right = right })
     by (Some f) right e = absurd cc
 
 pub client_read : (kept : TbCaller) (frame : List ℕ) (id : ℕ) (phase : Phase) (c : Client)
-    → id ≡ id_of kept.id_low kept.id_high
+    → id ≡ id_of_halves kept.id_low kept.id_high
     → (kept.phase ≡ phase_number phase) × HasFrame frame phase
-    → IsOf (client_of id kept.session kept.last phase) c (field_fault (client_of id kept.session kept.last phase))
+    → IsOf (client_with id kept.session kept.last phase) c (field_fault (client_with id kept.session kept.last phase))
     → IsClient kept frame c × (field_fault c ≡ None)
 client_read kept frame id phase c id_is read fields =
     let is = numbers_read kept id phase c id_is read.0 fields in
     ((is.numbers, subst (λ (p : Phase). HasFrame frame p) is.phase_is read.1), is.right)
 
 -- a client whose request waits makes no other, whatever the request is
-waiting : (kept : TbCaller) (phase : Phase) → kept.phase ≡ phase_number phase → HasNumbers kept (client_of (id_of kept.id_low kept.id_high) kept.session kept.last phase)
+waiting : (kept : TbCaller) (phase : Phase) → kept.phase ≡ phase_number phase → HasNumbers kept (client_with (id_of_halves kept.id_low kept.id_high) kept.session kept.last phase)
 waiting kept phase number = record { id = refl; session = refl; last = refl; phase = number }
 
 pub not_resting : (s : Step) (kept : TbCaller) (body : Body) (room : List ℕ) → IsResting (Err s) kept.phase → CallsBody s kept kept body room
 not_resting (step.NoCall call.Unanswered) kept body room is =
-    (client_of (id_of kept.id_low kept.id_high) kept.session kept.last (Open (asked 0 0 0 body)), waiting kept (Open (asked 0 0 0 body)) is, inl refl, refl)
+    (client_with (id_of_halves kept.id_low kept.id_high) kept.session kept.last (Open (asked 0 0 0 body)), waiting kept (Open (asked 0 0 0 body)) is, inl refl, refl)
 not_resting (step.NoCall call.Ended) kept body room is =
-    (client_of (id_of kept.id_low kept.id_high) kept.session kept.last (Ended (asked 0 0 0 body)), waiting kept (Ended (asked 0 0 0 body)) is, inl refl, refl)
+    (client_with (id_of_halves kept.id_low kept.id_high) kept.session kept.last (Ended (asked 0 0 0 body)), waiting kept (Ended (asked 0 0 0 body)) is, inl refl, refl)
 not_resting (step.NoCall call.NotRegistered) kept body room is = absurd is
 not_resting (step.NoCall call.Registered) kept body room is = absurd is
 not_resting (step.NoCall call.NoNumber) kept body room is = absurd is

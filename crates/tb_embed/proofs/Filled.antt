@@ -6,7 +6,7 @@ use Rattle.tb_machine.specs.declared.serving.RunFault.TheVariants as fault
 use Rattle.tb_machine.specs.Histories.{State}
 use Rattle.tb_machine.specs.Scripts.{Pair}
 use Rattle.tb_machine.specs.Runs.{answer_bytes, AnswersPair}
-use Rattle.tb_embed.specs.private.Filling.{Fills, room_output}
+use Rattle.tb_embed.specs.private.Filling.{FillsRoom, room_output}
 
 named_same : (named name : ℕ) (front bytes : List ℕ) → named ∷ front ≡ name ∷ bytes → (named ≡ name) × (front ≡ bytes)
 named_same named name front bytes e = (cc, cc)
@@ -26,22 +26,22 @@ module _ (lent name named empty at stalled stalls : ℕ) (was is kept held : Boo
   bytes_are : named ≡ name → room ≡ bytes
   bytes_are e = sym (back (sym (e ∙ same)))
 
-  pub given_done : (n : ℕ) → n ≡ at → Served (Ok tt) → Fills (Ok n) S T p bytes
+  pub given_done : (n : ℕ) → n ≡ at → Served (Ok tt) → FillsRoom (Ok n) S T p bytes
   given_done n e turn =
       let found = begun (Ok tt) turn in
       let grown = named_same named name (take at room) (answer_bytes S p) found.2.grown in
-      subst (λ (k : ℕ). Fills (Ok k) S T p bytes) (sym e) (subst (Fills (Ok at) S T p) (bytes_are grown.0) (found.0, found.1, within, record { bytes_are = grown.1; is = found.3 }))
+      subst (λ (k : ℕ). FillsRoom (Ok k) S T p bytes) (sym e) (subst (FillsRoom (Ok at) S T p) (bytes_are grown.0) (found.0, found.1, within, record { bytes_are = grown.1; is = found.3 }))
 
-  broken : (f : RunFault) → Begun (Err f) → Fills (Err f) S T p bytes
+  broken : (f : RunFault) → Begun (Err f) → FillsRoom (Err f) S T p bytes
   broken (fault.Frame f) found =
       let grown = named_same named name (take at room) (take found.3.count (answer_bytes S p)) found.3.grown in
       let all : take at room ≡ room = take_all at room (omega (arith, full found.3.refused.last)) in
-      subst (Fills (Err (fault.Frame f)) S T p) (bytes_are grown.0) (found.0, found.1, (found.3.count, sym all ∙ grown.1))
+      subst (FillsRoom (Err (fault.Frame f)) S T p) (bytes_are grown.0) (found.0, found.1, (found.3.count, sym all ∙ grown.1))
   broken fault.NoMemory found = (found.0, found.1, found.2)
   broken fault.TimeExhausted found = (found.0, found.1, found.2)
   broken fault.TooLong found = absurd found
 
-  pub given_broken : (f : RunFault) → Served (Err f) → Fills (Err f) S T p bytes
+  pub given_broken : (f : RunFault) → Served (Err f) → FillsRoom (Err f) S T p bytes
   given_broken f turn = broken f (begun (Err f) turn)
 
 -- a prefix of the answer that fills the room is all of it, where the room is long enough

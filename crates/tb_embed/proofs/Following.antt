@@ -7,7 +7,7 @@ use Rattle.tb_records.specs.ReplyFrames.{reply_bytes, IsReply, SpellsReply}
 use Rattle.tb_records.proofs.Spellings.{spelled_once}
 use Rattle.tb_machine.specs.declared.entries.Entry.{Entry}
 use Rattle.tb_machine.specs.Histories.{State, after, answer_to}
-use Rattle.tb_machine.specs.Scripts.{Pair, after_pair, with_pair, has_time, accepted, replies_from}
+use Rattle.tb_machine.specs.Scripts.{Pair, after_pair, has_time, accepted, replies_from, grown}
 use Rattle.tb_machine.specs.Runs.{is_new_in, answer_bytes}
 use Rattle.tb_machine.specs.ScriptLaws.{AreLawful}
 use Rattle.tb_machine.proofs.Accepted.{accepted_is_legal}
@@ -15,8 +15,8 @@ use Rattle.tb_machine.proofs.Running.{after_with_pair}
 use Rattle.tb_embed.specs.declared.outcomes.Outcome.{Outcome}
 use Rattle.tb_embed.specs.declared.outcomes.Outcome.TheVariants.{Done, Closed, Usage, NoMemory, Unread, Malformed, TimeExhausted, Absent, TooSmall}
 use Rattle.tb_embed.specs.Calls.{ServesFrame}
-use Rattle.tb_embed.specs.CallRuns.{Call, Follow, answered, AreAsked, CallsMakeHistory, OneStatus}
-use Rattle.tb_embed.specs.Outcomes.{status_of}
+use Rattle.tb_embed.specs.CallRuns.{Call, Follow, answered_calls, AreAsked, CallsMakeHistory, OneStatus}
+use Rattle.tb_embed.specs.Outcomes.{outcome_status}
 use Rattle.tb_embed.proofs.Frames.{whole_frame}
 
 module _ (profile : Profile) (clients_max : ℕ) where
@@ -24,7 +24,7 @@ module _ (profile : Profile) (clients_max : ℕ) where
   record Goes (h : List Entry) (cs : List Call) (T : State) : Type 0 where
     pairs : List Pair
     lawful : AreLawful pairs
-    asked : AreAsked (answered cs) pairs (replies_from profile clients_max h pairs)
+    asked : AreAsked (answered_calls cs) pairs (replies_from profile clients_max h pairs)
     stands : T ≡ after profile clients_max (accepted profile clients_max h pairs)
 
   goes : (h : List Entry) (cs : List Call) (S T : State) → S ≡ after profile clients_max h → Follow S cs T → Goes h cs T
@@ -36,7 +36,7 @@ module _ (profile : Profile) (clients_max : ℕ) where
           → Goes h (record { moment = moment; bytes = bytes; outcome = outcome; room = room } ∷ cs) T
       by (Done n) moment bytes room U (r, spells, right) rest =
           let p : Pair = (moment, r) in
-          let m = with_pair profile clients_max h p in
+          let m = grown (after profile clients_max) h p in
           let there : U ≡ after profile clients_max m = right.1 ∙ ap (λ (S : State). after_pair S p) is ∙ sym (after_with_pair profile clients_max h p) in
           let more = rest m U there in
           record {
@@ -47,7 +47,7 @@ module _ (profile : Profile) (clients_max : ℕ) where
           }
       by (TooSmall n) moment bytes room U (r, spells, right) rest =
           let p : Pair = (moment, r) in
-          let m = with_pair profile clients_max h p in
+          let m = grown (after profile clients_max) h p in
           let there : U ≡ after profile clients_max m = right.1 ∙ ap (λ (S : State). after_pair S p) is ∙ sym (after_with_pair profile clients_max h p) in
           let more = rest m U there in
           record {
@@ -98,7 +98,7 @@ one_status S T U moment bytes room other a b mine yours same a_memory b_memory =
     late r s first second timely new none =
         no_time S (moment, s) (subst (λ (x : Message). is_new_in S (moment, x) ≡ true → has_time S (moment, x) ≡ true) (one_request bytes r s first second) timely) new none
 
-    by : (a b : Outcome) → ServesFrame (Some S) (Some T) moment bytes room a → ServesFrame (Some S) (Some U) moment bytes other b → (status_of a ≡ 3 → ⊥) → (status_of b ≡ 3 → ⊥) → status_of a ≡ status_of b
+    by : (a b : Outcome) → ServesFrame (Some S) (Some T) moment bytes room a → ServesFrame (Some S) (Some U) moment bytes other b → (outcome_status a ≡ 3 → ⊥) → (outcome_status b ≡ 3 → ⊥) → outcome_status a ≡ outcome_status b
     by NoMemory b mine yours c d = absurd (c refl)
     by Unread b mine yours c d = absurd (c refl)
     by Closed b (r, spells, right) yours c d = absurd right

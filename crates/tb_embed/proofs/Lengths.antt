@@ -7,14 +7,15 @@ use Rattle.tb_records.specs.declared.replies.Status.TheVariants as status
 use Rattle.tb_records.specs.declared.bodies.Body.TheVariants as body
 use Rattle.tb_records.specs.Messages.{Message, Answer, IsLawful, status_code, is_register}
 use Rattle.tb_records.specs.RecordBytes.{account_bytes, transfer_bytes, result_bytes}
-use Rattle.tb_records.specs.ReplyFrames.{header_of_reply, reply_body_bytes, reply_bytes, IsReply}
+use Rattle.tb_records.specs.ReplyFrames.{reply_body_bytes, reply_bytes, IsReply, reply_header_bytes}
 use Rattle.tb_records.proofs.Sizes.{length-account, length-transfer, length-result}
 use Rattle.tb_records.proofs.ItemBytes.{length_items}
 use Rattle.tb_records.proofs.ReplyPlaces.{length-reply_header}
 use Rattle.tb_sessions.specs.declared.rows.Row.{Row}
 use Rattle.tb_sessions.specs.declared.classes.Class.{Class}
 use Rattle.tb_sessions.specs.declared.classes.Class.TheVariants.{New, Repeat, NoSession}
-use Rattle.tb_sessions.specs.Judged.{row_of, class_by, class_of}
+use Rattle.tb_sessions.specs.Judged.{row_of, class_of}
+use Rattle.tb_sessions.proofs.ByRow.{class_by}
 use Rattle.tb_machine.specs.Histories.{State, is_new, step, status_of, refusal, answer_by, answer_to}
 use Rattle.tb_machine.specs.Scripts.{Pair, entry_of, after_pair}
 use Rattle.tb_machine.specs.Runs.{is_new_in, IsTimely, answer_bytes}
@@ -27,7 +28,7 @@ use Rattle.tb_embed.specs.private.Filling.{length_by, FitsBy}
 length_frame : (r : Answer) → length (reply_bytes r) ≡ 48 + length (reply_body_bytes r.body)
 length_frame r =
     let len = length (reply_body_bytes r.body) in
-    length-append (header_of_reply r len) (reply_body_bytes r.body)
+    length-append (reply_header_bytes r.client r.session r.request r.operation (status_code r.status) len r.commit) (reply_body_bytes r.body)
     ∙ ap (λ (n : ℕ). n + len) (length-reply_header r.client r.session r.request r.operation (status_code r.status) len r.commit)
 
 abbrev pub length_body : (b : ReplyBody) → ℕ

@@ -1,4 +1,4 @@
--- What calls make of a server, one after another: a legal history of the requests that were answered.
+-- What calls make of a server, one after another: a legal history of the requests that were answered_calls.
 use Rattle.std.specs.Prelude.{ℕ, Bool, true, false, ◌≡◌, List, [], ◌∷◌, length, take, filter, Some}
 use Rattle.tb_records.specs.declared.limits.Profile.{Profile}
 use Rattle.tb_records.specs.Messages.{Answer}
@@ -10,7 +10,7 @@ use Rattle.tb_machine.specs.ScriptLaws.{AreLawful}
 use Rattle.tb_embed.specs.declared.outcomes.Outcome.{Outcome}
 use Rattle.tb_embed.specs.declared.outcomes.Outcome.TheVariants.{Done, TooSmall}
 use Rattle.tb_embed.specs.Calls.{ServesFrame}
-use Rattle.tb_embed.specs.Outcomes.{status_of}
+use Rattle.tb_embed.specs.Outcomes.{outcome_status}
 
 -- a call of tb_embed_serve: the moment and the bytes that it was given, how it fared, and the room after it
 pub record Call : Type 0 where
@@ -24,14 +24,14 @@ abbrev pub Follow : State → List Call → State → Type 0
 Follow S [] T = T ≡ S
 Follow S (c ∷ cs) T = (U : State) × ServesFrame (Some S) (Some U) c.moment c.bytes c.room c.outcome × Follow U cs T
 
--- the calls that were answered, also where the room was too small for the reply
+-- the calls that were answered_calls, also where the room was too small for the reply
 abbrev pub is_answered : Outcome → Bool
 is_answered (Done n) = true
 is_answered (TooSmall n) = true
 is_answered outcome = false
 
-abbrev pub answered : List Call → List Call
-answered cs = filter (λ c. is_answered c.outcome) cs
+abbrev pub answered_calls : List Call → List Call
+answered_calls cs = filter (λ c. is_answered c.outcome) cs
 
 -- what was returned of the reply: its bytes in the room, or how many they are; they are read as that reply and no other
 abbrev pub ReportsReply : Outcome → List ℕ → Answer → Type 0
@@ -50,11 +50,11 @@ AreAsked [] [] [] = Unit {0}
 AreAsked (c ∷ cs) (p ∷ ps) (a ∷ replies) = Asked c p a × AreAsked cs ps replies
 AreAsked cs ps replies = ⊥
 
--- the server is in the state after the legal history that is accepted of the requests that were answered, and gave their replies
+-- the server is in the state after the legal history that is accepted of the requests that were answered_calls, and gave their replies
 pub record MakesHistory (profile : Profile) (clients_max : ℕ) (cs : List Call) (T : State) : Type 0 where
   pub pairs : List Pair
   pub lawful : AreLawful pairs
-  pub asked : AreAsked (answered cs) pairs (replies_to profile clients_max pairs)
+  pub asked : AreAsked (answered_calls cs) pairs (replies_to profile clients_max pairs)
   pub legal : IsLegal profile clients_max (accepted profile clients_max [] pairs)
   pub stands : T ≡ after profile clients_max (accepted profile clients_max [] pairs)
 
@@ -66,4 +66,4 @@ CallsMakeHistory = (profile : Profile) (clients_max : ℕ) (cs : List Call) (T :
 abbrev pub OneStatus : Type 0
 OneStatus = (S T U : State) (moment : ℕ) (bytes room other : List ℕ) (a b : Outcome)
     → ServesFrame (Some S) (Some T) moment bytes room a → ServesFrame (Some S) (Some U) moment bytes other b → length room ≡ length other
-    → (status_of a ≡ 3 → ⊥) → (status_of b ≡ 3 → ⊥) → status_of a ≡ status_of b
+    → (outcome_status a ≡ 3 → ⊥) → (outcome_status b ≡ 3 → ⊥) → outcome_status a ≡ outcome_status b

@@ -14,7 +14,7 @@ use Rattle.tb_caller.specs.declared.faults.CallFault.TheVariants as call
 use Rattle.tb_caller.specs.declared.faults.FieldFault.{FieldFault}
 use Rattle.tb_caller.specs.declared.faults.FieldFault.TheVariants as field
 use Rattle.tb_caller.specs.Clients.{Client, field_fault, made, call_fault, called, HasFault, heard, received}
-use Rattle.tb_embed.specs.Calls.{IsMalformed, id_of}
+use Rattle.tb_embed.specs.Calls.{IsMalformed, id_of_halves}
 use Rattle.tb_embed.specs.declared.steps.Step.{Step}
 use Rattle.tb_embed.specs.declared.steps.Step.TheVariants as step
 use Rattle.tb_embed.specs.declared.steps.TbCaller.{TbCaller}
@@ -28,7 +28,7 @@ phase_number (Ended r) = 3
 
 -- the numbers are those of a client
 pub record HasNumbers (kept : TbCaller) (c : Client) : Type 0 where
-  pub id : c.id ≡ id_of kept.id_low kept.id_high
+  pub id : c.id ≡ id_of_halves kept.id_low kept.id_high
   pub session : c.session ≡ kept.session
   pub last : c.last ≡ kept.last
   pub phase : kept.phase ≡ phase_number c.phase
@@ -135,15 +135,15 @@ abbrev pub step_of : Result (Heard × ℕ) Step → Step
 step_of (Ok (h, n)) = step.Done n
 step_of (Err other) = other
 
-abbrev pub heard_of : Result (Heard × ℕ) Step → ℕ
-heard_of (Ok (h, n)) = heard_code h
-heard_of (Err other) = 3
+abbrev pub heard_status : Result (Heard × ℕ) Step → ℕ
+heard_status (Ok (h, n)) = heard_code h
+heard_status (Err other) = 3
 
 pub record ReportsHeard (status length hearing : ℕ) (IsRight : Result (Heard × ℕ) Step → Type 0) : Type 0 where
   pub outcome : Result (Heard × ℕ) Step
   pub status_is : status ≡ step_code (step_of outcome)
   pub length_is : length ≡ step_length (step_of outcome)
-  pub heard_is : hearing ≡ heard_of outcome
+  pub heard_is : hearing ≡ heard_status outcome
   pub right : IsRight outcome
 
 -- the status and the length are those of a step that is right

@@ -28,19 +28,19 @@ standing handle = option_map (λ (server : Server). server.machine) handle.held.
 abbrev pub is_profile : ℕ → Bool
 is_profile n = n == 1 || n == 2
 
-abbrev pub profile_of : ℕ → Profile
-profile_of n = if n == 2 then Two else One
+abbrev pub numbered_profile : ℕ → Profile
+numbered_profile n = if n == 2 then Two else One
 
 -- there are two profiles, and one client or more can have a session at one time, up to the limit
 abbrev pub are_arguments : ℕ → ℕ → Bool
 are_arguments profile clients_max = is_profile profile && not (clients_max == 0) && nat_le clients_max CLIENTS_MAX
 
 -- a closed handle is opened at the empty history; wrong arguments and an open handle are refused; nothing else changes
-abbrev pub Opens : ℕ → ℕ → Option State → Option State → Outcome → Type 0
-Opens profile clients_max before after (Done n) = (are_arguments profile clients_max ≡ true) × (before ≡ None) × (after ≡ Some (start (profile_of profile) clients_max))
-Opens profile clients_max before after Usage = ((are_arguments profile clients_max && is_none before) ≡ false) × (after ≡ before)
-Opens profile clients_max before after NoMemory = (are_arguments profile clients_max ≡ true) × (before ≡ None) × (after ≡ None)
-Opens profile clients_max before after outcome = ⊥
+abbrev pub OpensHandle : ℕ → ℕ → Option State → Option State → Outcome → Type 0
+OpensHandle profile clients_max before after (Done n) = (are_arguments profile clients_max ≡ true) × (before ≡ None) × (after ≡ Some (start (numbered_profile profile) clients_max))
+OpensHandle profile clients_max before after Usage = ((are_arguments profile clients_max && is_none before) ≡ false) × (after ≡ before)
+OpensHandle profile clients_max before after NoMemory = (are_arguments profile clients_max ≡ true) × (before ≡ None) × (after ≡ None)
+OpensHandle profile clients_max before after outcome = ⊥
 
 -- serving
 
@@ -81,26 +81,26 @@ ServesFrame before after moment bytes room outcome = ⊥
 -- showing a record
 
 -- an id of two halves
-abbrev pub id_of : ℕ → ℕ → ℕ
-id_of low high = low + high * 2 ^ 64
+abbrev pub id_of_halves : ℕ → ℕ → ℕ
+id_of_halves low high = low + high * 2 ^ 64
 
 -- the 128 bytes of a record that is there are written; nothing changes
-abbrev pub ShowsOf : Outcome → Option (List ℕ) → List ℕ → Type 0
-ShowsOf (Done n) found room = (n ≡ 128) × (128 ≤ length room) × (found ≡ Some (take 128 room))
-ShowsOf Absent found room = (128 ≤ length room) × (found ≡ None)
-ShowsOf (TooSmall n) found room = (n ≡ 128) × (length room < 128)
-ShowsOf outcome found room = ⊥
+abbrev pub ShowsRecordBytes : Outcome → Option (List ℕ) → List ℕ → Type 0
+ShowsRecordBytes (Done n) found room = (n ≡ 128) × (128 ≤ length room) × (found ≡ Some (take 128 room))
+ShowsRecordBytes Absent found room = (128 ≤ length room) × (found ≡ None)
+ShowsRecordBytes (TooSmall n) found room = (n ≡ 128) × (length room < 128)
+ShowsRecordBytes outcome found room = ⊥
 
 module _ (found_in : State → Option (List ℕ)) where
-  abbrev pub Shows : Option State → Option State → List ℕ → Outcome → Type 0
-  Shows (Some S) (Some T) room outcome = ShowsOf outcome (found_in S) room × (T ≡ S)
-  Shows None None room outcome = outcome ≡ Closed
-  Shows before after room outcome = ⊥
+  abbrev pub ShowsRecord : Option State → Option State → List ℕ → Outcome → Type 0
+  ShowsRecord (Some S) (Some T) room outcome = ShowsRecordBytes outcome (found_in S) room × (T ≡ S)
+  ShowsRecord None None room outcome = outcome ≡ Closed
+  ShowsRecord before after room outcome = ⊥
 
 -- a handle shows the account with an id as it is now
 abbrev pub ShowsAccount : ℕ → TbServer → TbServer → List ℕ → Outcome → Type 0
-ShowsAccount id before after = Shows (λ S. option_map account_bytes (account_now S.books id)) (standing before) (standing after)
+ShowsAccount id before after = ShowsRecord (λ S. option_map account_bytes (account_now S.books id)) (standing before) (standing after)
 
 -- a handle shows the transfer with an id as it was recorded
 abbrev pub ShowsTransfer : ℕ → TbServer → TbServer → List ℕ → Outcome → Type 0
-ShowsTransfer id before after = Shows (λ S. option_map transfer_bytes (transfer_at S.books id)) (standing before) (standing after)
+ShowsTransfer id before after = ShowsRecord (λ S. option_map transfer_bytes (transfer_at S.books id)) (standing before) (standing after)

@@ -3,16 +3,16 @@ use Rattle.std.specs.Prelude.{ℕ, ◌≡◌}
 use Rattle.tb_embed.specs.declared.outcomes.Outcome.{Outcome}
 use Rattle.tb_embed.specs.declared.outcomes.Outcome.TheVariants.{Done, Closed, Usage, NoMemory, Unread, Malformed, TimeExhausted, Absent, TooSmall}
 
-abbrev pub status_of : Outcome → ℕ
-status_of (Done length) = 0
-status_of Closed = 1
-status_of Usage = 2
-status_of NoMemory = 3
-status_of Unread = 3
-status_of Malformed = 4
-status_of TimeExhausted = 5
-status_of Absent = 6
-status_of (TooSmall length) = 7
+abbrev pub outcome_status : Outcome → ℕ
+outcome_status (Done length) = 0
+outcome_status Closed = 1
+outcome_status Usage = 2
+outcome_status NoMemory = 3
+outcome_status Unread = 3
+outcome_status Malformed = 4
+outcome_status TimeExhausted = 5
+outcome_status Absent = 6
+outcome_status (TooSmall length) = 7
 
 abbrev pub length_of : Outcome → ℕ
 length_of (Done length) = length
@@ -22,12 +22,12 @@ length_of outcome = 0
 -- the status is that of an outcome that is right
 pub record Reports (status : ℕ) (IsRight : Outcome → Type 0) : Type 0 where
   pub outcome : Outcome
-  pub status_is : status ≡ status_of outcome
+  pub status_is : status ≡ outcome_status outcome
   pub right : IsRight outcome
 
 -- the status and the length are those of an outcome that is right
 pub record ReportsLength (status length : ℕ) (IsRight : Outcome → Type 0) : Type 0 where
   pub outcome : Outcome
-  pub status_is : status ≡ status_of outcome
+  pub status_is : status ≡ outcome_status outcome
   pub length_is : length ≡ length_of outcome
   pub right : IsRight outcome

@@ -1,7 +1,7 @@
 //! The serving of one request: its frame is read, and its reply written into the caller's room.
 ghost use Rattle.std.specs.Prelude.{◌≡◌};
 ghost use Rattle.tb_embed.specs.Calls.{standing, AnswersCall, AnswersFrame, ServesFrame};
-ghost use Rattle.tb_embed.specs.private.Filling.{Fills};
+ghost use Rattle.tb_embed.specs.private.Filling.{FillsRoom};
 
 use crate::outcomes::Outcome;
 use crate::replies::reply_length;
@@ -19,7 +19,7 @@ fn fill(
     request: Request,
     reply: &mut [u8],
 ) -> Result<usize, RunFault>
-    ensures { Fills result machine.old machine.new (moment, request) reply.new }
+    ensures { FillsRoom result machine.old machine.new (moment, request) reply.new }
 {
     let mut room = Room::over(reply);
     serve_pair(machine, &mut room, moment, request)?;

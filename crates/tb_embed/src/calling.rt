@@ -1,8 +1,8 @@
 //! What the calls over a client's session do.
 ghost use Rattle.std.specs.Prelude.{◌≡◌};
-ghost use Rattle.tb_embed.specs.Calls.{id_of};
+ghost use Rattle.tb_embed.specs.Calls.{id_of_halves};
 ghost use Rattle.tb_embed.specs.Callers.{phase_number, CallsBody, CallsFrame, Checks, Receives};
-ghost use Rattle.tb_embed.specs.private.Calling.{ReadsWhole, ReadsKept, ReadsPhase, ReadsClient, IsResting, stored};
+ghost use Rattle.tb_embed.specs.private.Calling.{ReadsWholeFrame, ReadsKept, ReadsPhase, ReadsClient, IsResting, stored};
 
 use crate::calls::id;
 use crate::steps::{Step, TbCaller};
@@ -12,7 +12,7 @@ use tb_records::{Body, FrameFault, Request, read_request};
 
 /// The request whose frame the bytes are.
 fn whole_request(alloc: Global, bytes: &[u8]) -> Result<Request, Step>
-    ensures { ReadsWhole result bytes.now }
+    ensures { ReadsWholeFrame result bytes.now }
 {
     match read_request(alloc, bytes) {
         Ok((request, length)) if length == bytes.len() => Ok(request),

@@ -2,7 +2,7 @@
 //! embed/tb_embed.h says of pointers.
 ghost use Rattle.std.specs.Prelude.{◌≡◌, None};
 ghost use Rattle.tb_embed.specs.Outcomes.{Reports, ReportsLength};
-ghost use Rattle.tb_embed.specs.Calls.{standing, id_of, Opens, ServesFrame, ShowsAccount, ShowsTransfer};
+ghost use Rattle.tb_embed.specs.Calls.{standing, id_of_halves, OpensHandle, ServesFrame, ShowsAccount, ShowsTransfer};
 
 use crate::asking::serve;
 use crate::handles::open;
@@ -19,7 +19,7 @@ pub extern "C" fn tb_embed_open(
     profile: u32,
     clients_max: u32,
 ) -> u32
-    ensures { Reports result (Opens profile clients_max (standing server.old) (standing server.new)) }
+    ensures { Reports result (OpensHandle profile clients_max (standing server.old) (standing server.new)) }
 {
     open(alloc, server, profile, clients_max).status()
 }
@@ -55,7 +55,7 @@ pub extern "C" fn tb_embed_account(
     id_high: u64,
     account: &mut [u8],
 ) -> u32
-    ensures { Reports result (ShowsAccount (id_of id_low id_high) server.old server.new account.new) }
+    ensures { Reports result (ShowsAccount (id_of_halves id_low id_high) server.old server.new account.new) }
 {
     show_account(alloc, server, id(id_low, id_high), account).status()
 }
@@ -69,7 +69,7 @@ pub extern "C" fn tb_embed_transfer(
     id_high: u64,
     transfer: &mut [u8],
 ) -> u32
-    ensures { Reports result (ShowsTransfer (id_of id_low id_high) server.old server.new transfer.new) }
+    ensures { Reports result (ShowsTransfer (id_of_halves id_low id_high) server.old server.new transfer.new) }
 {
     show_transfer(alloc, server, id(id_low, id_high), transfer).status()
 }
@@ -84,7 +84,7 @@ pub extern "C" fn tb_embed_close(alloc: Global, server: &mut TbServer)
 
 /// An id of its two halves.
 pub(crate) fn id(low: u64, high: u64) -> u128
-    ensures { result ≡ id_of low high }
+    ensures { result ≡ id_of_halves low high }
 {
     u128::from(low) + u128::from(high) * 18_446_744_073_709_551_616
 }

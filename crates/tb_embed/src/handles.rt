@@ -1,7 +1,7 @@
 //! The opening of a handle.
 ghost use Rattle.std.specs.Prelude.{◌≡◌, true, false, IfOk, IfSome, MatchOption};
 ghost use Rattle.tb_machine.specs.Histories.{start};
-ghost use Rattle.tb_embed.specs.Calls.{standing, Opens, is_profile, profile_of};
+ghost use Rattle.tb_embed.specs.Calls.{standing, OpensHandle, is_profile, numbered_profile};
 
 use crate::held::Server;
 use crate::outcomes::Outcome;
@@ -12,7 +12,7 @@ use tb_records::{ClientsMax, Profile};
 
 /// The profile of a number.
 fn profile_of(profile: u32) -> Option<Profile>
-    ensures value { MatchOption result (is_profile profile ≡ false) (λ p. p ≡ profile_of profile) }
+    ensures value { MatchOption result (is_profile profile ≡ false) (λ p. p ≡ numbered_profile profile) }
     ensures known { IfSome result (λ p. is_profile profile ≡ true) }
 {
     match profile {
@@ -39,7 +39,7 @@ fn server_in(
 
 /// Opens a handle that is closed.
 pub(crate) fn open(alloc: Global, server: &mut TbServer, profile: u32, clients_max: u32) -> Outcome
-    ensures { Opens profile clients_max (standing server.old) (standing server.new) result }
+    ensures { OpensHandle profile clients_max (standing server.old) (standing server.new) result }
 {
     let Some(profile) = profile_of(profile) else {
         return Outcome::Usage

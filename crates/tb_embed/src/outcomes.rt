@@ -1,6 +1,6 @@
 //! How a call fared, and the status that reports it to a caller in C.
 ghost use Rattle.std.specs.Prelude.{◌≡◌};
-ghost use Rattle.tb_embed.specs.Outcomes.{status_of, length_of};
+ghost use Rattle.tb_embed.specs.Outcomes.{outcome_status, length_of};
 
 /// How a call fared.
 #[derive(Clone, Copy, Debug, PartialEq, Eq)]
@@ -28,7 +28,7 @@ pub enum Outcome {
 impl Outcome {
     /// The status, as embed/tb_embed.h names it.
     pub fn status(self) -> u32
-        ensures { result ≡ status_of self }
+        ensures { result ≡ outcome_status self }
     {
         match self {
             Outcome::Done(_) => 0,

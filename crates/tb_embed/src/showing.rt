@@ -1,6 +1,6 @@
 //! Accounts and transfers shown outside sessions.
 ghost use Rattle.std.specs.Prelude.{◌≡◌, ◌≤◌, length, take};
-ghost use Rattle.tb_embed.specs.Calls.{ShowsOf, ShowsAccount, ShowsTransfer};
+ghost use Rattle.tb_embed.specs.Calls.{ShowsRecordBytes, ShowsAccount, ShowsTransfer};
 
 use crate::outcomes::Outcome;
 use crate::servers::TbServer;
@@ -17,7 +17,7 @@ fn write(bytes: &[u8; 128], room: &mut [u8])
 
 /// Writes the bytes of a record that is there.
 fn show(found: Option<[u8; 128]>, room: &mut [u8]) -> Outcome
-    ensures { ShowsOf result found room.new }
+    ensures { ShowsRecordBytes result found room.new }
 {
     if room.len() < 128 {
         return Outcome::TooSmall(128);

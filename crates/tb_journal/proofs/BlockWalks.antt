@@ -8,7 +8,7 @@ use Rattle.std.specs.Int.{w32, from_le_bytes}
 use Rattle.std.specs.List.{starts_with}
 use Rattle.tb_journal.specs.Checksum.{checksum}
 pub use Rattle.tb_journal.specs.private.MemoryLaws.{drop_parts}
-use Rattle.tb_journal.specs.Contents.{magic, latch_closed, is_closed, Front, Ends, Spoiled, Whole, behind_latch, front, Contents, NotAJournal, Damaged, Records, with_record, with_records, joined, skipped, walk, contents, blocks_length, records_end}
+use Rattle.tb_journal.specs.Contents.{magic, latch_closed, is_closed, Front, Ends, Spoiled, Whole, behind_latch, front, Contents, NotAJournal, Damaged, Records, with_record, with_records, joined_contents, skipped, walk, contents, blocks_length, records_end}
 
 -- lists
 
@@ -34,17 +34,17 @@ walk-whole [] r at is = absurd (cc)
 walk-whole (b ∷ behind) r at is =
     let far : 11 + length r ≡ suc (10 + length r) = omega arith in
     let place : at + 1 + (10 + length r) ≡ at + (11 + length r) = omega arith in
-    ap (λ (f : Front). joined f at (walk (skipped f) (at + 1) behind)) is
+    ap (λ (f : Front). joined_contents f at (walk (skipped f) (at + 1) behind)) is
     ∙ ap (with_record r) (walk-skip (10 + length r) (at + 1) behind ∙ ap (λ (a : ℕ). walk 0 a (drop (10 + length r) behind)) place)
     ∙ ap (λ (n : ℕ). with_record r (walk 0 (at + (11 + length r)) (drop n (b ∷ behind)))) (sym far)
 
 pub walk-ends : (bytes : List ℕ) (at : ℕ) → front bytes ≡ Ends → walk 0 at bytes ≡ Records []
 walk-ends [] at is = absurd (cc)
-walk-ends (b ∷ behind) at is = ap (λ (f : Front). joined f at (walk (skipped f) (at + 1) behind)) is
+walk-ends (b ∷ behind) at is = ap (λ (f : Front). joined_contents f at (walk (skipped f) (at + 1) behind)) is
 
 pub walk-spoiled : (bytes : List ℕ) (at : ℕ) → front bytes ≡ Spoiled → walk 0 at bytes ≡ Damaged at
 walk-spoiled [] at is = refl
-walk-spoiled (b ∷ behind) at is = ap (λ (f : Front). joined f at (walk (skipped f) (at + 1) behind)) is
+walk-spoiled (b ∷ behind) at is = ap (λ (f : Front). joined_contents f at (walk (skipped f) (at + 1) behind)) is
 
 -- a whole block stays whole, whatever follows it
 

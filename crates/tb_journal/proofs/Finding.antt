@@ -8,16 +8,16 @@ use Rattle.tb_journal.specs.Device.{ReadsAt}
 use Rattle.tb_journal.specs.Contents.{Ends, front, contents}
 use Rattle.tb_journal.specs.Scans.{BeginsWith}
 use Rattle.tb_journal.specs.Growing.{Later, Grown}
-use Rattle.tb_journal.specs.Snapshots.{Snapped, behind_blocks, LeadsTo, ShowsBlocks, ShowsAll, ShowsOf, IsHeld, TakesSnapshot, Refreshes}
-use Rattle.tb_journal.specs.private.Hops.{LeadsFrom, HasPiece, IsFound, IsFoundOn, HopsOn, HopsSized, WasClosed, FindsLatch, FindsEnd, Grows, HopsFrom, Finds, FindsMore, ReadsBlocks}
+use Rattle.tb_journal.specs.Snapshots.{Snapped, behind_blocks, BlocksLeadTo, ShowsBlocks, ShowsAll, ShowsOf, HoldsBytes, TakesSnapshot, Refreshes}
+use Rattle.tb_journal.specs.private.Hops.{LeadsFrom, HasPiece, IsEndFound, IsFoundOn, HopsOn, HopsSized, WasClosed, FindsLatch, FindsEnd, Grows, HopsFrom, Finds, FindsMore, ReadsBlocks}
 use Rattle.tb_journal.proofs.Growths.{final_later, later_same, later_then, leads_within, leads_kept, leads_later}
 use Rattle.tb_journal.proofs.Showing.{room, shown_length, shown_contents, shown_size, closed_before, shows_still, shows_more, held_grown, reads_ahead}
 
 -- the blocks of one piece
 
-pub hops_on : (mid grows : List ℕ → Type 0) (bytes : List ℕ) (at count len : ℕ) (piece : List ℕ) (hop : Hop) → 11 ≤ length piece → LeadsTo at bytes
+pub hops_on : (mid grows : List ℕ → Type 0) (bytes : List ℕ) (at count len : ℕ) (piece : List ℕ) (hop : Hop) → 11 ≤ length piece → BlocksLeadTo at bytes
     → (first : Grown mid bytes (λ later. ReadsAt count at later piece)) → (second : Grown grows first.later (λ later. len ≡ length later))
-    → ((file later : List ℕ) → HasPiece at file later (take count piece) len → LeadsTo at file → LeadsFrom hop file later)
+    → ((file later : List ℕ) → HasPiece at file later (take count piece) len → BlocksLeadTo at file → LeadsFrom hop file later)
     → HopsOn grows bytes hop
 hops_on mid grows bytes at count len piece hop some leads first second follows = record {
   met = first.later;
@@ -32,7 +32,7 @@ hops_on mid grows bytes at count len piece hop some leads first second follows =
 
 -- with the number of bytes before that
 
-pub hops_sized : (mid grows : List ℕ → Type 0) (bytes : List ℕ) (at len : ℕ) (hop : Hop) → LeadsTo at bytes
+pub hops_sized : (mid grows : List ℕ → Type 0) (bytes : List ℕ) (at len : ℕ) (hop : Hop) → BlocksLeadTo at bytes
     → (first : Grown mid bytes (λ later. len ≡ length later)) → HopsOn grows first.later hop
     → HopsOn grows bytes hop × (hop ≡ hops.Closed at → WasClosed grows at len bytes)
 hops_sized mid grows bytes at len hop leads first second = (
@@ -71,7 +71,7 @@ grown_as {now} {bytes} {P} {R} grown has = record { later = grown.later; after =
 -- and where they lead
 
 module _ (grows : List ℕ → Type 0) (a b : List ℕ) (before : Later a b) where
-  pub on_further : (next : ℕ) → HopsOn grows b (hops.Further next) → Grown grows a (LeadsTo next)
+  pub on_further : (next : ℕ) → HopsOn grows b (hops.Further next) → Grown grows a (BlocksLeadTo next)
   on_further next hop = record {
     later = hop.later;
     after = later_then a b hop.later before (later_then b hop.met hop.later hop.after hop.since);
@@ -79,7 +79,7 @@ module _ (grows : List ℕ → Type 0) (a b : List ℕ) (before : Later a b) whe
     has = hop.leads;
   }
 
-  pub on_onward : (next : ℕ) → HopsOn grows b (hops.Closed next) → Grown grows a (LeadsTo next)
+  pub on_onward : (next : ℕ) → HopsOn grows b (hops.Closed next) → Grown grows a (BlocksLeadTo next)
   on_onward next hop = record {
     later = hop.later;
     after = later_then a b hop.later before (later_then b hop.met hop.later hop.after hop.since);
@@ -87,7 +87,7 @@ module _ (grows : List ℕ → Type 0) (a b : List ℕ) (before : Later a b) whe
     has = leads_later next hop.met hop.later hop.leads.0 hop.since;
   }
 
-  pub was_closed : (end len : ℕ) → WasClosed grows end len b → IsFound grows a (record { end = end; len = len; closed = true })
+  pub was_closed : (end len : ℕ) → WasClosed grows end len b → IsEndFound grows a (record { end = end; len = len; closed = true })
   was_closed end len was = record {
     met = was.met;
     after = later_then a b was.met before was.after;
@@ -98,7 +98,7 @@ module _ (grows : List ℕ → Type 0) (a b : List ℕ) (before : Later a b) whe
     now = was.now;
   }
 
-  pub on_broken : HopsOn grows b hops.Broken → IsFound grows a (record { end = 0; len = 0; closed = false })
+  pub on_broken : HopsOn grows b hops.Broken → IsEndFound grows a (record { end = 0; len = 0; closed = false })
   on_broken hop = record {
     met = hop.met;
     after = later_then a b hop.met before hop.after;
@@ -109,7 +109,7 @@ module _ (grows : List ℕ → Type 0) (a b : List ℕ) (before : Later a b) whe
     now = hop.now;
   }
 
-  pub found_since : (found : Found) → IsFound grows b found → IsFound grows a found
+  pub found_since : (found : Found) → IsEndFound grows b found → IsEndFound grows a found
   found_since found is = record {
     met = is.met;
     after = later_then a b is.met before is.after;
@@ -122,7 +122,7 @@ module _ (grows : List ℕ → Type 0) (a b : List ℕ) (before : Later a b) whe
 
 -- from the first bytes on
 
-pub starts_leads : (file : List ℕ) → BeginsWith [] file → LeadsTo 8 file
+pub starts_leads : (file : List ℕ) → BeginsWith [] file → BlocksLeadTo 8 file
 starts_leads file begins = inl (record { records = []; begins = begins; is = refl })
 
 -- from a latch on that was closed
@@ -159,10 +159,10 @@ module _ (end len : ℕ) (bytes met shown : List ℕ) (since : Later met bytes) 
         goes_on = still.2;
       }
 
-  pub more_leads : {grows : List ℕ → Type 0} {told : ℕ × Bool} → (first : FindsEnd grows end bytes told) → LeadsTo end first.sized.later
+  pub more_leads : {grows : List ℕ → Type 0} {told : ℕ × Bool} → (first : FindsEnd grows end bytes told) → BlocksLeadTo end first.sized.later
   more_leads first = leads_later end met first.sized.later shows.leads (later_then met bytes first.sized.later since first.sized.after)
 
-  pub more_found : (mid grows : List ℕ → Type 0) (size : ℕ) (closed : Bool) → closed ≡ false → (first : FindsEnd mid end bytes (size, closed)) → (found : Found) → IsFound grows first.sized.later found → IsFoundOn grows bytes shown found
+  pub more_found : (mid grows : List ℕ → Type 0) (size : ℕ) (closed : Bool) → closed ≡ false → (first : FindsEnd mid end bytes (size, closed)) → (found : Found) → IsEndFound grows first.sized.later found → IsFoundOn grows bytes shown found
   unfolding found_since
   more_found mid grows size closed is first found more = record {
     is = found_since grows bytes first.sized.later first.sized.after found more;
@@ -173,7 +173,7 @@ module _ (end len : ℕ) (bytes met shown : List ℕ) (since : Later met bytes) 
 
 -- what a snapshot holds
 
-pub takes_found : {G : Type 0} (grows : G → List ℕ → Type 0) (bytes : List ℕ) (now : G) (found : Found) → IsFound (grows now) bytes found → TakesSnapshot grows bytes (record { file = now; end = found.end; len = found.len; closed = found.closed })
+pub takes_found : {G : Type 0} (grows : G → List ℕ → Type 0) (bytes : List ℕ) (now : G) (found : Found) → IsEndFound (grows now) bytes found → TakesSnapshot grows bytes (record { file = now; end = found.end; len = found.len; closed = found.closed })
 takes_found grows bytes now found is = record {
   later = is.met;
   after = is.after;
@@ -193,7 +193,7 @@ blocks_of closed end len met shown is shows = subst (λ (b : Bool). ShowsOf b en
 all_of : (closed : Bool) (end len : ℕ) (met shown : List ℕ) → closed ≡ false → ShowsOf closed end len met shown → ShowsAll met shown
 all_of closed end len met shown is shows = subst (λ (b : Bool). ShowsOf b end len met shown) is shows
 
-module _ {G : Type 0} (grows : G → List ℕ → Type 0) (old : Snapped G) (shown : List ℕ) (held : IsHeld grows old shown) where
+module _ {G : Type 0} (grows : G → List ℕ → Type 0) (old : Snapped G) (shown : List ℕ) (held : HoldsBytes grows old shown) where
   pub held_blocks : old.closed ≡ true → ShowsBlocks old.end old.len held.shows.met shown
   held_blocks is = blocks_of old.closed old.end old.len held.shows.met shown is held.shows.shows
 
@@ -244,7 +244,7 @@ module _ {G : Type 0} (grows : G → List ℕ → Type 0) (old : Snapped G) (sho
 
 pub record IsSought (before now : List ℕ → Type 0) (from end : ℕ) (piece : List ℕ) : Type 0 where
   pub some : 11 ≤ length piece
-  pub leads : (bytes : List ℕ) → before bytes → LeadsTo from bytes → Grown now bytes (LeadsTo end)
+  pub leads : (bytes : List ℕ) → before bytes → BlocksLeadTo from bytes → Grown now bytes (BlocksLeadTo end)
   pub same : (bytes : List ℕ) → before bytes → Grown now bytes (λ later. Unit {0})
 
 module _ (before mid now : List ℕ → Type 0) (from end : ℕ) (piece : List ℕ) (sought : IsSought before mid from end piece) where
@@ -287,26 +287,26 @@ module _ (before mid now : List ℕ → Type 0) (from end : ℕ) (piece : List �
 
 -- on results
 
-pub all_since : (grows : List ℕ → Type 0) (a b : List ℕ) (before : Later a b) (result : Result Found JournalFault) → IfOk result (IsFound grows b) → IfOk result (IsFound grows a)
+pub all_since : (grows : List ℕ → Type 0) (a b : List ℕ) (before : Later a b) (result : Result Found JournalFault) → IfOk result (IsEndFound grows b) → IfOk result (IsEndFound grows a)
 all_since grows a b before (Ok found) is = found_since grows a b before found is
 all_since grows a b before (Err fault) is = tt
 
 pub all_more : (end len : ℕ) (bytes met shown : List ℕ) (since : Later met bytes) (shows : ShowsBlocks end len met shown) (mid grows : List ℕ → Type 0) (size : ℕ) (closed : Bool) → closed ≡ false
-    → (first : FindsEnd mid end bytes (size, closed)) → (result : Result Found JournalFault) → IfOk result (IsFound grows first.sized.later) → IfOk result (IsFoundOn grows bytes shown)
+    → (first : FindsEnd mid end bytes (size, closed)) → (result : Result Found JournalFault) → IfOk result (IsEndFound grows first.sized.later) → IfOk result (IsFoundOn grows bytes shown)
 all_more end len bytes met shown since shows mid grows size closed is first (Ok found) more = more_found end len bytes met shown since shows mid grows size closed is first found more
 all_more end len bytes met shown since shows mid grows size closed is first (Err fault) more = tt
 
 -- on snapshots, by the value that a call sees
 
-module _ {G : Type 0} {grows : G → List ℕ → Type 0} {shown : List ℕ} {view old : Snapped G} (is : view ≡ old) (held : IsHeld grows old shown) where
-  pub held_as : IsHeld grows view shown
-  held_as = subst (λ (s : Snapped G). IsHeld grows s shown) (sym is) held
+module _ {G : Type 0} {grows : G → List ℕ → Type 0} {shown : List ℕ} {view old : Snapped G} (is : view ≡ old) (held : HoldsBytes grows old shown) where
+  pub held_as : HoldsBytes grows view shown
+  held_as = subst (λ (s : Snapped G). HoldsBytes grows s shown) (sym is) held
 
   now_in : grows view.file held.file
   now_in = subst (λ (s : Snapped G). grows s.file held.file) (sym is) held.now
 
-  pub stays_held : (now : G) → Grows (grows view.file) (grows now) → IsHeld grows (record { file = now; end = view.end; len = view.len; closed = view.closed }) shown
-  stays_held now call = subst (λ (s : Snapped G). IsHeld grows (record { file = now; end = s.end; len = s.len; closed = s.closed }) shown) (sym is) (held_grown grows old now shown held (call held.file now_in))
+  pub stays_held : (now : G) → Grows (grows view.file) (grows now) → HoldsBytes grows (record { file = now; end = view.end; len = view.len; closed = view.closed }) shown
+  stays_held now call = subst (λ (s : Snapped G). HoldsBytes grows (record { file = now; end = s.end; len = s.len; closed = s.closed }) shown) (sym is) (held_grown grows old now shown held (call held.file now_in))
 
   pub refreshes_kept : view.closed ≡ false → Refreshes grows held.file shown view
   refreshes_kept final = subst (λ (s : Snapped G). Refreshes grows held.file shown s) (sym is) (refreshes_whole grows old shown held (subst (λ (s : Snapped G). s.closed ≡ false) is final))

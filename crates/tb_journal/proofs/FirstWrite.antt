@@ -9,7 +9,7 @@ use Rattle.tb_journal.specs.declared.opening.OpenFault.{OpenFault}
 use Rattle.tb_journal.specs.declared.opening.OpenFault.TheVariants as open_faults
 use Rattle.tb_journal.specs.Device.{Disk, IsSettled, HasFailed, Torn, LeavesOnly, overwritten}
 use Rattle.tb_journal.specs.Contents.{magic, latch_closed, is_closed, Ends, Spoiled, front, NotAJournal, Damaged, Records, walk, contents, recorded, journal_of}
-use Rattle.tb_journal.specs.Steps.{IsWhole, Overwrites}
+use Rattle.tb_journal.specs.Steps.{IsWholeFile, Overwrites}
 use Rattle.tb_journal.specs.Creating.{is_torn_from, is_blank, IsUnborn, IsCreateCause, HasCreateCause, IsLeft, WritesFirst}
 use Rattle.tb_journal.specs.Opening.{device_left, fault_left}
 use Rattle.tb_journal.specs.Ready.{Kept}
@@ -65,7 +65,7 @@ begun before after result blank write = record {
 }
   where
     done : (r : Result (Unit {0}) JournalFault) → OnOk r (after.seen ≡ overwritten before.seen 0 (journal_of []))
-        → OnOk r (IsWhole after × (recorded after.seen ≡ []))
+        → OnOk r (IsWholeFile after × (recorded after.seen ≡ []))
     done (Err f) shown = tt
     done (Ok x) shown =
         let first : after.seen ≡ journal_of [] = shown ∙ whole before.seen (blank_short before.seen blank) in

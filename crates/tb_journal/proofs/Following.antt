@@ -3,12 +3,12 @@ use Rattle.std.proofs.Common.{◌≡◌, ◌≢◌, ◌⊎◌, inl, inr, ⊎_eli
 use Rattle.std.proofs.lemmas.Grind.{common_steps}
 use Rattle.std.specs.Int.{w32, from_le_bytes}
 use Rattle.tb_journal.specs.Contents.{is_closed, Front, Ends, Spoiled, Whole, behind_latch, front, contents, records_end}
-use Rattle.tb_journal.specs.Reading.{HasAhead, asked}
+use Rattle.tb_journal.specs.Reading.{HasAhead, asked_bytes}
 use Rattle.tb_journal.specs.private.Hops.{HopsTo, LeadsFrom, HasPiece}
 use Rattle.tb_journal.specs.declared.hops.Hop.{Hop}
 use Rattle.tb_journal.specs.declared.hops.Hop.TheVariants as hops
 use Rattle.tb_journal.specs.Growing.{Later}
-use Rattle.tb_journal.specs.Snapshots.{EndsAt, HasDamageBefore, LeadsTo, IsFinal}
+use Rattle.tb_journal.specs.Snapshots.{EndsAt, HasDamageBefore, BlocksLeadTo, IsFinal}
 use Rattle.tb_journal.proofs.BlockWalks.{stays_behind}
 use Rattle.tb_journal.proofs.Committing.{blocks_length-append}
 use Rattle.tb_journal.proofs.ScanSteps.{next_damaged, one_more, ahead_behind}
@@ -22,7 +22,7 @@ behind_size closed n f r count is = grind (arith, common_steps)
 never : (b : Bool) (r : List ℕ) → (if b then Ends else Spoiled) ≡ Whole r → ⊥
 never b r is = grind (arith, common_steps)
 
-pub asked_whole : (bytes r : List ℕ) → front bytes ≡ Whole r → asked bytes ≡ 11 + length r
+pub asked_whole : (bytes r : List ℕ) → front bytes ≡ Whole r → asked_bytes bytes ≡ 11 + length r
 asked_whole [] r is = absurd (cc)
 asked_whole (w ∷ []) r is = absurd (cc)
 asked_whole (w ∷ x ∷ []) r is = absurd (cc)
@@ -43,7 +43,7 @@ asked_whole (w ∷ x ∷ y ∷ z ∷ a ∷ b ∷ c ∷ s ∷ t ∷ u ∷ v ∷ r
 
 module _ (at : ℕ) (file later : List ℕ) (after : Later file later) (opened : front (drop at file) ≢ Ends) where
   abbrev next : ℕ
-  next = at + asked (drop at file)
+  next = at + asked_bytes (drop at file)
 
   -- a whole block
   one_further : (ends : EndsAt at file) (r : List ℕ) → front (drop at file) ≡ Whole r → EndsAt next file
@@ -62,7 +62,7 @@ module _ (at : ℕ) (file later : List ℕ) (after : Later file later) (opened :
         records = ends.records;
         begins = ends.begins;
         damaged = here;
-        before = subst (λ (k : ℕ). k + asked (drop k file) ≤ next) ends.is (let e : next ≤ next = omega arith in e);
+        before = subst (λ (k : ℕ). k + asked_bytes (drop k file) ≤ next) ends.is (let e : next ≤ next = omega arith in e);
         within = subst (λ (l : List ℕ). next ≤ length l) same within;
       }
 
@@ -77,16 +77,16 @@ module _ (at : ℕ) (file later : List ℕ) (after : Later file later) (opened :
         within = subst (λ (l : List ℕ). next ≤ length l) same within;
       }
 
-  pub leads_further : LeadsTo at file → next ≤ length later → LeadsTo next file
+  pub leads_further : BlocksLeadTo at file → next ≤ length later → BlocksLeadTo next file
   leads_further leads within = ⊎_elim (λ ends. by ends (front (drop at file)) refl) (λ past. inr (past_damage past within)) leads
     where
-      by : (ends : EndsAt at file) (f : Front) → front (drop at file) ≡ f → LeadsTo next file
+      by : (ends : EndsAt at file) (f : Front) → front (drop at file) ≡ f → BlocksLeadTo next file
       by ends Ends is = absurd (opened is)
       by ends Spoiled is = inr (over_damage ends is within)
       by ends (Whole r) is = inl (one_further ends r is)
 
   -- a block that is not whole
-  pub leads_no_further : LeadsTo at file → (front (drop at file) ≡ Spoiled) ⊎ (length later < next) → IsFinal (contents file)
+  pub leads_no_further : BlocksLeadTo at file → (front (drop at file) ≡ Spoiled) ⊎ (length later < next) → IsFinal (contents file)
   leads_no_further leads broken = ⊎_elim (λ ends. by ends (front (drop at file)) refl) (λ past. damage_final at file past) leads
     where
       by : (ends : EndsAt at file) (f : Front) → front (drop at file) ≡ f → IsFinal (contents file)
@@ -102,18 +102,18 @@ module _ (at : ℕ) (file later : List ℕ) (after : Later file later) (opened :
 pub record IsFollowed (at len : ℕ) (piece : List ℕ) (end : ℕ) (rest : List ℕ) : Type 0 where
   pub begins : at ≤ end
   pub place : end + length rest ≡ at + length piece
-  pub leads : (file later : List ℕ) → HasPiece at file later piece len → LeadsTo at file → LeadsTo end file × HasAhead 11 end file rest
+  pub leads : (file later : List ℕ) → HasPiece at file later piece len → BlocksLeadTo at file → BlocksLeadTo end file × HasAhead 11 end file rest
 
 pub followed_first : (at len : ℕ) (piece : List ℕ) → IsFollowed at len piece at piece
 followed_first at len piece = record { begins = omega arith; place = refl; leads = λ file later has leads. (leads, has.ahead) }
 
 module _ (at len : ℕ) (piece : List ℕ) (end : ℕ) (rest : List ℕ) (followed : IsFollowed at len piece end rest) where
   module _ (next : ℕ) (hop : (file : List ℕ) → HasAhead 11 end file rest → HopsTo (hops.Further next) end file len) where
-    leads_to : (file later : List ℕ) → HasPiece at file later piece len → LeadsTo at file → LeadsTo next file
+    leads_to : (file later : List ℕ) → HasPiece at file later piece len → BlocksLeadTo at file → BlocksLeadTo next file
     leads_to file later has leads =
         let before = followed.leads file later has leads in
         let there = hop file before.1 in
-        subst (λ (k : ℕ). LeadsTo k file) (sym there.1)
+        subst (λ (k : ℕ). BlocksLeadTo k file) (sym there.1)
         (leads_further end file later has.after there.0 before.0 (omega (arith, there.1, there.2, has.counts)))
 
     pub followed_next : end < next → 11 ≤ length rest → next - end ≤ length rest - 11 → (behind : List ℕ) → behind ≡ drop (next - end) rest → IsFollowed at len piece next behind
@@ -132,16 +132,16 @@ module _ (at len : ℕ) (piece : List ℕ) (end : ℕ) (rest : List ℕ) (follow
           );
         })
 
-    pub leads_on : (file later : List ℕ) → HasPiece at file later piece len → LeadsTo at file → LeadsTo next later
+    pub leads_on : (file later : List ℕ) → HasPiece at file later piece len → BlocksLeadTo at file → BlocksLeadTo next later
     leads_on file later has leads = leads_later next file later (leads_to file later has leads) has.after
 
   pub leads_from : (hop : Hop) → ((file : List ℕ) → HasAhead 11 end file rest → HopsTo hop end file len)
-      → (file later : List ℕ) → HasPiece at file later piece len → LeadsTo at file → LeadsFrom hop file later
+      → (file later : List ℕ) → HasPiece at file later piece len → BlocksLeadTo at file → LeadsFrom hop file later
   leads_from (hops.Further next) hop file later has leads = leads_on next hop file later has leads
   leads_from (hops.Closed last) hop file later has leads =
       let before = followed.leads file later has leads in
       let there = hop file before.1 in
-      subst (λ (k : ℕ). LeadsTo k file × (front (drop k file) ≡ Ends)) (sym there.0) (before.0, there.1)
+      subst (λ (k : ℕ). BlocksLeadTo k file × (front (drop k file) ≡ Ends)) (sym there.0) (before.0, there.1)
   leads_from hops.Broken hop file later has leads =
       let before = followed.leads file later has leads in
       let there = hop file before.1 in

@@ -4,7 +4,7 @@ use Rattle.std.proofs.lemmas.List.{append-nil, append_assoc, take-take}
 use Rattle.tb_journal.specs.Contents.{latch_closed, Contents, NotAJournal, Damaged, Records, with_records, walk, contents, records_end}
 use Rattle.tb_journal.specs.Scans.{ScanState, BeginsWith, IsAhead, HasRead}
 use Rattle.tb_journal.specs.Growing.{Extends, LaterThan, Later, Grown}
-use Rattle.tb_journal.specs.Snapshots.{HasDamageBefore, LeadsTo, IsFinal}
+use Rattle.tb_journal.specs.Snapshots.{HasDamageBefore, BlocksLeadTo, IsFinal}
 use Rattle.tb_journal.proofs.BlockWalks.{unjoined}
 use Rattle.tb_journal.proofs.Committing.{blocks_length-append}
 use Rattle.tb_journal.proofs.ScanSteps.{all, end_within, next_damaged}
@@ -106,17 +106,17 @@ damage end file past = next_damaged past.records file past.begins past.damaged
 pub damage_final : (end : ℕ) (file : List ℕ) → HasDamageBefore end file → IsFinal (contents file)
 damage_final end file past = damaged_final file (records_end past.records) (damage end file past)
 
-pub leads_within : (end : ℕ) (file : List ℕ) → LeadsTo end file → end ≤ length file
+pub leads_within : (end : ℕ) (file : List ℕ) → BlocksLeadTo end file → end ≤ length file
 leads_within end file leads = ⊎_elim
     (λ ends. omega (arith, ends.is, end_within ends.records file ends.begins))
     (λ past. past.within) leads
 
-pub leads_kept : (end : ℕ) (file later : List ℕ) → LeadsTo end file → Later file later → take end later ≡ take end file
+pub leads_kept : (end : ℕ) (file later : List ℕ) → BlocksLeadTo end file → Later file later → take end later ≡ take end file
 leads_kept end file later leads after = ⊎_elim
     (λ ends. subst (λ (k : ℕ). take k later ≡ take k file) (sym ends.is) (begins_kept ends.records file later ends.begins after))
     (λ past. ap (take end) (final_later file later (damage_final end file past) after)) leads
 
-pub leads_later : (end : ℕ) (file later : List ℕ) → LeadsTo end file → Later file later → LeadsTo end later
+pub leads_later : (end : ℕ) (file later : List ℕ) → BlocksLeadTo end file → Later file later → BlocksLeadTo end later
 leads_later end file later leads after = ⊎_elim
     (λ ends. inl (record { records = ends.records; begins = begins_later ends.records file later ends.begins after; is = ends.is }))
     (λ past. inr (subst (HasDamageBefore end) (sym (final_later file later (damage_final end file past) after)) past)) leads

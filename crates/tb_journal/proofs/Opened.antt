@@ -7,7 +7,7 @@ use Rattle.tb_journal.specs.declared.opening.OpenFault.TheVariants as open_fault
 use Rattle.tb_journal.specs.declared.opening.NotOpened.{NotOpened}
 use Rattle.tb_journal.specs.declared.reading.Extent.{Extent}
 use Rattle.tb_journal.specs.Device.{Disk, IsSettled, LeavesOnly}
-use Rattle.tb_journal.specs.Contents.{Contents, Records, contents, recorded, records_of, records_end}
+use Rattle.tb_journal.specs.Contents.{Contents, Records, contents, recorded, content_records, records_end}
 use Rattle.tb_journal.specs.Opening.{HasOpenCause, IsAsBefore, StandsForTheSame, IsOfDevice, IsOfExtent, Recovers, RefusesFile, Repairs, IsOpened}
 use Rattle.tb_journal.specs.Reading.{ReadsExtent, extent_of}
 use Rattle.tb_journal.specs.Ready.{Kept}
@@ -17,9 +17,9 @@ use Rattle.tb_journal.proofs.Steps.{within}
 
 -- what an extent says of its file
 pub record IsTold (found : Contents) (extent : Extent) : Type 0 where
-  pub reads : found ≡ Records (records_of found)
-  pub end : extent.end ≡ records_end (records_of found)
-  pub count : extent.count ≡ length (records_of found)
+  pub reads : found ≡ Records (content_records found)
+  pub end : extent.end ≡ records_end (content_records found)
+  pub count : extent.count ≡ length (content_records found)
 
 pub is_told : (found : Contents) (extent : Extent) → extent_of found ≡ Ok extent → IsTold found extent
 is_told found extent is = grind (arith, common_steps)

@@ -3,7 +3,7 @@ use Rattle.std.proofs.Common.{◌≡◌, ℕ, ◌+◌, ◌≤◌, List, ◌++◌
 use Rattle.tb_journal.specs.declared.faults.JournalFault.{JournalFault}
 use Rattle.tb_journal.specs.Device.{Disk, Cut}
 use Rattle.tb_journal.specs.Contents.{latch_closed, Records, contents, recorded, records_end}
-use Rattle.tb_journal.specs.Steps.{IsWhole, Shortens}
+use Rattle.tb_journal.specs.Steps.{IsWholeFile, Shortens}
 use Rattle.tb_journal.specs.Opening.{Repairs}
 use Rattle.tb_journal.proofs.Moments.{weaker}
 use Rattle.tb_journal.proofs.Steps.{room, rested, reads_rested, rested_closed, cut_torn}
@@ -30,7 +30,7 @@ module _ (before : Disk) (reads : contents before.seen ≡ Records (recorded bef
     cause = cut.cause;
   }
     where
-      done : (r : Result (Unit {0}) JournalFault) → OnOk r (after.seen ≡ take (end + 4) before.seen) → OnOk r (IsWhole after × (recorded after.seen ≡ known))
+      done : (r : Result (Unit {0}) JournalFault) → OnOk r (after.seen ≡ take (end + 4) before.seen) → OnOk r (IsWholeFile after × (recorded after.seen ≡ known))
       done (Err fault) shown = tt
       done (Ok x) shown =
           let is : after.seen ≡ left = shown ∙ ap (λ (e : ℕ). take (e + 4) before.seen) ends in

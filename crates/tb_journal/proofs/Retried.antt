@@ -5,8 +5,8 @@ use Rattle.std.specs.declared.io.ErrorKind.{ErrorKind}
 use Rattle.std.specs.declared.io.ErrorKind.TheVariants as kinds
 use Rattle.tb_journal.specs.declared.faults.JournalFault.{JournalFault}
 use Rattle.tb_journal.specs.Device.{Disk, Only, Torn, Cut, Elapses, FailsNone, HasFailed, HasCause, IsLookedAt, Cuts, Syncs, overwritten}
-use Rattle.tb_journal.specs.System.{Counts, Changes, Preads, Pwrites, Ftruncates, Fdatasyncs, fault_of, sync_fault_of}
-use Rattle.tb_journal.specs.private.Posix.{ReadsSome, WritesSome}
+use Rattle.tb_journal.specs.System.{CountsFailure, ChangesDisk, Preads, Pwrites, Ftruncates, Fdatasyncs, fault_of, sync_fault_of}
+use Rattle.tb_journal.specs.private.Posix.{ReadsSome, WritesSomeBytes}
 use Rattle.tb_journal.proofs.SystemCalls.{CountsNow, none_then, failed_then, elapses_then, looked_then, changes_then, torn_then, cut_then}
 
 pub interrupted_is : {T : Type 0} (kind : ErrorKind) → kind ≡ kinds.Interrupted → IsErrOf {T = T} (Err kind) kinds.Interrupted
@@ -24,7 +24,7 @@ pub record Waits (before now : Disk) (first left tries : ℕ) : Type 0 where
   pub fewer : left + tries ≤ first
 
 pub waits_again : {T : Type 0} (fault : ErrorKind → JournalFault) (kind : ErrorKind) (a b c : Disk) (first left later tries : ℕ)
-    → kind ≡ kinds.Interrupted → Counts {T = T} fault (Err kind) b c → later < left → Waits a b first left tries
+    → kind ≡ kinds.Interrupted → CountsFailure {T = T} fault (Err kind) b c → later < left → Waits a b first left tries
     → Waits a c first later (tries + 1)
 waits_again fault kind a b c first left later tries is counts less waits = record {
   none = none_then a b c waits.none (counts.interrupted (interrupted_is kind is));
@@ -32,11 +32,11 @@ waits_again fault kind a b c first left later tries is counts less waits = recor
 }
 
 ok_cause : {T U : Type 0} (fault : ErrorKind → JournalFault) (x : T) (y : U) (a b c : Disk) → FailsNone a b
-    → Counts {T = T} fault (Ok x) b c → HasCause {T = U} (Ok y) a c
+    → CountsFailure {T = T} fault (Ok x) b c → HasCause {T = U} (Ok y) a c
 ok_cause fault x y a b c none counts = record { ok = none_then a b c none counts.ok; cause = tt }
 
 err_cause : {T U : Type 0} (fault : ErrorKind → JournalFault) (kind : ErrorKind) (why : JournalFault) (a b c : Disk) → FailsNone a b
-    → kind ≢ kinds.Interrupted → why ≡ fault kind → Counts {T = T} fault (Err kind) b c → HasCause {T = U} (Err why) a c
+    → kind ≢ kinds.Interrupted → why ≡ fault kind → CountsFailure {T = T} fault (Err kind) b c → HasCause {T = U} (Err why) a c
 err_cause fault kind why a b c none other is counts = record {
   ok = tt;
   cause = subst (HasFailed a c) (sym is) (failed_then a b c (fault kind) none (counts.failed other));
@@ -62,11 +62,11 @@ module _ (at : ℕ) (into : List ℕ) (a b c : Disk) (now : CountsNow a) (looked
 
 -- writes
 
-module _ (at : ℕ) (bytes : List ℕ) (a b c : Disk) (seen : b.seen ≡ a.seen) (changed : Changes (Torn at (length bytes)) a b) (none : FailsNone a b) where
+module _ (at : ℕ) (bytes : List ℕ) (a b c : Disk) (seen : b.seen ≡ a.seen) (changed : ChangesDisk (Torn at (length bytes)) a b) (none : FailsNone a b) where
   abbrev joins : (x y z : List ℕ) → Torn at (length bytes) x y → Torn at (length bytes) y z → Torn at (length bytes) x z
   joins = torn_then at (length bytes)
 
-  pub write_done : (count : ℕ) → Pwrites at bytes (Ok count) b c → WritesSome at bytes (Ok count) a c
+  pub write_done : (count : ℕ) → Pwrites at bytes (Ok count) b c → WritesSomeBytes at bytes (Ok count) a c
   write_done count writes = record {
     written = subst (λ (file : List ℕ). c.seen ≡ overwritten file at (take count bytes)) seen writes.written;
     changes = changes_then (Torn at (length bytes)) a b c joins changed writes.changes;
@@ -74,7 +74,7 @@ module _ (at : ℕ) (bytes : List ℕ) (a b c : Disk) (seen : b.seen ≡ a.seen)
   }
 
   pub write_failed : (kind : ErrorKind) (why : JournalFault) → kind ≢ kinds.Interrupted → why ≡ fault_of kind
-      → Pwrites at bytes (Err kind) b c → WritesSome at bytes (Err why) a c
+      → Pwrites at bytes (Err kind) b c → WritesSomeBytes at bytes (Err why) a c
   write_failed kind why other is writes = record {
     written = tt;
     changes = changes_then (Torn at (length bytes)) a b c joins changed writes.changes;
@@ -83,7 +83,7 @@ module _ (at : ℕ) (bytes : List ℕ) (a b c : Disk) (seen : b.seen ≡ a.seen)
 
 -- cuts
 
-module _ (len : ℕ) (a b c : Disk) (seen : b.seen ≡ a.seen) (changed : Changes (Cut len) a b) (none : FailsNone a b) where
+module _ (len : ℕ) (a b c : Disk) (seen : b.seen ≡ a.seen) (changed : ChangesDisk (Cut len) a b) (none : FailsNone a b) where
   pub cut_done : Ftruncates len (Ok tt) b c → Cuts len (Ok tt) a c
   cut_done cuts =
       let all = changes_then (Cut len) a b c (cut_then len) changed cuts.changes in

@@ -6,9 +6,9 @@ use Rattle.std.specs.Int.{w32, from_le_bytes}
 use Rattle.tb_journal.specs.Device.{ReadsAt}
 use Rattle.tb_journal.specs.Contents.{latch_closed, is_closed, Front, Ends, Spoiled, Whole, front, Damaged, Records, contents, records_end}
 use Rattle.tb_journal.specs.Scans.{BeginsWith}
-use Rattle.tb_journal.specs.Reading.{HasAhead, asked}
+use Rattle.tb_journal.specs.Reading.{HasAhead, asked_bytes}
 use Rattle.tb_journal.specs.Growing.{Extends, Later, Grown}
-use Rattle.tb_journal.specs.Snapshots.{Snapped, behind_blocks, EndsAt, HasDamageBefore, LeadsTo, IsFinal, ShowsBlocks, ShowsOf, IsHeld}
+use Rattle.tb_journal.specs.Snapshots.{Snapped, behind_blocks, EndsAt, HasDamageBefore, BlocksLeadTo, IsFinal, ShowsBlocks, ShowsOf, HoldsBytes}
 use Rattle.tb_journal.proofs.BlockWalks.{ended, latch_there}
 use Rattle.tb_journal.proofs.Committing.{blocks_length-append}
 use Rattle.tb_journal.proofs.ScanSteps.{goes_on, next_none, next_damaged, one_more}
@@ -16,9 +16,9 @@ use Rattle.tb_journal.proofs.Steps.{closed_front}
 use Rattle.tb_journal.proofs.Fronts.{at_least, asked_told, front_told}
 use Rattle.tb_journal.proofs.Growths.{extends_later, later_extends, final_later, damaged_final, damage_final, later_same, later_then, begins_part, begins_later, leads_within, leads_kept, leads_later}
 
--- what is at the head of bytes is known from as many as are asked for
+-- what is at the head of bytes is known from as many as are asked_bytes for
 
-asked_least : (l : List ℕ) → 11 ≤ asked l
+asked_least : (l : List ℕ) → 11 ≤ asked_bytes l
 asked_least [] = omega arith
 asked_least (w ∷ []) = omega arith
 asked_least (w ∷ x ∷ []) = omega arith
@@ -28,15 +28,15 @@ asked_least (w ∷ x ∷ y ∷ z ∷ a ∷ []) = omega arith
 asked_least (w ∷ x ∷ y ∷ z ∷ a ∷ b ∷ []) = omega arith
 asked_least (w ∷ x ∷ y ∷ z ∷ a ∷ b ∷ c ∷ rest) = at_least (is_closed w x y z) (from_le_bytes w32 (a ∷ b ∷ c ∷ 0 ∷ []))
 
-front_same : (m : ℕ) (l k : List ℕ) → take m k ≡ take m l → asked l ≤ m → front k ≡ front l
+front_same : (m : ℕ) (l k : List ℕ) → take m k ≡ take m l → asked_bytes l ≤ m → front k ≡ front l
 front_same m l k same le =
     let four : 7 ≤ m = omega (arith, le, asked_least l) in
-    let asks : asked k ≡ asked l = sym (asked_told m k four) ∙ ap asked same ∙ asked_told m l four in
+    let asks : asked_bytes k ≡ asked_bytes l = sym (asked_told m k four) ∙ ap asked_bytes same ∙ asked_told m l four in
     sym (front_told m k (omega (arith, asks, le))) ∙ ap front same ∙ front_told m l le
 
 -- a latch that is closed was closed before
 
-pub closed_before : (end : ℕ) (a b : List ℕ) → LeadsTo end a → Later a b → front (drop end b) ≡ Ends → front (drop end a) ≡ Ends
+pub closed_before : (end : ℕ) (a b : List ℕ) → BlocksLeadTo end a → Later a b → front (drop end b) ≡ Ends → front (drop end a) ≡ Ends
 closed_before end a b leads after closed = by (front (drop end a)) refl
   where
     as_final : (f : Front) → front (drop end a) ≡ f → IsFinal (contents a) → f ≡ Ends
@@ -217,8 +217,8 @@ module _ (end len : ℕ) (met shown now : List ℕ) (shows : ShowsBlocks end len
 
 -- a snapshot whose file has grown
 
-module _ {G : Type 0} (grows : G → List ℕ → Type 0) (old : Snapped G) (now : G) (shown : List ℕ) (held : IsHeld grows old shown) where
-  pub held_grown : {P : List ℕ → Type 0} → Grown (grows now) held.file P → IsHeld grows (record { file = now; end = old.end; len = old.len; closed = old.closed }) shown
+module _ {G : Type 0} (grows : G → List ℕ → Type 0) (old : Snapped G) (now : G) (shown : List ℕ) (held : HoldsBytes grows old shown) where
+  pub held_grown : {P : List ℕ → Type 0} → Grown (grows now) held.file P → HoldsBytes grows (record { file = now; end = old.end; len = old.len; closed = old.closed }) shown
   held_grown grown = record {
     file = grown.later;
     now = grown.now;

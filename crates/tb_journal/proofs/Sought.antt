@@ -6,7 +6,7 @@ use Rattle.std.proofs.Math.Nat.{le-min, min-eq_left}
 use Rattle.std.specs.Int.{w32, from_le_bytes}
 use Rattle.tb_journal.specs.Scans.{IsAhead}
 use Rattle.tb_journal.specs.Reading.{HasAhead}
-use Rattle.tb_journal.specs.Seeking.{IsSummed, StandsAt, Stands}
+use Rattle.tb_journal.specs.Seeking.{IsSummed, StandsAt, SeeksRecord}
 use Rattle.tb_journal.proofs.BlockWalks.{drop_parts}
 
 module _ (at : ℕ) (file ahead : List ℕ) (same : IsAhead at file ahead) where
@@ -60,7 +60,7 @@ module _ (at : ℕ) (file ahead : List ℕ) (same : IsAhead at file ahead) where
 pub told : (answer : Bool) (at len : ℕ) (file ahead : List ℕ) → HasAhead (4 + len) at file ahead
     → (answer ≡ true → IsSummed (take len (drop 4 ahead)) ahead) → (answer ≡ true → 4 + len ≤ length ahead)
     → (answer ≡ false → (bytes : List ℕ) → length bytes ≡ len → IsSummed bytes ahead → ⊥)
-    → Stands (Ok answer) len file (record { at = at; ahead = ahead })
+    → SeeksRecord (Ok answer) len file (record { at = at; ahead = ahead })
 told true at len file ahead has so many none = (stands at file ahead has.same len (many refl) (so refl), many refl)
 told false at len file ahead has so many none = λ bytes is there. none refl bytes is (⊎_elim (λ (enough : 4 + len ≤ length ahead). ahead_too at file ahead has.same len enough bytes is there)
     (λ (whole : ahead ≡ drop at file). subst (IsSummed bytes) (sym whole) there) has.enough)

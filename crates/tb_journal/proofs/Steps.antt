@@ -6,7 +6,7 @@ use Rattle.std.specs.List.{AllByRecursion}
 use Rattle.std.specs.Int.{w32, from_le_bytes}
 use Rattle.tb_journal.specs.private.MemoryLaws.{drop_parts}
 use Rattle.tb_journal.specs.Device.{Torn, Cut, overwritten}
-use Rattle.tb_journal.specs.Contents.{Fits, latch_closed, latch_open, is_closed, block, at_rest, Front, Ends, Spoiled, Whole, with_record, with_records, behind_latch, front, Records, joined, skipped, walk, contents, blocks_length, records_end}
+use Rattle.tb_journal.specs.Contents.{Fits, latch_closed, latch_open, is_closed, block, at_rest, Front, Ends, Spoiled, Whole, with_record, with_records, behind_latch, front, Records, joined_contents, skipped, walk, contents, blocks_length, records_end}
 use Rattle.tb_journal.proofs.BlockWalks.{take_parts, IsFile, is_file, with_records-Records, ended, ends_closed, latch_there}
 use Rattle.tb_journal.proofs.Blocks.{walk-at_rest, length-blocks}
 
@@ -47,7 +47,7 @@ any_latch w x y z behind h = front_is w x y z behind ∙ other_choice (is_closed
 
 -- a block is skipped with what is in its latch
 skip_latch : (f : Front) (at w x y p q r : ℕ) (behind : List ℕ)
-    → joined f at (walk (skipped f) (at + 1) (w ∷ x ∷ y ∷ behind)) ≡ joined f at (walk (skipped f) (at + 1) (p ∷ q ∷ r ∷ behind))
+    → joined_contents f at (walk (skipped f) (at + 1) (w ∷ x ∷ y ∷ behind)) ≡ joined_contents f at (walk (skipped f) (at + 1) (p ∷ q ∷ r ∷ behind))
 skip_latch Ends at w x y p q r behind = refl
 skip_latch Spoiled at w x y p q r behind = refl
 skip_latch (Whole bytes) at w x y p q r behind =
@@ -56,7 +56,7 @@ skip_latch (Whole bytes) at w x y p q r behind =
 
 pub walk-any_latch : (w x y z at : ℕ) (behind : List ℕ) → is_closed w x y z ≡ false → walk 0 at (w ∷ x ∷ y ∷ z ∷ behind) ≡ walk 0 at (255 ∷ 255 ∷ 255 ∷ 255 ∷ behind)
 walk-any_latch w x y z at behind h =
-    ap (λ (f : Front). joined f at (walk (skipped f) (at + 1) (x ∷ y ∷ z ∷ behind))) (any_latch w x y z behind h)
+    ap (λ (f : Front). joined_contents f at (walk (skipped f) (at + 1) (x ∷ y ∷ z ∷ behind))) (any_latch w x y z behind h)
     ∙ skip_latch (front (255 ∷ 255 ∷ 255 ∷ 255 ∷ behind)) at x y z 255 255 255 behind
 
 -- what ends the records ends them where it is truncated

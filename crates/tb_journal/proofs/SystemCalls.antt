@@ -3,7 +3,7 @@ use Rattle.std.proofs.Common.{◌≡◌, ◌⊎◌, inl, inr, ⊎_elim, ℕ, ◌
 use Rattle.std.proofs.lemmas.List.{take-take}
 use Rattle.tb_journal.specs.declared.faults.JournalFault.{JournalFault}
 use Rattle.tb_journal.specs.Device.{Disk, Torn, Cut, Elapses, Rises, FailsNone, HasFailed, HasCause, IsLookedAt}
-use Rattle.tb_journal.specs.System.{Changes}
+use Rattle.tb_journal.specs.System.{ChangesDisk}
 
 -- failures
 
@@ -53,7 +53,7 @@ looked_then a b c now first second = record {
 -- calls that change
 
 pub changes_then : (step : List ℕ → List ℕ → Type 0) (a b c : Disk)
-    → ((x y z : List ℕ) → step x y → step y z → step x z) → Changes step a b → Changes step b c → Changes step a c
+    → ((x y z : List ℕ) → step x y → step y z → step x z) → ChangesDisk step a b → ChangesDisk step b c → ChangesDisk step a c
 changes_then step a b c joins first second = record {
   crash = λ x left.
       let mid = second.crash x left in
@@ -65,7 +65,7 @@ changes_then step a b c joins first second = record {
 }
 
 pub changes_as : (step wider : List ℕ → List ℕ → Type 0) (a b : Disk) → ((x y : List ℕ) → step x y → wider x y)
-    → Changes step a b → Changes wider a b
+    → ChangesDisk step a b → ChangesDisk wider a b
 changes_as step wider a b widens change = record {
   crash = λ x left. let old = change.crash x left in (old.0, old.1, widens old.0 x old.2);
   still = change.still;

@@ -4,8 +4,8 @@ use Rattle.std.proofs.lemmas.List.{take-append-le, take_all, length-take-le, dro
 use Rattle.std.proofs.Math.Seq.{take-add, take-append-add, take-append_seam, drop-append-add}
 use Rattle.tb_journal.specs.declared.faults.JournalFault.{JournalFault}
 use Rattle.tb_journal.specs.Device.{Disk, Torn, FailsNone, IsLookedAt, Looks, Writes, overwritten}
-use Rattle.tb_journal.specs.System.{Changes}
-use Rattle.tb_journal.specs.private.Posix.{ReadsSome, WritesSome}
+use Rattle.tb_journal.specs.System.{ChangesDisk}
+use Rattle.tb_journal.specs.private.Posix.{ReadsSome, WritesSomeBytes}
 use Rattle.tb_journal.proofs.SystemCalls.{CountsNow, none_then, cause_then, looked_then, changes_then, changes_as, torn_then, torn_wider}
 
 -- reads
@@ -67,11 +67,11 @@ rest_is count bytes = take_all (length bytes - count) (drop count bytes) (omega 
 
 -- as `&bytes[count..]` is called: a write of the rest at the next offset
 pub as_rest : (at count offset : ℕ) (bytes : List ℕ) (result : Result ℕ JournalFault) (b c : Disk) → offset ≡ at + count
-    → WritesSome offset (take (length bytes - count) (drop count bytes)) result b c
-    → WritesSome (at + count) (drop count bytes) result b c
+    → WritesSomeBytes offset (take (length bytes - count) (drop count bytes)) result b c
+    → WritesSomeBytes (at + count) (drop count bytes) result b c
 as_rest at count offset bytes result b c here writes =
-    subst (λ (o : ℕ). WritesSome o (drop count bytes) result b c) here
-    (subst (λ (l : List ℕ). WritesSome offset l result b c) (rest_is count bytes) writes)
+    subst (λ (o : ℕ). WritesSomeBytes o (drop count bytes) result b c) here
+    (subst (λ (l : List ℕ). WritesSomeBytes offset l result b c) (rest_is count bytes) writes)
 
 over_over : (at : ℕ) (p q file : List ℕ) → at ≤ length file
     → overwritten (overwritten file at p) (at + length p) q ≡ overwritten file at (p ++ q)
@@ -93,7 +93,7 @@ over_over at p q file within =
 -- so many bytes were written
 pub record HasWrittenSome (at count : ℕ) (bytes : List ℕ) (before now : Disk) : Type 0 where
   pub seen : now.seen ≡ overwritten before.seen at (take count bytes)
-  pub changes : Changes (Torn at (length bytes)) before now
+  pub changes : ChangesDisk (Torn at (length bytes)) before now
   pub none : FailsNone before now
 
 module _ (at count : ℕ) (bytes : List ℕ) (a b : Disk) (within : at ≤ length a.seen) (some : count ≤ length bytes) (so_far : HasWrittenSome at count bytes a b) where
@@ -111,11 +111,11 @@ module _ (at count : ℕ) (bytes : List ℕ) (a b : Disk) (within : at ≤ lengt
     wider : (x y : List ℕ) → Torn (at + count) (length (drop count bytes)) x y → Torn at (length bytes) x y
     wider = torn_wider at count (length (drop count bytes)) (length bytes) (omega (arith, some, length-drop count bytes))
 
-    all : Changes (Torn (at + count) (length (drop count bytes))) b c → Changes (Torn at (length bytes)) a c
+    all : ChangesDisk (Torn (at + count) (length (drop count bytes))) b c → ChangesDisk (Torn at (length bytes)) a c
     all changed = changes_then (Torn at (length bytes)) a b c (torn_then at (length bytes)) so_far.changes
         (changes_as (Torn (at + count) (length (drop count bytes))) (Torn at (length bytes)) b c wider changed)
 
-    pub write_more : (k : ℕ) → WritesSome (at + count) (drop count bytes) (Ok k) b c → HasWrittenSome at (count + k) bytes a c
+    pub write_more : (k : ℕ) → WritesSomeBytes (at + count) (drop count bytes) (Ok k) b c → HasWrittenSome at (count + k) bytes a c
     write_more k writes =
         let part = take k (drop count bytes) in
         record {
@@ -127,7 +127,7 @@ module _ (at count : ℕ) (bytes : List ℕ) (a b : Disk) (within : at ≤ lengt
           none = none_then a b c so_far.none writes.cause.ok;
         }
 
-    pub write_fails : (why : JournalFault) → WritesSome (at + count) (drop count bytes) (Err why) b c → Writes at bytes (Err why) a c
+    pub write_fails : (why : JournalFault) → WritesSomeBytes (at + count) (drop count bytes) (Err why) b c → Writes at bytes (Err why) a c
     write_fails why writes =
         let changed = all writes.changes in
         record {

@@ -75,10 +75,10 @@ with_records [] others = others
 with_records (bytes ∷ records) others = with_record bytes (with_records records others)
 
 -- what is at this place, and what follows it
-abbrev pub joined : Front → ℕ → Contents → Contents
-joined Ends at others = Records []
-joined Spoiled at others = Damaged at
-joined (Whole bytes) at others = with_record bytes others
+abbrev pub joined_contents : Front → ℕ → Contents → Contents
+joined_contents Ends at others = Records []
+joined_contents Spoiled at others = Damaged at
+joined_contents (Whole bytes) at others = with_record bytes others
 
 -- the bytes of a block behind its first one
 abbrev pub skipped : Front → ℕ
@@ -90,18 +90,18 @@ abbrev pub walk : ℕ → ℕ → List ℕ → Contents
 walk zero at [] = Damaged at
 walk (suc skip) at [] = Damaged (at + suc skip)
 walk (suc skip) at (byte ∷ bytes) = walk skip (at + 1) bytes
-walk zero at (latch ∷ behind) = joined (front (latch ∷ behind)) at (walk (skipped (front (latch ∷ behind))) (at + 1) behind)
+walk zero at (latch ∷ behind) = joined_contents (front (latch ∷ behind)) at (walk (skipped (front (latch ∷ behind))) (at + 1) behind)
 
 abbrev pub contents : List ℕ → Contents
 contents file = if starts_with nat_eq file magic then walk 0 8 (drop 8 file) else NotAJournal
 
 -- the records of a file that has some
-abbrev pub records_of : Contents → List (List ℕ)
-records_of (Records records) = records
-records_of other = []
+abbrev pub content_records : Contents → List (List ℕ)
+content_records (Records records) = records
+content_records other = []
 
 abbrev pub recorded : List ℕ → List (List ℕ)
-recorded file = records_of (contents file)
+recorded file = content_records (contents file)
 
 -- it is read to its end: whole blocks of records, and a closed latch
 abbrev pub IsJournal : List ℕ → Type 0

@@ -7,7 +7,7 @@ use Rattle.tb_journal.specs.declared.opening.OpenFault.TheVariants as open_fault
 use Rattle.tb_journal.specs.declared.opening.NotOpened.{NotOpened}
 use Rattle.tb_journal.specs.Device.{Disk, IsSettled, LeavesOnly, FailsNone, HasFailed, HasCause}
 use Rattle.tb_journal.specs.Contents.{NotAJournal, Damaged, Records, contents, journal_of, recorded}
-use Rattle.tb_journal.specs.Steps.{IsWhole}
+use Rattle.tb_journal.specs.Steps.{IsWholeFile}
 use Rattle.tb_journal.specs.Ready.{Kept, IsReady}
 use Rattle.tb_journal.specs.Opening.{IsAsBefore}
 
@@ -72,7 +72,7 @@ pub record FindsBlank (result : Result Bool JournalFault) (before after : Disk) 
 
 -- the first bytes are written over a blank file
 pub record WritesFirst (result : Result (Unit {0}) JournalFault) (before after : Disk) : Type 0 where
-  pub ok : OnOk result (IsWhole after × (recorded after.seen ≡ []))
+  pub ok : OnOk result (IsWholeFile after × (recorded after.seen ≡ []))
   pub settled : IsSettled before → OnOk result (IsSettled after)
   pub any_moment : IsSettled before → LeavesOnly before after IsUnborn
   pub cause : HasCause result before after

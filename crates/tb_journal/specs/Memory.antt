@@ -1,9 +1,9 @@
 -- What a crash may leave of a file in memory, by the calls that were made.
 use Rattle.std.specs.Prelude.{◌≡◌, ℕ, ◌-◌, ◌≤◌, Bool, List, [], ◌∷◌, length, take, reverse}
 use Rattle.tb_journal.specs.Device.{Disk}
-use Rattle.tb_journal.specs.Torn.{Adds, torn_after}
+use Rattle.tb_journal.specs.Torn.{LeavesTorn, torn_after}
 use Rattle.tb_journal.specs.Failures.{counted}
-use Rattle.tb_journal.specs.Faults.{call_fault}
+use Rattle.tb_journal.specs.Faults.{fault_in_memory}
 use Rattle.tb_journal.specs.declared.faults.JournalFault.{JournalFault}
 use Rattle.tb_journal.specs.declared.memory.Failures.{Failures}
 use Rattle.tb_journal.specs.declared.memory.Memory.{Memory}
@@ -19,7 +19,7 @@ moments_of file = length file.calls.items
 -- what a crash may leave after these calls, the newest first
 abbrev pub LeftBy : List ℕ → List Call → List ℕ → Type 0
 LeftBy first [] left = left ≡ first
-LeftBy first (call ∷ earlier) left = (d : List ℕ) × LeftBy first earlier d × Adds d call left
+LeftBy first (call ∷ earlier) left = (d : List ℕ) × LeftBy first earlier d × LeavesTorn d call left
 
 -- the same at a moment of the file
 abbrev pub CrashLeaves : Memory → ℕ → List ℕ → Type 0
@@ -64,4 +64,4 @@ pub record IsCounted (before after : Memory) : Type 0 where
 
 -- it is the turn of this call to fail, with this fault
 abbrev pub IsInTurn : Memory → JournalFault → Type 0
-IsInTurn before fault = (fuse_of before ≡ 1) × (fault ≡ call_fault (why_of before))
+IsInTurn before fault = (fuse_of before ≡ 1) × (fault ≡ fault_in_memory (why_of before))

@@ -10,7 +10,7 @@ use Rattle.tb_journal.specs.declared.opening.OpenFault.TheVariants as open_fault
 use Rattle.tb_journal.specs.declared.opening.NotOpened.{NotOpened}
 use Rattle.tb_journal.specs.Device.{Disk, IsSettled, LeavesOnly, FailsNone, HasCause, IsCause, SetsAside}
 use Rattle.tb_journal.specs.Contents.{Contents, NotAJournal, Damaged, Records, contents, recorded, records_end}
-use Rattle.tb_journal.specs.Steps.{IsWhole}
+use Rattle.tb_journal.specs.Steps.{IsWholeFile}
 use Rattle.tb_journal.specs.Ready.{Kept, IsReady}
 
 -- what a file represents that is refused
@@ -101,7 +101,7 @@ IsAsideBehind saved result file = IfOk result (λ journal. SetsAside saved (jour
 
 -- what follows the closed latch behind the records is cut off
 pub record Repairs (result : Result (Unit {0}) JournalFault) (before after : Disk) : Type 0 where
-  pub ok : OnOk result (IsWhole after × (recorded after.seen ≡ recorded before.seen))
+  pub ok : OnOk result (IsWholeFile after × (recorded after.seen ≡ recorded before.seen))
   pub settled : IsSettled before → OnOk result (IsSettled after)
   pub any_moment : IsSettled before → LeavesOnly before after (λ file. contents file ≡ Records (recorded before.seen))
   pub cause : HasCause result before after

@@ -32,21 +32,21 @@ pub record HasRead (records : List (List ℕ)) (file : List ℕ) (scan : ScanSta
   pub ahead : IsAhead scan.end file scan.ahead
 
 -- a scan before the first record of a file, or why the file is refused
-abbrev pub Starts : Result ScanState OpenFault → List ℕ → Type 0
-Starts (Ok scan) file = HasRead [] file scan
-Starts (Err (open_faults.Refused why)) file = contents file ≡ refused_as why
-Starts (Err (open_faults.Device fault)) file = Unit {0}
+abbrev pub BeginsScan : Result ScanState OpenFault → List ℕ → Type 0
+BeginsScan (Ok scan) file = HasRead [] file scan
+BeginsScan (Err (open_faults.Refused why)) file = contents file ≡ refused_as why
+BeginsScan (Err (open_faults.Device fault)) file = Unit {0}
 
 -- the next step behind these records: one record more, the end, or why the file is refused
-abbrev pub ReadsNext : Result Bool OpenFault → List (List ℕ) → List ℕ → ScanState → Type 0
-ReadsNext (Ok true) records file scan = HasRead (records ++ scan.last ∷ []) file scan
-ReadsNext (Ok false) records file scan = (contents file ≡ Records records) × HasRead records file scan
-ReadsNext (Err (open_faults.Refused why)) records file scan = contents file ≡ refused_as why
-ReadsNext (Err (open_faults.Device fault)) records file scan = Unit {0}
+abbrev pub ReadsNextRecord : Result Bool OpenFault → List (List ℕ) → List ℕ → ScanState → Type 0
+ReadsNextRecord (Ok true) records file scan = HasRead (records ++ scan.last ∷ []) file scan
+ReadsNextRecord (Ok false) records file scan = (contents file ≡ Records records) × HasRead records file scan
+ReadsNextRecord (Err (open_faults.Refused why)) records file scan = contents file ≡ refused_as why
+ReadsNextRecord (Err (open_faults.Device fault)) records file scan = Unit {0}
 
 -- the same behind whatever records were read of a file
 abbrev pub ReadsOn : Result Bool OpenFault → ScanState → ScanState → List ℕ → Type 0
-ReadsOn result before after file = (records : List (List ℕ)) → HasRead records file before → ReadsNext result records file after
+ReadsOn result before after file = (records : List (List ℕ)) → HasRead records file before → ReadsNextRecord result records file after
 
 -- what was read of a file was read of the same file at a later moment
 abbrev pub StaysRead : ScanState → ScanState → Type 0

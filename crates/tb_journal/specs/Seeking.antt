@@ -26,10 +26,10 @@ abbrev pub IsSeeking : List ℕ → SeekState → Type 0
 IsSeeking file seek = IsAhead seek.at file seek.ahead
 
 -- the record of so many bytes stands at the place of a seek, and is ahead; or none stands there
-abbrev pub Stands : Result Bool JournalFault → ℕ → List ℕ → SeekState → Type 0
-Stands (Ok true) len file seek = StandsAt seek.at (take len (drop 4 seek.ahead)) file × (4 + len ≤ length seek.ahead)
-Stands (Ok false) len file seek = (bytes : List ℕ) → length bytes ≡ len → StandsAt seek.at bytes file → ⊥
-Stands (Err fault) len file seek = Unit {0}
+abbrev pub SeeksRecord : Result Bool JournalFault → ℕ → List ℕ → SeekState → Type 0
+SeeksRecord (Ok true) len file seek = StandsAt seek.at (take len (drop 4 seek.ahead)) file × (4 + len ≤ length seek.ahead)
+SeeksRecord (Ok false) len file seek = (bytes : List ℕ) → length bytes ≡ len → StandsAt seek.at bytes file → ⊥
+SeeksRecord (Err fault) len file seek = Unit {0}
 
 -- rows
 

@@ -2,7 +2,7 @@
 use Rattle.std.specs.Prelude.{◌≡◌, ◌⊎◌, ℕ, ◌+◌, ◌-◌, ◌≤◌, Bool, true, false, List, ◌++◌, length, take, drop, replicate}
 use Rattle.tb_journal.specs.Contents.{latch_closed, Ends, Spoiled, front, Contents, NotAJournal, Damaged, Records, contents, records_end}
 use Rattle.tb_journal.specs.Scans.{BeginsWith}
-use Rattle.tb_journal.specs.Reading.{asked}
+use Rattle.tb_journal.specs.Reading.{asked_bytes}
 use Rattle.tb_journal.specs.Growing.{Later}
 
 -- a file, the offset at which the blocks of a snapshot of it end, how many bytes it had then, and whether a closed latch was met there
@@ -27,12 +27,12 @@ pub record HasDamageBefore (end : ℕ) (file : List ℕ) : Type 0 where
   pub records : List (List ℕ)
   pub begins : BeginsWith records file
   pub damaged : front (drop (records_end records) file) ≡ Spoiled
-  pub before : records_end records + asked (drop (records_end records) file) ≤ end
+  pub before : records_end records + asked_bytes (drop (records_end records) file) ≤ end
   pub within : end ≤ length file
 
 -- the blocks of a file lead to this offset by their lengths
-abbrev pub LeadsTo : ℕ → List ℕ → Type 0
-LeadsTo end file = EndsAt end file ⊎ HasDamageBefore end file
+abbrev pub BlocksLeadTo : ℕ → List ℕ → Type 0
+BlocksLeadTo end file = EndsAt end file ⊎ HasDamageBefore end file
 
 -- damaged or no journal: nobody appends to it
 abbrev pub IsFinal : Contents → Type 0
@@ -42,7 +42,7 @@ IsFinal (Records records) = ⊥
 
 -- the blocks up to the closed latch that was met, that latch, and zeros in the place of what is behind it: all of this at one moment
 pub record ShowsBlocks (end len : ℕ) (file shown : List ℕ) : Type 0 where
-  pub leads : LeadsTo end file
+  pub leads : BlocksLeadTo end file
   pub closed : front (drop end file) ≡ Ends
   pub sized : len ≡ length file
   pub is : shown ≡ take end file ++ behind_blocks (len - (end + 4))
@@ -64,7 +64,7 @@ pub record Shows {G : Type 0} (snapshot : Snapped G) (file shown : List ℕ) : T
   pub shows : ShowsOf snapshot.closed snapshot.end snapshot.len met shown
 
 -- a snapshot holds these bytes, whatever its file is by now
-pub record IsHeld {G : Type 0} (grows : G → List ℕ → Type 0) (snapshot : Snapped G) (shown : List ℕ) : Type 0 where
+pub record HoldsBytes {G : Type 0} (grows : G → List ℕ → Type 0) (snapshot : Snapped G) (shown : List ℕ) : Type 0 where
   pub file : List ℕ
   pub now : grows snapshot.file file
   pub shows : Shows snapshot file shown
@@ -75,7 +75,7 @@ pub record TakesSnapshot {G : Type 0} (grows : G → List ℕ → Type 0) (file 
   pub later : List ℕ
   pub after : Later file later
   pub shown : List ℕ
-  pub held : IsHeld grows snapshot shown
+  pub held : HoldsBytes grows snapshot shown
   pub same : contents shown ≡ contents later
   pub long : length shown ≡ length later
 

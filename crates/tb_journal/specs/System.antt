@@ -19,7 +19,7 @@ abbrev pub sync_fault_of : ErrorKind → JournalFault
 sync_fault_of kind = faults.SyncFailed
 
 -- an error is a failure, under the name of its fault; an interruption is none
-pub record Counts {T : Type 0} (fault : ErrorKind → JournalFault) (result : Result T ErrorKind) (before after : Disk) : Type 0 where
+pub record CountsFailure {T : Type 0} (fault : ErrorKind → JournalFault) (result : Result T ErrorKind) (before after : Disk) : Type 0 where
   pub ok : OnOk result (FailsNone before after)
   pub interrupted : IsErrOf result kinds.Interrupted → FailsNone before after
   pub failed : IfErr result (λ kind. kind ≢ kinds.Interrupted → HasFailed before after (fault kind))
@@ -33,10 +33,10 @@ pub record Preads (offset : ℕ) (into : List ℕ) (result : Result ℕ ErrorKin
   pub bytes : IfOk result (λ count. take count into ≡ take count (drop offset before.seen))
   pub end : result ≡ Ok 0 → (length into ≡ 0) ⊎ (length before.seen ≤ offset)
   pub looks : IsLookedAt before after
-  pub counts : Counts fault_of result before after
+  pub counts : CountsFailure fault_of result before after
 
 -- a change of which nothing is durable: what a crash might have left it still may
-pub record Changes (step : List ℕ → List ℕ → Type 0) (before after : Disk) : Type 0 where
+pub record ChangesDisk (step : List ℕ → List ℕ → Type 0) (before after : Disk) : Type 0 where
   pub crash : Follows step before after
   pub still : AddsNone after before
   pub time : Elapses before after
@@ -47,15 +47,15 @@ pub record Pwrites (offset : ℕ) (bytes : List ℕ) (result : Result ℕ ErrorK
   pub some : IfOk result (λ count. 1 ≤ length bytes → 1 ≤ count)
   pub written : IfOk result (λ count. after.seen ≡ overwritten before.seen offset (take count bytes))
   pub interrupted : IsErrOf result kinds.Interrupted → after.seen ≡ before.seen
-  pub changes : Changes (Torn offset (length bytes)) before after
-  pub counts : Counts fault_of result before after
+  pub changes : ChangesDisk (Torn offset (length bytes)) before after
+  pub counts : CountsFailure fault_of result before after
 
 -- a cut
 pub record Ftruncates (len : ℕ) (result : Result (Unit {0}) ErrorKind) (before after : Disk) : Type 0 where
   pub cut : OnOk result (after.seen ≡ take len before.seen)
   pub interrupted : IsErrOf result kinds.Interrupted → after.seen ≡ before.seen
-  pub changes : Changes (Cut len) before after
-  pub counts : Counts fault_of result before after
+  pub changes : ChangesDisk (Cut len) before after
+  pub counts : CountsFailure fault_of result before after
 
 -- a sync, before the end of which a crash may leave what it might have left, or what a read returns. Behind one that has
 -- failed none keeps anything, whatever it answers
@@ -67,7 +67,7 @@ pub record Fdatasyncs (result : Result (Unit {0}) ErrorKind) (before after : Dis
   pub seen : after.seen ≡ before.seen
   pub crash : (c : List ℕ) → after.may_leave c → before.may_leave c ⊎ (c ≡ before.seen)
   pub time : Elapses before after
-  pub counts : Counts sync_fault_of result before after
+  pub counts : CountsFailure sync_fault_of result before after
 
 -- the file's length. No signal interrupts it
 pub record Fstats (result : Result ℕ ErrorKind) (before after : Disk) : Type 0 where

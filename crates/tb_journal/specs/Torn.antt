@@ -5,10 +5,10 @@ use Rattle.tb_journal.specs.declared.memory.Call.{Call}
 use Rattle.tb_journal.specs.declared.memory.Call.TheVariants as variants
 
 -- a write and a cut may be torn, and after a sync the file is as it was then
-abbrev pub Adds : List ℕ → Call → List ℕ → Type 0
-Adds old (variants.Write at bytes shown) left = Torn at (length bytes.items) old left
-Adds old (variants.Cut len shown) left = Cut len old left
-Adds old (variants.Sync file) left = left ≡ file.items
+abbrev pub LeavesTorn : List ℕ → Call → List ℕ → Type 0
+LeavesTorn old (variants.Write at bytes shown) left = Torn at (length bytes.items) old left
+LeavesTorn old (variants.Cut len shown) left = Cut len old left
+LeavesTorn old (variants.Sync file) left = left ≡ file.items
 
 -- a write of n bytes where a crash lets these through, as many of them as fit; beyond the end it leaves nothing
 abbrev pub torn_at : List ℕ → ℕ → ℕ → List ℕ → List ℕ

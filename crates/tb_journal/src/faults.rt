@@ -1,6 +1,6 @@
 //! Why a call on a device or a journal failed.
 ghost use Rattle.std.specs.Prelude.{◌≡◌, Some};
-ghost use Rattle.tb_journal.specs.Faults.{fault_number, fault_name};
+ghost use Rattle.tb_journal.specs.Faults.{journal_fault_number, journal_fault_name};
 
 use std::alloc::{AllocError, AllocFailed};
 use std::fmt;
@@ -26,7 +26,7 @@ pub enum JournalFault {
 impl JournalFault {
     /// The fault's number, 1 to 6.
     pub fn number(self) -> u8
-        ensures { result ≡ fault_number self }
+        ensures { result ≡ journal_fault_number self }
     {
         match self {
             JournalFault::Memory => 1,
@@ -40,7 +40,7 @@ impl JournalFault {
 
     /// The fault's name, as a message shows it.
     pub fn name(self) -> &'static str
-        ensures { result.now ≡ fault_name self }
+        ensures { result.now ≡ journal_fault_name self }
     {
         match self {
             JournalFault::Memory => "Memory",
@@ -74,7 +74,7 @@ impl<T: Drop> From<AllocFailed<T>> for JournalFault {
 }
 
 impl fmt::Display for JournalFault {
-    ghost output = { λ fault. Some (fault_name fault) };
+    ghost output = { λ fault. Some (journal_fault_name fault) };
 
     fn fmt<W: fmt::Write>(&self, f: &mut fmt::Formatter<W>) -> fmt::Result {
         f.write_str(self.name())

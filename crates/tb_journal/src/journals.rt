@@ -2,8 +2,8 @@
 ghost use Rattle.std.specs.Prelude.{◌≡◌, ◌↔◌, ◌≤◌, ◌<◌, ◌+◌, ◌^◌, true, false, [], length, Ok, IfErr, OnOk, OnErr, IsErrOf};
 ghost use Rattle.tb_journal.specs.Device.{HasCause};
 ghost use Rattle.tb_journal.specs.Contents.{at_rest, recorded, records_end};
-ghost use Rattle.tb_journal.specs.Ready.{Kept, IsWritable, IsReady, grown, with_waiting, Acknowledges, LeavesAllOrNone};
-ghost use Rattle.tb_journal.specs.Steps.{IsWhole, Overwrites, WritesBatch};
+ghost use Rattle.tb_journal.specs.Ready.{Kept, IsWritable, IsReady, grown_bytes, with_waiting, Acknowledges, LeavesAllOrNone};
+ghost use Rattle.tb_journal.specs.Steps.{IsWholeFile, Overwrites, WritesBatch};
 
 use crate::batches::{Batch, LATCH_BYTES, OPEN};
 use crate::devices::Device;
@@ -44,7 +44,7 @@ impl<D: Device> Journal<D> {
         ensures err { OnErr result (self.new ≡ self.old) }
         ensures long { IsErrOf result JournalFault.TooLong ↔ (2 ^ 24 ≤ length content.now) }
         ensures full { IsErrOf result JournalFault.Full
-            ↔ (length content.now < 2 ^ 24) × (2 ^ 62 < grown self.old content.now) }
+            ↔ (length content.now < 2 ^ 24) × (2 ^ 62 < grown_bytes self.old content.now) }
         ensures failed { IsErrOf result JournalFault.Failed → ⊥ }
         ensures not_empty { IsErrOf result JournalFault.NotEmpty → ⊥ }
         ensures synced { IsErrOf result JournalFault.SyncFailed → ⊥ }
@@ -69,10 +69,10 @@ impl<D: Device> Journal<D> {
         ensures err { OnErr result (self.new ≡ self.old) }
         ensures long { IsErrOf result JournalFault.TooLong → 2 ^ 24 ≤ length (W.bytes content.now) }
         ensures full { IsErrOf result JournalFault.Full
-            → 2 ^ 62 < grown self.old (W.bytes content.now) }
+            → 2 ^ 62 < grown_bytes self.old (W.bytes content.now) }
         // Of a record that is too long or does not fit, memory may be missing first.
         ensures short { OnOk result (length (W.bytes content.now) < 2 ^ 24) }
-        ensures fits { OnOk result (grown self.old (W.bytes content.now) ≤ 2 ^ 62) }
+        ensures fits { OnOk result (grown_bytes self.old (W.bytes content.now) ≤ 2 ^ 62) }
         ensures failed { IsErrOf result JournalFault.Failed → ⊥ }
         ensures not_empty { IsErrOf result JournalFault.NotEmpty → ⊥ }
         ensures synced { IsErrOf result JournalFault.SyncFailed → ⊥ }
@@ -175,7 +175,7 @@ pub fn write_kept<D: Device>(device: &mut D, at: usize, bytes: &[u8]) -> Result<
 pub fn publish<D: Device>(device: &mut D, end: usize, batch: &[u8]) -> Result<(), JournalFault>
     requires some { 4 ≤ length batch.now }
     requires short { end < 2 ^ 63 }
-    requires whole { D.tells → IsWhole (D.disk device.old) }
+    requires whole { D.tells → IsWholeFile (D.disk device.old) }
     requires ends { D.tells → end ≡ records_end (recorded (D.disk device.old).seen) }
     ensures other { IfErr result (λ fault. fault ≡ JournalFault.NotEmpty → ⊥) }
     ensures publishes { D.tells → WritesBatch batch.now result (D.disk device.old) (D.disk device.new) }

@@ -3,8 +3,8 @@ ghost use Rattle.std.specs.Prelude.{◌≡◌, ◌≢◌, ◌≤◌, ◌⊎◌, 
 ghost use Rattle.tb_journal.specs.declared.memory.Call.TheVariants as variants;
 ghost use Rattle.tb_journal.specs.declared.faults.JournalFault.TheVariants as faults;
 ghost use Rattle.tb_journal.specs.Device.{Torn, Looks, ReadsAt, Writes, Cuts, Syncs, Rises, IsOfCall, IsOfSync, overwritten, AnswersLength, GivesBytes, OfHeld};
-ghost use Rattle.tb_journal.specs.Faults.{call_fault};
-ghost use Rattle.tb_journal.specs.Torn.{Adds, torn_at, torn_by, shown_after};
+ghost use Rattle.tb_journal.specs.Faults.{fault_in_memory};
+ghost use Rattle.tb_journal.specs.Torn.{LeavesTorn, torn_at, torn_by, shown_after};
 
 use crate::devices::Device;
 use crate::faults::JournalFault;
@@ -169,7 +169,7 @@ impl Memory {
 // What one more call may leave of a file that a crash left.
 #[tactic(auto, using(crate::proofs::CallHistory::cut_through))]
 fn after_torn(alloc: Global, file: Vec<u8>, call: &Call, torn: &[u8]) -> Result<Vec<u8>, AllocError>
-    ensures among { IfOk result (λ left. Adds file.items call.now left.items) }
+    ensures among { IfOk result (λ left. LeavesTorn file.items call.now left.items) }
     ensures exact { IfOk result (λ left. left.items ≡ torn_by torn.now call.now file.items) }
 {
     match call {
@@ -333,7 +333,7 @@ impl Growing for Memory {
 // The fault of a call that is no sync.
 fn of_call(fault: JournalFault) -> JournalFault
     ensures names { IsOfCall result }
-    ensures value { result ≡ call_fault fault }
+    ensures value { result ≡ fault_in_memory fault }
 {
     match fault {
         JournalFault::Memory | JournalFault::Full => fault,

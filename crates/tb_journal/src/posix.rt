@@ -2,7 +2,7 @@
 ghost use Rattle.std.specs.Prelude.{◌≡◌, ◌+◌, ◌^◌, ◌<◌, ◌≤◌, length, Ok, IfOk, IfErr, refl};
 ghost use Rattle.tb_journal.specs.Device.{Cuts, Syncs, IsOfCall, IsOfSync};
 ghost use Rattle.tb_journal.specs.System.{fault_of};
-ghost use Rattle.tb_journal.specs.private.Posix.{ReadsSome, WritesSome};
+ghost use Rattle.tb_journal.specs.private.Posix.{ReadsSome, WritesSomeBytes};
 
 use crate::devices::Device;
 use crate::faults::JournalFault;
@@ -144,7 +144,7 @@ fn write_some<S: System>(system: &mut S, offset: u64, bytes: &[u8]) -> Result<us
     ensures within { IfOk result (λ count. count ≤ length bytes.now) }
     ensures names { IfErr result IsOfCall }
     ensures writes { S.tells
-        → WritesSome offset bytes.now result (S.disk system.old) (S.disk system.new) }
+        → WritesSomeBytes offset bytes.now result (S.disk system.old) (S.disk system.new) }
 {
     for _ in 0..u64::MAX {
         match system.pwrite(bytes, offset) {

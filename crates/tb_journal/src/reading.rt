@@ -2,7 +2,7 @@
 //! with zeros behind it.
 ghost use Rattle.std.specs.Prelude.{◌≡◌, [], ◌∷◌, ◌≤◌, ◌<◌, ◌++◌, bit_xor};
 ghost use Rattle.tb_journal.specs.Contents.{is_closed, front, behind_latch};
-ghost use Rattle.tb_journal.specs.Reading.{head_is, asked};
+ghost use Rattle.tb_journal.specs.Reading.{head_is, asked_bytes};
 ghost use Rattle.tb_journal.specs.Checksum.{byte_on, remainder, checksum, zeros_on};
 
 use crate::tables::REMAINDERS;
@@ -44,7 +44,7 @@ pub fn is_closed(w: u8, x: u8, y: u8, z: u8) -> bool
 
 // So many bytes from a place on say what is there.
 pub fn asked(bytes: &[u8]) -> usize
-    ensures { result ≡ asked bytes.now }
+    ensures { result ≡ asked_bytes bytes.now }
 {
     match bytes {
         [w, x, y, z, a, b, c, ..] if !is_closed(*w, *x, *y, *z) => {

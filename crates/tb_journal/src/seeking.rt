@@ -2,7 +2,7 @@
 ghost use Rattle.std.specs.Prelude.{◌≡◌, ◌+◌, ◌≤◌, ◌<◌, ◌^◌, true, false, List, [], ℕ, length, take, drop, IfOk, OnOk};
 ghost use Rattle.tb_journal.specs.Device.{IsLookedAt, HasOwnCause};
 ghost use Rattle.tb_journal.specs.Reading.{HasAhead};
-ghost use Rattle.tb_journal.specs.Seeking.{SeekState, IsSummed, IsSeeking, Stands};
+ghost use Rattle.tb_journal.specs.Seeking.{SeekState, IsSummed, IsSeeking, SeeksRecord};
 
 use crate::devices::Device;
 use crate::faults::JournalFault;
@@ -92,7 +92,7 @@ impl Seek {
         requires short { len < 2 ^ 24 }
         ensures at { self.new.at ≡ self.old.at }
         // Of any device, by the file that its reads are of.
-        ensures stands { (file : List ℕ) → D.holds device.old file → IsSeeking file self.old → Stands result len file self.new }
+        ensures stands { (file : List ℕ) → D.holds device.old file → IsSeeking file self.old → SeeksRecord result len file self.new }
         ensures ahead { (file : List ℕ) → D.holds device.old file → IsSeeking file self.old → OnOk result (IsSeeking file self.new) }
         ensures within { IfOk result (λ found. found ≡ true → 4 + len ≤ length self.new.ahead) }
         ensures same { (file : List ℕ) → D.holds device.old file → D.holds device.new file }

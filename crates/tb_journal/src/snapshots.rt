@@ -4,8 +4,8 @@ ghost use Rattle.tb_journal.specs.Device.{IsOfCall, AnswersLength};
 ghost use Rattle.tb_journal.specs.Real.{untold};
 ghost use Rattle.tb_journal.specs.declared.hops.Hop.TheVariants as variants;
 ghost use Rattle.tb_journal.specs.Reading.{HasAhead};
-ghost use Rattle.tb_journal.specs.Snapshots.{Snapped, behind_blocks, IsHeld, TakesSnapshot, Refreshes};
-ghost use Rattle.tb_journal.specs.private.Hops.{IsFound, StartsAs, Grows, HopsFrom, Finds, FindsMore, HopsSized, FindsEnd, FindsStart, ReadsBlocks, Closes, IsNear};
+ghost use Rattle.tb_journal.specs.Snapshots.{Snapped, behind_blocks, HoldsBytes, TakesSnapshot, Refreshes};
+ghost use Rattle.tb_journal.specs.private.Hops.{IsEndFound, StartsAs, Grows, HopsFrom, Finds, FindsMore, HopsSized, FindsEnd, FindsStart, ReadsBlocks, Closes, IsNear};
 ghost use Rattle.tb_journal.specs.Growing.{HasGrown};
 
 use crate::batches::{CLOSED, LATCH_BYTES};
@@ -75,8 +75,8 @@ impl<G: Growing + Drop> Snapshot<G> {
 
     /// Goes on from the end that was met to the one that is there now. At an `Err` it holds what it held.
     pub fn refresh(&mut self) -> Result<(), JournalFault>
-        ensures ok { (shown : List ℕ) → (held : IsHeld G.grows self.old shown) → OnOk result (Refreshes G.grows held.file shown self.new) }
-        ensures err { (shown : List ℕ) → IsHeld G.grows self.old shown → OnErr result (IsHeld G.grows self.new shown) }
+        ensures ok { (shown : List ℕ) → (held : HoldsBytes G.grows self.old shown) → OnOk result (Refreshes G.grows held.file shown self.new) }
+        ensures err { (shown : List ℕ) → HoldsBytes G.grows self.old shown → OnErr result (HoldsBytes G.grows self.new shown) }
         ensures names { IfErr result IsOfCall }
     {
         if !self.found.closed {
@@ -101,7 +101,7 @@ impl<G: Growing + Drop> Snapshot<G> {
 
     /// The number of bytes of the file now, those behind the end of the snapshot too.
     pub fn file_len(&mut self) -> Result<usize, JournalFault>
-        ensures same { (shown : List ℕ) → IsHeld G.grows self.old shown → IsHeld G.grows self.new shown }
+        ensures same { (shown : List ℕ) → HoldsBytes G.grows self.old shown → HoldsBytes G.grows self.new shown }
         ensures len { HasGrown (G.grows self.old.file) (G.grows self.new.file) (AnswersLength result) }
         ensures names { IfErr result IsOfCall }
     {
@@ -114,7 +114,7 @@ impl<G: Growing> Device for Snapshot<G> {
 
     ghost disk = { λ _. untold };
 
-    ghost holds = { λ snapshot shown. IsHeld G.grows snapshot shown };
+    ghost holds = { λ snapshot shown. HoldsBytes G.grows snapshot shown };
 
     ghost holds_seen = { λ _ told. absurd told };
 
@@ -209,7 +209,7 @@ fn put_behind(into: &mut [u8], skip: usize)
 // Where a file ends, from its first bytes on.
 fn find<G: Growing>(file: &mut G, piece: &mut [u8]) -> Result<Found, JournalFault>
     requires { 11 ≤ length piece.old }
-    ensures found { (bytes : List ℕ) → G.grows file.old bytes → IfOk result (IsFound (G.grows file.new) bytes) }
+    ensures found { (bytes : List ℕ) → G.grows file.old bytes → IfOk result (IsEndFound (G.grows file.new) bytes) }
     ensures near { IfOk result (λ found. IsNear found.end) }
     ensures names { IfErr result IsOfCall }
 {

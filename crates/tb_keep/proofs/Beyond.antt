@@ -9,7 +9,7 @@ use Rattle.tb_journal.proofs.Moments.{weaker}
 use Rattle.tb_machine.specs.declared.entries.Entry.{Entry}
 use Rattle.tb_machine.specs.Dumps.{dumped}
 use Rattle.tb_machine.specs.Histories.{State, start as start_state}
-use Rattle.tb_keep.specs.Keeping.{History, longer, state_of, records_of, head_record, Keeping, Keeps, IsKeepable, IsLedger}
+use Rattle.tb_keep.specs.Keeping.{History, longer, history_state, records_of, head_record, Keeping, Keeps, IsKeepable, IsLedger}
 use Rattle.tb_keep.specs.declared.faults.SalvageFault.{SalvageFault}
 use Rattle.tb_keep.specs.declared.faults.SalvageFault.TheVariants.{Old, New}
 use Rattle.tb_keep.specs.Recovering.{RecordsLead}
@@ -99,24 +99,24 @@ module _ (h : History) (keepable : IsKeepable h) where
   abbrev first_state : State
   first_state = start_state h.profile h.clients_max
 
-  leads : RecordsLead first_state (map dumped h.entries) (state_of h)
+  leads : RecordsLead first_state (map dumped h.entries) (history_state h)
   leads = record { entries = h.entries; legal = keepable.legal; state = refl; recorded_are = keepable.recorded_are; spelled = refl }
 
   module _ (T : State) (records : List (List ℕ)) where
     -- the longer history, by the state before the records and the entries that lead from it
     abbrev Goes : (S : State) → RecordsLead S records T → Type 0
-    Goes S more = IsKeepable (longer h more.entries) × (T ≡ state_of (longer h more.entries)) × (records_of h ++ records ≡ records_of (longer h more.entries))
+    Goes S more = IsKeepable (longer h more.entries) × (T ≡ history_state (longer h more.entries)) × (records_of h ++ records ≡ records_of (longer h more.entries))
 
-    from_here : (more : RecordsLead (state_of h) records T) → Goes (state_of h) more
+    from_here : (more : RecordsLead (history_state h) records T) → Goes (history_state h) more
     unfolding leads leads_join
     from_here more =
-        let all = leads_join first_state (state_of h) T (map dumped h.entries) records leads more in (
+        let all = leads_join first_state (history_state h) T (map dumped h.entries) records leads more in (
           record { clients = keepable.clients; legal = all.legal; recorded_are = all.recorded_are },
           all.state,
           ap (λ (l : List (List ℕ)). head_record h.profile h.clients_max ∷ l) all.spelled,
         )
 
-    pub goes_on : (S : State) → S ≡ state_of h → (more : RecordsLead S records T) → Goes S more
+    pub goes_on : (S : State) → S ≡ history_state h → (more : RecordsLead S records T) → Goes S more
     goes_on S is = subst (λ (U : State). (more : RecordsLead U records T) → Goes U more) (sym is) from_here
 
 module _ {N : Type 0} (disk : N → Disk) (before : Keeping N) (h : History) (keeps : Keeps disk h before) where

@@ -15,11 +15,11 @@ use Rattle.tb_keep.specs.declared.faults.StartFault.{StartFault}
 use Rattle.tb_keep.specs.declared.faults.StartFault.TheVariants as start
 use Rattle.tb_keep.specs.declared.faults.DumpFault.{DumpFault}
 use Rattle.tb_keep.specs.declared.faults.DumpFault.TheVariants as dump
-use Rattle.tb_keep.specs.Recovering.{HeadAnswers, IsStartCause, HasStartCause}
+use Rattle.tb_keep.specs.Recovering.{HeadRecordAnswers, IsStartCause, HasStartCause}
 use Rattle.tb_keep.specs.Creating.{IsCreateStartCause, HasCreateStartCause, IsEitherCause, HasEitherCause}
 use Rattle.tb_keep.specs.Reading.{RulesIn, IsDumpCause, HasDumpCause}
 use Rattle.tb_keep.specs.declared.recovering.Rules.{Rules}
-use Rattle.tb_keep.specs.private.Headed.{IsOfDevice, IsDeviceCause, HasDeviceCause}
+use Rattle.tb_keep.specs.private.Headed.{IsOfFailedDevice, IsDeviceCause, HasDeviceCause}
 
 -- behind calls of which none failed
 
@@ -50,7 +50,7 @@ module _ (before mid after : Disk) (first : FailsNone before mid) (seen : mid.se
 
 -- a head that is not committed
 
-pub device_cause : (before after : Disk) (fault : JournalFault) → IsOfDevice (start.Journal (open_faults.Device fault)) → IsCause before after fault
+pub device_cause : (before after : Disk) (fault : JournalFault) → IsOfFailedDevice (start.Journal (open_faults.Device fault)) → IsCause before after fault
     → IsDeviceCause before after (start.Journal (open_faults.Device fault))
 device_cause before after faults.NotEmpty named cause = absurd named
 device_cause before after faults.Memory named cause = cause
@@ -186,7 +186,7 @@ module _ (before after : Disk) where
 -- a fault of the file, or of memory
 
 module _ (before after : Disk) where
-  pub head_cause : (fault : StartFault) (head : List ℕ) (profile : Profile) (clients_max : ℕ) → HeadAnswers (Err fault) head profile clients_max → FailsNone before after → IsStartCause before after fault
+  pub head_cause : (fault : StartFault) (head : List ℕ) (profile : Profile) (clients_max : ℕ) → HeadRecordAnswers (Err fault) head profile clients_max → FailsNone before after → IsStartCause before after fault
   head_cause (start.Journal fault) head profile clients_max why none = absurd why
   head_cause start.Head head profile clients_max why none = none
   head_cause start.OtherRules head profile clients_max why none = none

@@ -11,8 +11,8 @@ use Rattle.tb_machine.specs.Histories.{State}
 use Rattle.tb_machine.specs.Scripts.{Pair}
 use Rattle.tb_keep.specs.declared.faults.KeepFault.{KeepFault}
 use Rattle.tb_keep.specs.declared.faults.KeepFault.TheVariants as keep
-use Rattle.tb_keep.specs.Keeping.{History, state_of, records_of, IsKeepable, Keeping, Keeps}
-use Rattle.tb_keep.specs.Rounds.{state_from, entries_from, records_from, AreServed, pairs_of, Standing, standing_of, Rounds, Quits, Ends, Served}
+use Rattle.tb_keep.specs.Keeping.{History, history_state, records_of, IsKeepable, Keeping, Keeps}
+use Rattle.tb_keep.specs.Rounds.{state_from, entries_from, records_from, AreServed, pairs_of, Standing, standing_of, Rounds, Quits, EndsServing, Served}
 use Rattle.tb_keep.specs.Again.{all_pairs, HasFirst, AnyCrash, IsAmid, AfterKill}
 use Rattle.tb_keep.proofs.Pairs.{records_join}
 use Rattle.tb_keep.proofs.Moments.{state_behind}
@@ -55,7 +55,7 @@ module _ (tells : Type 0) {D : Type 0} (disk : D → Disk) (only : (d : D) → O
 
   -- what ends the serving behind rounds
   ends_leave : tells → (result : Result ℕ KeepFault) (count : ℕ) (more : List Pair) (standing : Standing D) (after : Keeping D) (input last : Input) (written : Output)
-      → IsAtRest (disk standing.device) → Ends tells disk result count more standing after input last written
+      → IsAtRest (disk standing.device) → EndsServing tells disk result count more standing after input last written
       → LeavesOnly (disk standing.device) (disk after.journal.device) (Front (recorded (disk standing.device).seen) standing.state more)
   ends_leave t result count more standing after input last written rest ended = by result ended
     where
@@ -69,7 +69,7 @@ module _ (tells : Type 0) {D : Type 0} (disk : D → Disk) (only : (d : D) → O
       batch leaves = weaker (disk standing.device) (disk after.journal.device) (IsBeforeOrAfter (recorded (disk standing.device).seen) (records_from standing.state more)) (Front (recorded (disk standing.device).seen) standing.state more)
           (λ c is. subst (λ qs. Front (recorded (disk standing.device).seen) standing.state qs c) (append-nil more) (of_batch (recorded (disk standing.device).seen) standing.state more [] c is)) leaves
 
-      by : (r : Result ℕ KeepFault) → Ends tells disk r count more standing after input last written → Goal
+      by : (r : Result ℕ KeepFault) → EndsServing tells disk r count more standing after input last written → Goal
       by (Ok k) e = batch ((e.2.commits t).any_moment)
       by (Err (keep.Journal fault)) (inl e) = quits e.1
       by (Err (keep.Journal fault)) (inr e) = batch (e.1.any_moment t)
@@ -80,7 +80,7 @@ module _ (tells : Type 0) {D : Type 0} (disk : D → Disk) (only : (d : D) → O
       by (Err (keep.Serving run.TooLong)) e = quits e.2
 
   all_leave : tells → (done : List (List Pair)) (more : List Pair) (first standing : Standing D) (result : Result ℕ KeepFault) (count : ℕ) (after : Keeping D) (input last : Input) (written : Output)
-      → IsAtRest (disk first.device) → Rounds tells disk done first standing → Ends tells disk result count more standing after input last written
+      → IsAtRest (disk first.device) → Rounds tells disk done first standing → EndsServing tells disk result count more standing after input last written
       → LeavesOnly (disk first.device) (disk after.journal.device) (Front (recorded (disk first.device).seen) first.state (pairs_of done ++ more))
   all_leave t [] more first standing result count after input last written rest kept ended =
       subst (λ (s : Standing D). LeavesOnly (disk s.device) (disk after.journal.device) (Front (recorded (disk s.device).seen) s.state more)) kept
@@ -98,7 +98,7 @@ module _ (tells : Type 0) {D : Type 0} (disk : D → Disk) (only : (d : D) → O
       (all_leave t done more middle standing result count after input last written commits.at_rest kept.2 ended)) in
       subst (λ (all : List Pair). LeavesOnly (disk first.device) (disk after.journal.device) (Front base first.state all)) (sym (append_assoc ps (pairs_of done) more)) leaves
 
-  has_first : (h : History) (S : State) (base : List (List ℕ)) (all : List Pair) (file : List ℕ) → IsKeepable h → base ≡ records_of h → S ≡ state_of h → AreServed S all → Front base S all file → HasFirst h all file
+  has_first : (h : History) (S : State) (base : List (List ℕ)) (all : List Pair) (file : List ℕ) → IsKeepable h → base ≡ records_of h → S ≡ history_state h → AreServed S all → Front base S all file → HasFirst h all file
   has_first h S base all file keepable stands state served front = record {
     pairs = front.pairs;
     others = front.others;
@@ -107,9 +107,9 @@ module _ (tells : Type 0) {D : Type 0} (disk : D → Disk) (only : (d : D) → O
       reads = front.reads
           ∙ ap (λ records. Records (records ++ records_from S front.pairs)) stands
           ∙ ap (λ (T : State). Records (records_of h ++ records_from T front.pairs)) state
-          ∙ ap Records (records_longer h (entries_from (state_of h) front.pairs));
+          ∙ ap Records (records_longer h (entries_from (history_state h) front.pairs));
       keepable = keepable_longer h front.pairs keepable
-          (served_front (state_of h) front.pairs front.others (subst (λ ps. AreServed (state_of h) ps) front.all_are (subst (λ (T : State). AreServed T all) state served)));
+          (served_front (history_state h) front.pairs front.others (subst (λ ps. AreServed (history_state h) ps) front.all_are (subst (λ (T : State). AreServed T all) state served)));
     };
   }
 

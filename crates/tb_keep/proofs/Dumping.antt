@@ -5,7 +5,7 @@ use Rattle.tb_records.specs.declared.faults.FrameFault.{FrameFault}
 use Rattle.tb_records.specs.DumpBytes.{head_bytes}
 use Rattle.tb_records.specs.Transport.{Output, Sent, IsSent}
 use Rattle.tb_records.proofs.Sendings.{sent_rest}
-use Rattle.tb_journal.specs.Contents.{Records, records_of}
+use Rattle.tb_journal.specs.Contents.{Records, content_records}
 use Rattle.tb_journal.specs.Scans.{ScanState, BeginsWith, HasRead}
 use Rattle.tb_machine.proofs.Running.{sends_none}
 use Rattle.tb_keep.specs.declared.faults.DumpFault.{DumpFault}
@@ -13,12 +13,12 @@ use Rattle.tb_keep.specs.declared.faults.DumpFault.TheVariants as dump
 use Rattle.tb_keep.specs.declared.faults.StartFault.{StartFault}
 use Rattle.tb_keep.specs.declared.faults.StartFault.TheVariants as start
 use Rattle.tb_keep.specs.declared.recovering.Rules.{Rules}
-use Rattle.tb_keep.specs.Reading.{RulesIn, RulesAnswer, joined, behind_head, dump_with, Dumps}
-use Rattle.tb_keep.specs.private.Entering.{FindsRules}
+use Rattle.tb_keep.specs.Reading.{RulesIn, RulesAnswer, joined_bytes, behind_head, dump_with, Dumps}
+use Rattle.tb_keep.specs.private.Entering.{FindsHeadRules}
 use Rattle.tb_keep.specs.Following.{entries_above, EntriesOnce}
 use Rattle.tb_keep.specs.private.Sending.{SendsNext, SendsAll}
 
-pub finds_rules : (result : Result Rules StartFault) (file head : List ℕ) (scan : ScanState) → HasRead (head ∷ []) file scan → RulesIn result head → FindsRules result scan file
+pub finds_rules : (result : Result Rules StartFault) (file head : List ℕ) (scan : ScanState) → HasRead (head ∷ []) file scan → RulesIn result head → FindsHeadRules result scan file
 finds_rules (Ok rules) file head scan at found = subst (λ (h : List ℕ). HasRead (h ∷ []) file scan) found at
 finds_rules (Err start.Head) file head scan at none = inr (head, [], at.begins, none)
 finds_rules (Err (start.Journal fault)) file head scan at none = absurd none
@@ -28,14 +28,14 @@ finds_rules (Err (start.Entry fault)) file head scan at none = absurd none
 finds_rules (Err start.NoMemory) file head scan at none = absurd none
 finds_rules (Err (start.TornTooLong place bytes)) file head scan at none = absurd none
 
-pub rules_found : (result : Result Rules StartFault) (file : List ℕ) (scan : ScanState) → FindsRules result scan file → RulesAnswer result file
+pub rules_found : (result : Result Rules StartFault) (file : List ℕ) (scan : ScanState) → FindsHeadRules result scan file → RulesAnswer result file
 rules_found result file scan at = grind (arith, common_steps)
 
 -- records that are sent
 
-pub joined_join : (xs ys : List (List ℕ)) → joined (xs ++ ys) ≡ joined xs ++ joined ys
+pub joined_join : (xs ys : List (List ℕ)) → joined_bytes (xs ++ ys) ≡ joined_bytes xs ++ joined_bytes ys
 joined_join [] ys = refl
-joined_join (x ∷ xs) ys = ap (λ (l : List ℕ). x ++ l) (joined_join xs ys) ∙ sym (append_assoc x (joined xs) (joined ys))
+joined_join (x ∷ xs) ys = ap (λ (l : List ℕ). x ++ l) (joined_join xs ys) ∙ sym (append_assoc x (joined_bytes xs) (joined_bytes ys))
 
 pub drop_none : (n : ℕ) → drop {A = List ℕ} n [] ≡ []
 drop_none zero = refl
@@ -51,9 +51,9 @@ pub entries_once : EntriesOnce
 entries_once after read more later =
     let n : ℕ = after + 1 - length read in
     let e : after + 1 - length (read ++ more) ≡ n - length more = omega (arith, length-append read more) in
-    ap (λ (k : ℕ). joined (drop n more) ++ joined (drop k later)) e
+    ap (λ (k : ℕ). joined_bytes (drop n more) ++ joined_bytes (drop k later)) e
     ∙ sym (joined_join (drop n more) (drop (n - length more) later))
-    ∙ ap joined (sym (drop_join n more later))
+    ∙ ap joined_bytes (sym (drop_join n more later))
 
 -- one record: it is passed over, or sent
 
@@ -72,7 +72,7 @@ pub sending_none : (after : ℕ) (read : List (List ℕ)) (file : List ℕ) (sca
 sending_none after read file scan old has = (
   [],
   subst (λ (r : List (List ℕ)). HasRead r file scan) (sym (append-nil read)) has,
-  subst (λ (l : List ℕ). Sent l old old) (sym (ap joined (drop_none (after + 1 - length read)))) (sends_none old),
+  subst (λ (l : List ℕ). Sent l old old) (sym (ap joined_bytes (drop_none (after + 1 - length read)))) (sends_none old),
 )
 
 module _ (after : ℕ) (read records : List (List ℕ)) (file : List ℕ) (scan : ScanState) (old mid new : Output) (sent : Sent (entries_above after read records) old mid) where
@@ -105,7 +105,7 @@ module _ (rules : Rules) (file : List ℕ) (old mid new : Output) where
   abbrev head : List ℕ
   head = head_bytes rules.profile rules.clients_max
 
-  of_all : (records : List (List ℕ)) → entries_above 0 [] records ≡ joined (behind_head records)
+  of_all : (records : List (List ℕ)) → entries_above 0 [] records ≡ joined_bytes (behind_head records)
   of_all [] = refl
   of_all (r ∷ records) = refl
 
@@ -115,7 +115,7 @@ module _ (rules : Rules) (file : List ℕ) (old mid new : Output) where
 
   pub dumps_behind : (result : Result (Unit {0}) DumpFault) (scan : ScanState) → Sent head old mid → SendsAll result 0 [] file scan mid new → Dumps result rules file old new
   dumps_behind (Ok done) scan sent (records, reads, at, more) =
-      let found = ap records_of reads in (
+      let found = ap content_records reads in (
         reads ∙ ap Records (sym found),
         subst (λ (r : List (List ℕ)). Sent (dump_with rules r) old new) (sym found) (sends_rest (Ok tt) records sent more),
       )

@@ -5,7 +5,7 @@ use Rattle.tb_records.specs.declared.limits.Profile.{Profile}
 use Rattle.tb_records.specs.DumpBytes.{IsClients}
 use Rattle.tb_journal.specs.declared.reading.Extent.{Extent}
 use Rattle.tb_journal.specs.Device.{Disk, IsLookedAt}
-use Rattle.tb_journal.specs.Contents.{Records, contents, records_of}
+use Rattle.tb_journal.specs.Contents.{Records, contents, content_records}
 use Rattle.tb_journal.specs.Opening.{IsAsBefore}
 use Rattle.tb_journal.specs.Reading.{extent_of}
 use Rattle.tb_journal.specs.Scans.{ScanState, BeginsWith, HasRead}
@@ -15,9 +15,9 @@ use Rattle.tb_machine.specs.Histories.{State, start as start_state}
 use Rattle.tb_keep.specs.declared.faults.StartFault.{StartFault}
 use Rattle.tb_keep.specs.declared.faults.StartFault.TheVariants as start
 use Rattle.tb_keep.specs.Keeping.{head_record}
-use Rattle.tb_keep.specs.Recovering.{RecordsLead, StopsAt, AppliesRecord, AppliesRecords, HeadAnswers, IsRestored, IsRestoredFrom, StopsBehindHead, StopsBeginning, StopsReading}
+use Rattle.tb_keep.specs.Recovering.{RecordsLead, StopsAt, AppliesRecord, AppliesRecords, HeadRecordAnswers, IsRestored, IsRestoredFrom, StopsBehindHead, StopsBeginning, StopsReading}
 use Rattle.tb_keep.specs.declared.recovering.Rules.{Rules}
-use Rattle.tb_keep.specs.private.Entering.{StaysKept, EntersNext, EntersAll, FindsBehind}
+use Rattle.tb_keep.specs.private.Entering.{StaysKept, EntersNextRecord, EntersAll, FindsBehind}
 use Rattle.tb_keep.proofs.Opened.{Counts, untouched_then}
 use Rattle.tb_keep.proofs.Leading.{leads_more, stops_file}
 
@@ -57,7 +57,7 @@ pub head_read : (file head : List ℕ) (scan : ScanState) (profile : Profile) (c
 head_read file head scan profile clients_max at is = subst (λ (h : List ℕ). HasRead (h ∷ []) file scan) is at
 
 stops_with : (fault : StartFault) (profile : Profile) (clients_max : ℕ) (file head : List ℕ) (rest : List (List ℕ)) → BeginsWith (head ∷ rest) file
-    → (HeadAnswers (Err fault) head profile clients_max ⊎ StopsBehindHead fault profile clients_max head rest)
+    → (HeadRecordAnswers (Err fault) head profile clients_max ⊎ StopsBehindHead fault profile clients_max head rest)
     → StopsBeginning fault profile clients_max file
 stops_with fault profile clients_max file head rest begins why = record {
   records = head ∷ rest;
@@ -65,7 +65,7 @@ stops_with fault profile clients_max file head rest begins why = record {
   stops = stops_file fault profile clients_max (head ∷ rest) head rest refl why;
 }
 
-pub head_stops : (fault : StartFault) (profile : Profile) (clients_max : ℕ) (file head : List ℕ) → BeginsWith (head ∷ []) file → HeadAnswers (Err fault) head profile clients_max
+pub head_stops : (fault : StartFault) (profile : Profile) (clients_max : ℕ) (file head : List ℕ) → BeginsWith (head ∷ []) file → HeadRecordAnswers (Err fault) head profile clients_max
     → StopsReading fault profile clients_max file
 head_stops (start.Journal f) profile clients_max file head begins why = absurd why
 head_stops start.Head profile clients_max file head begins why = stops_with start.Head profile clients_max file head [] begins (inl why)
@@ -78,7 +78,7 @@ head_stops (start.TornTooLong at bytes) profile clients_max file head begins why
 -- the records behind it
 
 pub enters_not : (fault : StartFault) (read : List (List ℕ)) (file bytes : List ℕ) (after : ScanState) (S T : State) → BeginsWith (read ++ bytes ∷ []) file → AppliesRecord (Err fault) S bytes T
-    → EntersNext (Err fault) read file after S T
+    → EntersNextRecord (Err fault) read file after S T
 enters_not fault read file bytes after S T begins stops = grind (arith, common_steps)
 
 -- so far these were entered
@@ -86,21 +86,21 @@ abbrev pub Entered : List (List ℕ) → List ℕ → ScanState → State → St
 Entered read file scan S T = (records : List (List ℕ)) × HasRead (read ++ records) file scan × RecordsLead S records T
 
 module _ (read records : List (List ℕ)) (file : List ℕ) (scan : ScanState) (S T U : State) (leads : RecordsLead S records T) where
-  pub entered_more : EntersNext (Ok true) (read ++ records) file scan T U → Entered read file scan S U
+  pub entered_more : EntersNextRecord (Ok true) (read ++ records) file scan T U → Entered read file scan S U
   entered_more (bytes, at, (e, is_record, next, to)) = (
     records ++ bytes ∷ [],
     subst (λ (r : List (List ℕ)). HasRead r file scan) (append_assoc read records (bytes ∷ [])) at,
     leads_more S T U records bytes e leads is_record next to,
   )
 
-  pub entered_all : EntersNext (Ok false) (read ++ records) file scan T U → EntersAll (Ok tt) read file scan S U
+  pub entered_all : EntersNextRecord (Ok false) (read ++ records) file scan T U → EntersAll (Ok tt) read file scan S U
   entered_all (reads, has, to) = (records, reads, has, subst (λ (V : State). RecordsLead S records V) (sym to) leads)
 
   entered_not_more : (fault : StartFault) (bytes : List ℕ) → BeginsWith ((read ++ records) ++ bytes ∷ []) file → StopsAt fault T bytes
       → (others : List (List ℕ)) × (V : State) × BeginsWith (read ++ others) file × AppliesRecords (Err fault) S others V
   entered_not_more fault bytes begins stops = grind (arith, common_steps, append_assoc read records (bytes ∷ []))
 
-  pub entered_not : (fault : StartFault) → EntersNext (Err fault) (read ++ records) file scan T U → EntersAll (Err fault) read file scan S U
+  pub entered_not : (fault : StartFault) → EntersNextRecord (Err fault) (read ++ records) file scan T U → EntersAll (Err fault) read file scan S U
   entered_not fault next = grind (arith, common_steps, begins_shorter, entered_not_more)
 
 -- and where its records end
@@ -124,7 +124,7 @@ module _ (profile : Profile) (clients_max : ℕ) (clients : IsClients clients_ma
       → EntersAll (Ok tt) (head_record profile clients_max ∷ []) file scan S T → IsRestoredFrom profile clients_max file T extent
   restored_behind file scan extent S T empty end count (records, reads, has, leads) = record {
     extent_is = extent_found file (head_record profile clients_max ∷ records) scan extent reads has end count;
-    restored = subst (λ (r : List (List ℕ)). IsRestored profile clients_max r T) (sym (ap records_of reads)) (of_history records T (subst (λ (V : State). RecordsLead V records T) empty leads));
+    restored = subst (λ (r : List (List ℕ)). IsRestored profile clients_max r T) (sym (ap content_records reads)) (of_history records T (subst (λ (V : State). RecordsLead V records T) empty leads));
   }
 
 pub behind_begins : (head file : List ℕ) (scan : ScanState) (S T : State) → EntersAll (Ok tt) (head ∷ []) file scan S T → BeginsWith (head ∷ []) file

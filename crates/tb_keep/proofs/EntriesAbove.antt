@@ -7,7 +7,7 @@ use Rattle.tb_machine.specs.Dumps.{dumped}
 use Rattle.tb_machine.specs.Histories.{State, start as start_state, step, LegalFrom}
 use Rattle.tb_machine.proofs.Judging.{may_come}
 use Rattle.tb_keep.specs.Keeping.{records_of}
-use Rattle.tb_keep.specs.Reading.{joined}
+use Rattle.tb_keep.specs.Reading.{joined_bytes}
 use Rattle.tb_keep.specs.Following.{EntriesAreAbove}
 use Rattle.tb_keep.proofs.Dumping.{drop_none}
 
@@ -21,25 +21,25 @@ module _ (after : ℕ) where
   early : (e : Entry) → nat_lt after e.commit ≡ false → e.commit ≤ after
   early e is = grind (arith, common_steps)
 
-  above_by : (S : State) (e : Entry) (es : List Entry) → e.commit ≡ S.commit + 1 → joined (drop (after - e.commit) (map dumped es)) ≡ flat_map dumped (filter is_above es)
-      → (b : Bool) → nat_lt after e.commit ≡ b → joined (drop (after - S.commit) (dumped e ∷ map dumped es)) ≡ flat_map dumped (filter is_above (e ∷ es))
+  above_by : (S : State) (e : Entry) (es : List Entry) → e.commit ≡ S.commit + 1 → joined_bytes (drop (after - e.commit) (map dumped es)) ≡ flat_map dumped (filter is_above es)
+      → (b : Bool) → nat_lt after e.commit ≡ b → joined_bytes (drop (after - S.commit) (dumped e ∷ map dumped es)) ≡ flat_map dumped (filter is_above (e ∷ es))
   above_by S e es next more true is =
       let all : after - S.commit ≡ 0 = omega (arith, late e is, next) in
       let rest : after - e.commit ≡ 0 = omega (arith, late e is) in
-      ap (λ (n : ℕ). joined (drop n (dumped e ∷ map dumped es))) all
-      ∙ ap (λ (l : List ℕ). dumped e ++ l) (ap (λ (n : ℕ). joined (drop n (map dumped es))) (sym rest) ∙ more)
+      ap (λ (n : ℕ). joined_bytes (drop n (dumped e ∷ map dumped es))) all
+      ∙ ap (λ (l : List ℕ). dumped e ++ l) (ap (λ (n : ℕ). joined_bytes (drop n (map dumped es))) (sym rest) ∙ more)
       ∙ ap (λ (b : Bool). flat_map dumped (if b then e ∷ filter is_above es else filter is_above es)) (sym is)
   above_by S e es next more false is =
       let one : after - S.commit ≡ suc (after - e.commit) = omega (arith, early e is, next) in
-      ap (λ (n : ℕ). joined (drop n (dumped e ∷ map dumped es))) one
+      ap (λ (n : ℕ). joined_bytes (drop n (dumped e ∷ map dumped es))) one
       ∙ more
       ∙ ap (λ (b : Bool). flat_map dumped (if b then e ∷ filter is_above es else filter is_above es)) (sym is)
 
-  above_from : (S : State) (es : List Entry) → LegalFrom S es → joined (drop (after - S.commit) (map dumped es)) ≡ flat_map dumped (filter is_above es)
-  above_from S [] legal = ap joined (drop_none (after - S.commit))
+  above_from : (S : State) (es : List Entry) → LegalFrom S es → joined_bytes (drop (after - S.commit) (map dumped es)) ≡ flat_map dumped (filter is_above es)
+  above_from S [] legal = ap joined_bytes (drop_none (after - S.commit))
   above_from S (e ∷ es) legal = above_by S e es (may_come S e legal.0).commit (above_from (step S e) es legal.1) (nat_lt after e.commit) refl
 
 pub entries_are_above : EntriesAreAbove
 entries_are_above after h keepable =
     let n : after + 1 - 0 ≡ suc (after - 0) = omega arith in
-    ap (λ (k : ℕ). joined (drop k (records_of h))) n ∙ above_from after (start_state h.profile h.clients_max) h.entries keepable.legal
+    ap (λ (k : ℕ). joined_bytes (drop k (records_of h))) n ∙ above_from after (start_state h.profile h.clients_max) h.entries keepable.legal

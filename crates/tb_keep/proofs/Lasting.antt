@@ -10,7 +10,7 @@ use Rattle.tb_machine.specs.Recording.{IsRecord}
 use Rattle.tb_machine.specs.Histories.{State, start, fits, step, LegalFrom}
 use Rattle.tb_machine.specs.Scripts.{Pair, entry_of, is_entered, after_pair}
 use Rattle.tb_machine.proofs.Legal.{legal_join}
-use Rattle.tb_keep.specs.Keeping.{History, state_of, longer, head_record, records_of, AreRecorded, IsKeepable}
+use Rattle.tb_keep.specs.Keeping.{History, history_state, longer, head_record, records_of, AreRecorded, IsKeepable}
 use Rattle.tb_keep.specs.Rounds.{state_from, entries_from, records_from, AreServed}
 use Rattle.tb_keep.specs.Moments.{Lasts, RoundsAreServed}
 
@@ -44,11 +44,11 @@ pub served_join : (S : State) (ps qs : List Pair) → AreServed S ps → AreServ
 served_join S [] qs served more = more
 served_join S (p ∷ ps) qs served more = (served.0, served_join (after_pair S p) ps qs served.1 more)
 
-pub keepable_longer : (h : History) (ps : List Pair) → IsKeepable h → AreServed (state_of h) ps → IsKeepable (longer h (entries_from (state_of h) ps))
+pub keepable_longer : (h : History) (ps : List Pair) → IsKeepable h → AreServed (history_state h) ps → IsKeepable (longer h (entries_from (history_state h) ps))
 keepable_longer h ps is served = record {
   clients = is.clients;
-  legal = legal_join (start h.profile h.clients_max) h.entries (entries_from (state_of h) ps) is.legal (legal_pairs (state_of h) ps served);
-  recorded_are = recorded_join h.entries (entries_from (state_of h) ps) is.recorded_are (recorded_pairs (state_of h) ps served);
+  legal = legal_join (start h.profile h.clients_max) h.entries (entries_from (history_state h) ps) is.legal (legal_pairs (history_state h) ps served);
+  recorded_are = recorded_join h.entries (entries_from (history_state h) ps) is.recorded_are (recorded_pairs (history_state h) ps served);
 }
 
 pub records_longer : (h : History) (es : List Entry) → records_of h ++ map dumped es ≡ records_of (longer h es)
@@ -57,13 +57,13 @@ records_longer h es = ap (λ records. head_record h.profile h.clients_max ∷ re
 module _ (tells : Type 0) {D : Type 0} (disk : D → Disk) where
   pub lasts : Lasts tells disk
   lasts h first all file bytes keepable stands state served backs =
-      let front = served_front (state_of h) backs.pairs backs.others
-      (subst (λ ps. AreServed (state_of h) ps) backs.all_are (subst (λ (S : State). AreServed S all) state served)) in
+      let front = served_front (history_state h) backs.pairs backs.others
+      (subst (λ ps. AreServed (history_state h) ps) backs.all_are (subst (λ (S : State). AreServed S all) state served)) in
       record {
         reads = backs.reads
             ∙ ap (λ records. Records (records ++ records_from first.state backs.pairs)) stands
             ∙ ap (λ (S : State). Records (records_of h ++ records_from S backs.pairs)) state
-            ∙ ap Records (records_longer h (entries_from (state_of h) backs.pairs));
+            ∙ ap Records (records_longer h (entries_from (history_state h) backs.pairs));
         keepable = keepable_longer h backs.pairs keepable front;
       }
 

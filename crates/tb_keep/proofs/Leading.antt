@@ -8,7 +8,7 @@ use Rattle.tb_machine.specs.Dumps.{dumped}
 use Rattle.tb_machine.specs.Recording.{IsRecord}
 use Rattle.tb_keep.specs.Keeping.{AreRecorded}
 use Rattle.tb_keep.specs.declared.faults.StartFault.{StartFault}
-use Rattle.tb_keep.specs.Recovering.{RecordsLead, HeadAnswers, StopsBehindHead, StopsFile}
+use Rattle.tb_keep.specs.Recovering.{RecordsLead, HeadRecordAnswers, StopsBehindHead, StopsFile}
 
 pub leads_none : (S : State) → RecordsLead S [] S
 leads_none S = record { entries = []; legal = tt; state = refl; recorded_are = tt; spelled = refl }
@@ -42,6 +42,6 @@ leads_more S T U front bytes e leads is next to = record {
 -- a file of which a record is refused
 pub stops_file : (fault : StartFault) (profile : Profile) (clients_max : ℕ) (records : List (List ℕ)) (head : List ℕ) (rest : List (List ℕ))
     → records ≡ head ∷ rest
-    → (HeadAnswers (Err fault) head profile clients_max ⊎ StopsBehindHead fault profile clients_max head rest)
+    → (HeadRecordAnswers (Err fault) head profile clients_max ⊎ StopsBehindHead fault profile clients_max head rest)
     → StopsFile fault profile clients_max records
 stops_file fault profile clients_max records head rest is why = grind (arith, common_steps)

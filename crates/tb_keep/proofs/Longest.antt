@@ -3,7 +3,7 @@ use Rattle.std.proofs.Common.{arith, ℕ, zero, suc, ◌≡◌, ◌⊎◌, ◌+�
 use Rattle.std.proofs.lemmas.List.{take_at, take-take, length-take-le}
 use Rattle.tb_journal.specs.declared.opening.OpenFault.TheVariants as open_faults
 use Rattle.tb_journal.specs.declared.reading.Refusal.TheVariants as refusals
-use Rattle.tb_journal.specs.Contents.{latch_closed, Front, Ends, Spoiled, Whole, front, joined, skipped, Contents, NotAJournal, Damaged, Records, with_record, with_records, walk, contents, records_end}
+use Rattle.tb_journal.specs.Contents.{latch_closed, Front, Ends, Spoiled, Whole, front, joined_contents, skipped, Contents, NotAJournal, Damaged, Records, with_record, with_records, walk, contents, records_end}
 use Rattle.tb_journal.specs.Scans.{BeginsWith}
 use Rattle.tb_journal.proofs.BlockWalks.{begins_long, begins_shorter}
 use Rattle.tb_journal.proofs.ScanSteps.{all}
@@ -11,7 +11,7 @@ use Rattle.tb_records.specs.declared.faults.FrameFault.{FrameFault}
 use Rattle.tb_machine.specs.declared.restoring.RestoreFault.{RestoreFault}
 use Rattle.tb_keep.specs.declared.faults.StartFault.{StartFault}
 use Rattle.tb_keep.specs.declared.faults.StartFault.TheVariants as start
-use Rattle.tb_keep.specs.Keeping.{History, records_of, state_of, IsKeepable}
+use Rattle.tb_keep.specs.Keeping.{History, records_of, history_state, IsKeepable}
 use Rattle.tb_keep.specs.Recovering.{StopsAt, StopsFile}
 use Rattle.tb_keep.specs.Salvaging.{IsLongest, StopsBehind}
 use Rattle.tb_keep.proofs.OneHistory.{one_head}
@@ -31,7 +31,7 @@ inner_all [] c place is = is
 inner_all (bytes ∷ records) c place is = inner_all records c place (inner bytes (with_records records c) place is)
 
 behind_block : (f : Front) (at place : ℕ) (behind : List ℕ) → ((skip from : ℕ) → walk skip from behind ≡ Damaged place → from ≤ place)
-    → joined f at (walk (skipped f) (at + 1) behind) ≡ Damaged place → at ≤ place
+    → joined_contents f at (walk (skipped f) (at + 1) behind) ≡ Damaged place → at ≤ place
 behind_block Ends at place behind later is = absurd (cc)
 behind_block Spoiled at place behind later is = let same : at ≡ place = cc (is) in omega (arith, same)
 behind_block (Whole bytes) at place behind later is = omega (arith, later (10 + length bytes) (at + 1) (inner bytes (walk (10 + length bytes) (at + 1) behind) place is))
@@ -90,7 +90,7 @@ module _ (h k : History) (file : List ℕ) (mine : IsKeepable h) (yours : IsKeep
 
   -- so a longer history is not refused there
   not_refused : (fault : StartFault) (bytes b : List ℕ) (more : List (List ℕ)) → records_of k ≡ records_of h ++ b ∷ more → BeginsWith (records_of h ++ bytes ∷ []) file
-      → StopsAt fault (state_of h) bytes → fault ≡ start.NoMemory
+      → StopsAt fault (history_state h) bytes → fault ≡ start.NoMemory
   not_refused fault bytes b more longer two stops =
       let parts : records_of k ≡ (records_of h ++ b ∷ []) ++ more = longer ∙ sym (append_assoc (records_of h) (b ∷ []) more) in
       let one : BeginsWith (records_of h ++ b ∷ []) file = begins_shorter (records_of h ++ b ∷ []) more file (subst (λ (r : List (List ℕ)). BeginsWith r file) parts also) in
@@ -100,10 +100,10 @@ module _ (h k : History) (file : List ℕ) (mine : IsKeepable h) (yours : IsKeep
       (subst (λ (r : List (List ℕ)). StopsFile fault k.profile k.clients_max r) (sym longer)
       (subst (λ (n : ℕ). StopsFile fault k.profile n (records_of h ++ b ∷ more)) heads.1
       (subst (λ p. StopsFile fault p h.clients_max (records_of h ++ b ∷ more)) heads.0
-      (stops_longer_history h mine 0 file fault b more (subst (λ (x : List ℕ). StopsAt fault (state_of h) x) same stops)))))
+      (stops_longer_history h mine 0 file fault b more (subst (λ (x : List ℕ). StopsAt fault (history_state h) x) same stops)))))
 
   -- so where the fault is not out of memory, the other is no longer
-  no_longer : (fault : StartFault) → (fault ≡ start.NoMemory → ⊥) → (bytes : List ℕ) → BeginsWith (records_of h ++ bytes ∷ []) file → StopsAt fault (state_of h) bytes
+  no_longer : (fault : StartFault) → (fault ≡ start.NoMemory → ⊥) → (bytes : List ℕ) → BeginsWith (records_of h ++ bytes ∷ []) file → StopsAt fault (history_state h) bytes
       → (rest : List (List ℕ)) × (records_of k ≡ records_of h ++ rest) → (rest : List (List ℕ)) × (records_of h ≡ records_of k ++ rest)
   no_longer fault other bytes two stops ([], is) = ([], sym (append-nil (records_of h)) ∙ sym is ∙ sym (append-nil (records_of k)))
   no_longer fault other bytes two stops (b ∷ more, is) = absurd (other (not_refused fault bytes b more is two stops))
@@ -111,13 +111,13 @@ module _ (h k : History) (file : List ℕ) (mine : IsKeepable h) (yours : IsKeep
   near : records_end (records_of k) ≤ records_end (records_of h) → (rest : List (List ℕ)) × (records_of h ≡ records_of k ++ rest)
   near less = shorter_first (records_of k) (records_of h) file also begins less
 
-  refused_there : (fault : StartFault) → (fault ≡ start.NoMemory → ⊥) → (bytes : List ℕ) → BeginsWith (records_of h ++ bytes ∷ []) file → StopsAt fault (state_of h) bytes
+  refused_there : (fault : StartFault) → (fault ≡ start.NoMemory → ⊥) → (bytes : List ℕ) → BeginsWith (records_of h ++ bytes ∷ []) file → StopsAt fault (history_state h) bytes
       → (rest : List (List ℕ)) × (records_of h ≡ records_of k ++ rest)
   refused_there fault other bytes two stops =
       ⊎_elim near (λ less. no_longer fault other bytes two stops (shorter_first (records_of h) (records_of k) file begins also less))
       (one_or_other (records_end (records_of k)) (records_end (records_of h)))
 
-  by_stop : (stop : Option StartFault) → StopsBehind stop (records_of h) (state_of h) file → (rest : List (List ℕ)) × (records_of h ≡ records_of k ++ rest)
+  by_stop : (stop : Option StartFault) → StopsBehind stop (records_of h) (history_state h) file → (rest : List (List ℕ)) × (records_of h ≡ records_of k ++ rest)
   by_stop None stops = begins_rest (records_of k) (records_of h) file also stops.0
   by_stop (Some (start.TornTooLong at n)) stops = begins_rest (records_of k) (records_of h) file also stops.0
   by_stop (Some (start.Journal (open_faults.Refused (refusals.Damaged at)))) stops = near (omega (arith, damage_behind (records_of k) file at also stops.0, stops.1))

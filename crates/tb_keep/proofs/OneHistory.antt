@@ -2,7 +2,7 @@
 use Rattle.std.proofs.Common.{arith, ℕ, ◌≡◌, Bool, cond, fold, List, [], ◌∷◌, ◌++◌, map, refl, sym, ap, ◌∙◌, subst}
 use Rattle.std.proofs.lemmas.Grind.{common_steps}
 use Rattle.tb_records.specs.declared.limits.Profile.{Profile}
-use Rattle.tb_journal.specs.Contents.{records_of as records_in}
+use Rattle.tb_journal.specs.Contents.{content_records as records_in}
 use Rattle.tb_machine.specs.declared.entries.Entry.{Entry}
 use Rattle.tb_machine.specs.Histories.{State, start, step}
 use Rattle.tb_machine.specs.Scripts.{Pair, entry_of, is_entered, after_pair}
@@ -10,9 +10,9 @@ use Rattle.tb_machine.specs.Dumps.{dumped}
 use Rattle.tb_machine.specs.Recording.{IsRecord}
 use Rattle.tb_machine.proofs.JournalRecords.{one_record}
 use Rattle.tb_machine.proofs.Legal.{fold_append}
-use Rattle.tb_keep.specs.Keeping.{state_of, head_record, AreRecorded}
+use Rattle.tb_keep.specs.Keeping.{history_state, head_record, AreRecorded}
 use Rattle.tb_keep.specs.Rounds.{state_from, entries_from, reply_bytes_from}
-use Rattle.tb_keep.specs.Again.{OneHistory, OneLedger, GoesOnAfter}
+use Rattle.tb_keep.specs.Again.{FileHasOneHistory, OneLedger, GoesOnAfter}
 use Rattle.tb_keep.proofs.Pairs.{replies_join}
 
 pub one_head : (p q : Profile) (m n : ℕ) → head_record p m ≡ head_record q n → (p ≡ q) × (m ≡ n)
@@ -28,7 +28,7 @@ one_row (e ∷ es) (f ∷ fs) mine yours is =
     let rest = one_row es fs mine.1 yours.1 (cc (is)) in
     λ i. first i ∷ rest i
 
-pub one_history : OneHistory
+pub one_history : FileHasOneHistory
 one_history file h k mine yours =
     let records = ap records_in (sym mine.reads ∙ yours.reads) in
     let head = one_head h.profile k.profile h.clients_max k.clients_max (cc (records)) in
@@ -44,7 +44,7 @@ fold_entered S (p ∷ ps) = by (is_entered S p) (fold_entered (after_pair S p) p
     by b is = grind (arith, common_steps)
 
 pub one_ledger : OneLedger
-one_ledger h ps = fold_append step (start h.profile h.clients_max) h.entries (entries_from (state_of h) ps) ∙ fold_entered (state_of h) ps
+one_ledger h ps = fold_append step (start h.profile h.clients_max) h.entries (entries_from (history_state h) ps) ∙ fold_entered (history_state h) ps
 
 pub goes_on_after : GoesOnAfter
-goes_on_after h ps qs = replies_join (state_of h) ps qs ∙ ap (λ (S : State). reply_bytes_from (state_of h) ps ++ reply_bytes_from S qs) (sym (one_ledger h ps))
+goes_on_after h ps qs = replies_join (history_state h) ps qs ∙ ap (λ (S : State). reply_bytes_from (history_state h) ps ++ reply_bytes_from S qs) (sym (one_ledger h ps))

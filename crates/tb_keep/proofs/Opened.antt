@@ -20,23 +20,23 @@ use Rattle.tb_keep.specs.declared.faults.StartFault.TheVariants as start
 use Rattle.tb_keep.specs.declared.creating.NotKept.{NotKept}
 use Rattle.tb_keep.specs.Keeping.{Keeping, Keeps}
 use Rattle.tb_keep.specs.Recovering.{IsRestored, IsRestoredFrom, IsNotOfFile, IsTornTooLong, StopsOpening, AreAside, torn_bytes}
-use Rattle.tb_keep.specs.Creating.{OpensFile, StartsFile, CreatesIn, IsOpened, IsStarted, IsUntouched, MayBeOpened, MayBeCreated, MayBeStarted, IsOpenRefused, IsCreateRefused, IsStartRefused, history_of}
+use Rattle.tb_keep.specs.Creating.{OpensFile, StartsFile, CreatesLedgerIn, IsOpenedLedger, IsStarted, IsDiskUntouched, MayBeOpened, LedgerMayBeCreated, MayBeStarted, IsOpenRefused, IsCreateRefused, IsStartRefused, history_of}
 
 abbrev pub Counts : Disk → Type 0
 Counts disk = (t : ℕ) (c : List ℕ) → t ≤ disk.moment → disk.may_leave c → disk.left_since t c
 
-still_before : (before mid : Disk) → Counts mid → IsUntouched before mid → (c : List ℕ) → IsAsBefore mid c → IsAsBefore before c
+still_before : (before mid : Disk) → Counts mid → IsDiskUntouched before mid → (c : List ℕ) → IsAsBefore mid c → IsAsBefore before c
 still_before before mid counts first c was = grind (arith, common_steps)
 
-pub untouched_then : (before mid after : Disk) → Counts mid → IsUntouched before mid → IsUntouched mid after → IsUntouched before after
+pub untouched_then : (before mid after : Disk) → Counts mid → IsDiskUntouched before mid → IsDiskUntouched mid after → IsDiskUntouched before after
 untouched_then before mid after counts first second = record {
   seen = second.seen ∙ first.seen;
   any_moment = then before mid after (IsAsBefore before) first.any_moment (weaker mid after (IsAsBefore mid) (IsAsBefore before) (still_before before mid counts first) second.any_moment);
 }
 
-module _ (profile : Profile) (clients_max : ℕ) (before mid after : Disk) (counts : Counts mid) (first : IsUntouched before mid) where
-  for_before : (fault : StartFault) → StopsOpening fault profile clients_max mid.seen × IsUntouched mid after
-      → StopsOpening fault profile clients_max before.seen × IsUntouched before after
+module _ (profile : Profile) (clients_max : ℕ) (before mid after : Disk) (counts : Counts mid) (first : IsDiskUntouched before mid) where
+  for_before : (fault : StartFault) → StopsOpening fault profile clients_max mid.seen × IsDiskUntouched mid after
+      → StopsOpening fault profile clients_max before.seen × IsDiskUntouched before after
   for_before fault is = (subst (λ (file : List ℕ). StopsOpening fault profile clients_max file) first.seen is.0, untouched_then before mid after counts first is.1)
 
   still_refused : (fault : StartFault) → IsOpenRefused profile clients_max fault mid after → IsOpenRefused profile clients_max fault before after
@@ -60,24 +60,24 @@ module _ (profile : Profile) (clients_max : ℕ) (before mid after : Disk) (coun
   refused_then some (start.TornTooLong at bytes) is = (for_before (start.TornTooLong at bytes) is, some)
 
 module _ {D : Type 0} (disk : D → Disk) (profile : Profile) (clients_max : ℕ) (before mid : Disk) where
-  pub refused_at_last : (result : Result (Keeping D) (NotKept D)) → Counts mid → IsUntouched before mid → is_blank before.seen ≡ false
+  pub refused_at_last : (result : Result (Keeping D) (NotKept D)) → Counts mid → IsDiskUntouched before mid → is_blank before.seen ≡ false
       → IfErr result (λ failed. IsOpenRefused profile clients_max failed.fault mid (disk failed.device))
       → IfErr result (λ failed. IsStartRefused profile clients_max failed.fault before (disk failed.device))
   refused_at_last (Ok keeper) counts first some is = tt
   refused_at_last (Err failed) counts first some is = refused_then profile clients_max before mid (disk failed.device) counts first some failed.fault is
 
-  pub refused_still : (result : Result (Keeping D) (NotKept D)) → Counts mid → IsUntouched before mid
+  pub refused_still : (result : Result (Keeping D) (NotKept D)) → Counts mid → IsDiskUntouched before mid
       → IfErr result (λ failed. IsOpenRefused profile clients_max failed.fault mid (disk failed.device))
       → IfErr result (λ failed. IsOpenRefused profile clients_max failed.fault before (disk failed.device))
   refused_still (Ok keeper) counts first is = tt
   refused_still (Err failed) counts first is = still_refused profile clients_max before mid (disk failed.device) counts first failed.fault is
 
-may_be : (profile : Profile) (clients_max : ℕ) (before mid : Disk) → Counts mid → IsUntouched before mid → (c : List ℕ) → MayBeOpened profile clients_max mid c → MayBeStarted profile clients_max before c
+may_be : (profile : Profile) (clients_max : ℕ) (before mid : Disk) → Counts mid → IsDiskUntouched before mid → (c : List ℕ) → MayBeOpened profile clients_max mid c → MayBeStarted profile clients_max before c
 may_be profile clients_max before mid counts first c (inl was) = inl (inl (still_before before mid counts first c was))
 may_be profile clients_max before mid counts first c (inr (inl reads)) = inl (inr (inl (reads ∙ ap (λ (f : List ℕ). Records (recorded f)) first.seen)))
 may_be profile clients_max before mid counts first c (inr (inr (none, few))) = inl (inr (inr (ap recorded (sym first.seen) ∙ none, few)))
 
-pub started_at_last : (profile : Profile) (clients_max : ℕ) (before mid after : Disk) → Counts mid → IsUntouched before mid
+pub started_at_last : (profile : Profile) (clients_max : ℕ) (before mid after : Disk) → Counts mid → IsDiskUntouched before mid
     → LeavesOnly mid after (MayBeOpened profile clients_max mid) → LeavesOnly before after (MayBeStarted profile clients_max before)
 started_at_last profile clients_max before mid after counts first second =
     then before mid after (MayBeStarted profile clients_max before)
@@ -125,8 +125,8 @@ were_aside saved file machine extent cut read torn (Err failed) outside aside = 
 -- a start
 
 pub opened_as_started : {D : Type 0} (disk : D → Disk) (profile : Profile) (clients_max : ℕ) (before mid : List ℕ) (result : Result (Keeping D) (NotKept D)) → mid ≡ before
-    → IfOk result (IsOpened disk profile clients_max mid) → IfOk result (IsStarted disk profile clients_max before)
-opened_as_started disk profile clients_max before mid (Ok keeper) same opened = inl (subst (λ (file : List ℕ). IsOpened disk profile clients_max file keeper) same opened)
+    → IfOk result (IsOpenedLedger disk profile clients_max mid) → IfOk result (IsStarted disk profile clients_max before)
+opened_as_started disk profile clients_max before mid (Ok keeper) same opened = inl (subst (λ (file : List ℕ). IsOpenedLedger disk profile clients_max file keeper) same opened)
 opened_as_started disk profile clients_max before mid (Err failed) same opened = tt
 
 pub starts_file : {D : Type 0} (profile : Profile) (clients_max : ℕ) (file : List ℕ) (result : Result (Keeping D) (NotKept D)) → is_blank file ≡ false → OpensFile result profile clients_max file
@@ -143,7 +143,7 @@ module _ {D : Type 0} (disk : D → Disk) (profile : Profile) (clients_max : ℕ
   created_as_started before mid (Ok keeper) same blank keeps uncut = inr (ap is_blank (sym same) ∙ blank, keeps, uncut)
   created_as_started before mid (Err failed) same blank keeps uncut = tt
 
-  not_created : (before mid after : Disk) → Counts mid → IsUntouched before mid → (fault : StartFault) → IsCreateRefused fault mid after
+  not_created : (before mid after : Disk) → Counts mid → IsDiskUntouched before mid → (fault : StartFault) → IsCreateRefused fault mid after
       → IsStartRefused profile clients_max fault before after
   not_created before mid after counts first (start.Journal (open_faults.Device fault)) is = tt
   not_created before mid after counts first start.NoMemory is = untouched_then before mid after counts first is
@@ -154,13 +154,13 @@ module _ {D : Type 0} (disk : D → Disk) (profile : Profile) (clients_max : ℕ
   not_created before mid after counts first (start.Entry fault) is = absurd is
   not_created before mid after counts first (start.TornTooLong at bytes) is = absurd is
 
-  pub not_created_at_last : (before mid : Disk) (result : Result (Keeping D) (NotKept D)) → Counts mid → IsUntouched before mid
+  pub not_created_at_last : (before mid : Disk) (result : Result (Keeping D) (NotKept D)) → Counts mid → IsDiskUntouched before mid
       → IfErr result (λ failed. IsCreateRefused failed.fault mid (disk failed.device))
       → IfErr result (λ failed. IsStartRefused profile clients_max failed.fault before (disk failed.device))
   not_created_at_last before mid (Ok keeper) counts first is = tt
   not_created_at_last before mid (Err failed) counts first is = not_created before mid (disk failed.device) counts first failed.fault is
 
-  pub creates_file : (holds : D → List ℕ → Type 0) (file : List ℕ) (result : Result (Keeping D) (NotKept D)) → CreatesIn holds result file
+  pub creates_file : (holds : D → List ℕ → Type 0) (file : List ℕ) (result : Result (Keeping D) (NotKept D)) → CreatesLedgerIn holds result file
       → IfOk result (λ keeper. keeper.state ≡ start_state profile clients_max) → IfOk result (λ keeper. keeper.cut ≡ 0)
       → IfErr result (λ failed. IsNotOfFile failed.fault) → StartsFile result profile clients_max file
   creates_file holds file (Ok keeper) blank empty uncut outside = inr (blank, empty, uncut)
@@ -171,22 +171,22 @@ pub none_aside : {D : Type 0} (saved : ℕ → List ℕ → Type 0) (file : List
 none_aside saved file (Ok keeper) uncut = λ some. absurd (omega (arith, uncut, some))
 none_aside saved file (Err failed) uncut = tt
 
-may_be_created : (profile : Profile) (clients_max : ℕ) (before mid : Disk) → Counts mid → IsUntouched before mid → (c : List ℕ)
-    → MayBeCreated profile clients_max mid c → MayBeStarted profile clients_max before c
+may_be_created : (profile : Profile) (clients_max : ℕ) (before mid : Disk) → Counts mid → IsDiskUntouched before mid → (c : List ℕ)
+    → LedgerMayBeCreated profile clients_max mid c → MayBeStarted profile clients_max before c
 may_be_created profile clients_max before mid counts first c (inl was) = inl (inl (still_before before mid counts first c was))
 may_be_created profile clients_max before mid counts first c (inr (blank, none)) = inr (inr (ap is_blank (sym first.seen) ∙ blank, none))
 
-pub created_at_last : (profile : Profile) (clients_max : ℕ) (before mid after : Disk) → Counts mid → IsUntouched before mid
-    → LeavesOnly mid after (MayBeCreated profile clients_max mid) → LeavesOnly before after (MayBeStarted profile clients_max before)
+pub created_at_last : (profile : Profile) (clients_max : ℕ) (before mid after : Disk) → Counts mid → IsDiskUntouched before mid
+    → LeavesOnly mid after (LedgerMayBeCreated profile clients_max mid) → LeavesOnly before after (MayBeStarted profile clients_max before)
 created_at_last profile clients_max before mid after counts first second =
     then before mid after (MayBeStarted profile clients_max before)
     (weaker before mid (IsAsBefore before) (MayBeStarted profile clients_max before) (λ c was. inl (inl was)) first.any_moment)
-    (weaker mid after (MayBeCreated profile clients_max mid) (MayBeStarted profile clients_max before) (may_be_created profile clients_max before mid counts first) second)
+    (weaker mid after (LedgerMayBeCreated profile clients_max mid) (MayBeStarted profile clients_max before) (may_be_created profile clients_max before mid counts first) second)
 
 -- what a look at a file leaves
 
-pub looked : (result : Result Bool JournalFault) (before after : Disk) → FindsBlank result before after → IsUntouched before after
+pub looked : (result : Result Bool JournalFault) (before after : Disk) → FindsBlank result before after → IsDiskUntouched before after
 looked result before after finds = record { seen = finds.seen; any_moment = finds.any_moment }
 
-pub looked_at_last : (profile : Profile) (clients_max : ℕ) (before after : Disk) → IsUntouched before after → LeavesOnly before after (MayBeStarted profile clients_max before)
+pub looked_at_last : (profile : Profile) (clients_max : ℕ) (before after : Disk) → IsDiskUntouched before after → LeavesOnly before after (MayBeStarted profile clients_max before)
 looked_at_last profile clients_max before after first = weaker before after (IsAsBefore before) (MayBeStarted profile clients_max before) (λ c was. inl (inl was)) first.any_moment

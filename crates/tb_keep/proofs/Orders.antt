@@ -6,7 +6,7 @@ use Rattle.std.specs.Prelude.{nat_le}
 use Rattle.tb_records.specs.declared.limits.Profile.{Profile}
 use Rattle.tb_records.specs.declared.limits.Profile.TheVariants.{One, Two}
 use Rattle.tb_records.specs.DumpBytes.{IsClients}
-use Rattle.tb_ledger.specs.Verdicts.{max_time}
+use Rattle.tb_records.specs.declared.limits.TheConstants.{LAST_MOMENT}
 use Rattle.tb_sessions.specs.Judged.{class_of}
 use Rattle.tb_journal.specs.Scans.{ScanState, BeginsWith, HasRead}
 use Rattle.tb_journal.specs.declared.opening.OpenFault.TheVariants as open_faults
@@ -126,7 +126,7 @@ placed : (a b c d e : Bool) → ((((a && b) && c) && d) && e) ≡ true → cond 
 placed a b c d e is = grind (arith, common_steps)
 
 fits_placed : (S : State) (e : Entry) → fits S e ≡ true → misplaced (S.commit + 1) S.books.time e ≡ None
-fits_placed S e is = placed (e.commit == S.commit + 1) (nat_le (least_time S e.request) e.time) (nat_le e.time max_time) (is_lawful e.request) (is_new (class_of S.rows e.request)) is
+fits_placed S e is = placed (e.commit == S.commit + 1) (nat_le (least_time S e.request) e.time) (nat_le e.time LAST_MOMENT) (is_lawful e.request) (is_new (class_of S.rows e.request)) is
 
 time_after : (S : State) (e : Entry) → (step S e).books.time ≡ e.time
 time_after S e = executed_time S.books e.request.body e.time

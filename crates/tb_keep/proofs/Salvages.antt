@@ -13,7 +13,7 @@ use Rattle.tb_journal.specs.Device.{Disk, LeavesOnly, FailsNone, IsOfCall, IsOfS
 use Rattle.tb_journal.specs.Contents.{Records, contents, recorded, records_end}
 use Rattle.tb_journal.specs.Creating.{is_blank}
 use Rattle.tb_journal.specs.Ready.{Kept}
-use Rattle.tb_journal.specs.Scans.{HasRead, ScanState, BeginsWith, ReadsNext, Starts, IsAt, IsOfStart}
+use Rattle.tb_journal.specs.Scans.{HasRead, ScanState, BeginsWith, ReadsNextRecord, BeginsScan, IsAt, IsOfStart}
 use Rattle.tb_journal.proofs.Causes.{none_since}
 use Rattle.tb_journal.proofs.Moments.{started, then, weaker}
 use Rattle.tb_journal.proofs.BlockWalks.{begins_shorter}
@@ -26,10 +26,10 @@ use Rattle.tb_keep.specs.declared.faults.StartFault.TheVariants as start
 use Rattle.tb_keep.specs.declared.recovering.Rules.{Rules}
 use Rattle.tb_keep.specs.declared.salvaging.NotSalvaged.{NotSalvaged}
 use Rattle.tb_keep.specs.declared.salvaging.Salvaged.{Salvaged}
-use Rattle.tb_keep.specs.Keeping.{History, state_of, records_of, head_record, Keeping, Keeps, IsKeepable, IsLedger}
-use Rattle.tb_keep.specs.Creating.{history_of, MayBeCreated, IsCreateRefused, IsCreateStartCause}
+use Rattle.tb_keep.specs.Keeping.{History, history_state, records_of, head_record, Keeping, Keeps, IsKeepable, IsLedger}
+use Rattle.tb_keep.specs.Creating.{history_of, LedgerMayBeCreated, IsCreateRefused, IsCreateStartCause}
 use Rattle.tb_keep.specs.Recovering.{RecordsLead, StopsAt, StopsBeginning, StopsFile, IsNotOfFile, IsStartCause}
-use Rattle.tb_keep.specs.Salvaging.{StopsBehind, IsTaken, IsSalvaged, IsBackedUp, IsUnsalvaged, IsNotBackedUp, IsWriteCause, IsNewCause, HasNewCause, MayBeSalvaged, IsLeftAlone}
+use Rattle.tb_keep.specs.Salvaging.{StopsBehind, IsHistoryTaken, IsSalvaged, IsBackedUp, IsUnsalvaged, IsNotBackedUp, IsWriteCause, IsNewCause, HasNewCause, MayBeSalvaged, IsLeftAlone}
 use Rattle.tb_keep.specs.private.Taking.{HoldsRead, IsBetween, line, Taken, TakesRest, of_new}
 use Rattle.tb_keep.specs.Reading.{HasRules, RulesIn, rules_of}
 use Rattle.tb_keep.proofs.Entered.{Latest}
@@ -72,27 +72,27 @@ module _ (rules : Rules) (clients : IsClients rules.clients_max) where
 
     -- while a new file is made, and then written to
     module _ (before mid after : Disk) (blank : is_blank before.seen ≡ true) where
-      may_be_made : (c : List ℕ) → MayBeCreated rules.profile rules.clients_max before c → MayBeSalvaged holds before c
+      may_be_made : (c : List ℕ) → LedgerMayBeCreated rules.profile rules.clients_max before c → MayBeSalvaged holds before c
       may_be_made c (inl was) = inl was
       may_be_made c (inr (is, inl unborn)) = inr (is, inl unborn)
       may_be_made c (inr (is, inr (inl none))) = inr (is, inr (inl none))
       may_be_made c (inr (is, inr (inr alone))) = inr (is, inr (inr (first_ledger c ([], records, alone, refl))))
 
-      pub moments_of_all : LeavesOnly before mid (MayBeCreated rules.profile rules.clients_max before) → LeavesOnly mid after (IsBetween (head ∷ []) (head ∷ records))
+      pub moments_of_all : LeavesOnly before mid (LedgerMayBeCreated rules.profile rules.clients_max before) → LeavesOnly mid after (IsBetween (head ∷ []) (head ∷ records))
           → LeavesOnly before after (MayBeSalvaged holds before)
       moments_of_all first second =
           then before mid after (MayBeSalvaged holds before)
-          (weaker before mid (MayBeCreated rules.profile rules.clients_max before) (MayBeSalvaged holds before) may_be_made first)
+          (weaker before mid (LedgerMayBeCreated rules.profile rules.clients_max before) (MayBeSalvaged holds before) may_be_made first)
           (weaker mid after (IsBetween (head ∷ []) (head ∷ records)) (MayBeSalvaged holds before) (λ c is. inr (blank, inr (inr (first_ledger c is)))) second)
 
 -- where none is made
 
-pub moments_of_none : (profile : Profile) (clients_max : ℕ) (holds : List ℕ → Type 0) (before after : Disk) → LeavesOnly before after (MayBeCreated profile clients_max before)
+pub moments_of_none : (profile : Profile) (clients_max : ℕ) (holds : List ℕ → Type 0) (before after : Disk) → LeavesOnly before after (LedgerMayBeCreated profile clients_max before)
     → ((c : List ℕ) → contents c ≡ Records (head_record profile clients_max ∷ []) → (h : History) × IsLedger h c × ((file : List ℕ) → holds file → BeginsWith (records_of h) file))
     → LeavesOnly before after (MayBeSalvaged holds before)
-moments_of_none profile clients_max holds before after leaves ledger = weaker before after (MayBeCreated profile clients_max before) (MayBeSalvaged holds before) by leaves
+moments_of_none profile clients_max holds before after leaves ledger = weaker before after (LedgerMayBeCreated profile clients_max before) (MayBeSalvaged holds before) by leaves
   where
-    by : (c : List ℕ) → MayBeCreated profile clients_max before c → MayBeSalvaged holds before c
+    by : (c : List ℕ) → LedgerMayBeCreated profile clients_max before c → MayBeSalvaged holds before c
     by c (inl was) = inl was
     by c (inr (is, inl unborn)) = inr (is, inl unborn)
     by c (inr (is, inr (inl none))) = inr (is, inr (inl none))
@@ -172,13 +172,13 @@ rules_unsalvaged (Err (start.Entry fault)) file head scan at none = absurd none
 rules_unsalvaged (Err start.NoMemory) file head scan at none = absurd none
 rules_unsalvaged (Err (start.TornTooLong place bytes)) file head scan at none = absurd none
 
-pub first_unsalvaged : (fault : OpenFault) (file : List ℕ) (old new : ScanState) → HasRead [] file old → IsAt old.end fault → ReadsNext (Err fault) [] file new
+pub first_unsalvaged : (fault : OpenFault) (file : List ℕ) (old new : ScanState) → HasRead [] file old → IsAt old.end fault → ReadsNextRecord (Err fault) [] file new
     → IsUnsalvaged (Old (start.Journal fault)) file
 first_unsalvaged (open_faults.Device f) file old new has place reads = tt
 first_unsalvaged (open_faults.Refused (refusals.Damaged at)) file old new has place reads = (reads, place ∙ has.end)
 first_unsalvaged (open_faults.Refused refusals.NotAJournal) file old new has place reads = absurd place
 
-pub start_unsalvaged : (fault : OpenFault) (file : List ℕ) → Starts (Err fault) file → IsOfStart fault → IsUnsalvaged (Old (start.Journal fault)) file
+pub start_unsalvaged : (fault : OpenFault) (file : List ℕ) → BeginsScan (Err fault) file → IsOfStart fault → IsUnsalvaged (Old (start.Journal fault)) file
 start_unsalvaged (open_faults.Device f) file starts refused = tt
 start_unsalvaged (open_faults.Refused refusals.NotAJournal) file starts refused = starts
 start_unsalvaged (open_faults.Refused (refusals.Damaged at)) file starts refused = absurd refused
@@ -188,19 +188,19 @@ none_made holds disk now = started disk (MayBeSalvaged holds disk) (λ c left. i
 
 -- a backup
 
-pub whole_history : (h : History) (end : ℕ) (file : List ℕ) → IsKeepable h → IsTaken h end None file → IsLedger h file
+pub whole_history : (h : History) (end : ℕ) (file : List ℕ) → IsKeepable h → IsHistoryTaken h end None file → IsLedger h file
 whole_history h end file keepable taken = record { reads = taken.stops.0; keepable = keepable }
 
 module _ (h : History) (keepable : IsKeepable h) (end : ℕ) (file : List ℕ) where
-  leads : RecordsLead (start_state h.profile h.clients_max) (map dumped h.entries) (state_of h)
+  leads : RecordsLead (start_state h.profile h.clients_max) (map dumped h.entries) (history_state h)
   leads = record { entries = h.entries; legal = keepable.legal; state = refl; recorded_are = keepable.recorded_are; spelled = refl }
 
-  pub stops_longer_history : (fault : StartFault) (bytes : List ℕ) (more : List (List ℕ)) → StopsAt fault (state_of h) bytes → StopsFile fault h.profile h.clients_max (records_of h ++ bytes ∷ more)
+  pub stops_longer_history : (fault : StartFault) (bytes : List ℕ) (more : List (List ℕ)) → StopsAt fault (history_state h) bytes → StopsFile fault h.profile h.clients_max (records_of h ++ bytes ∷ more)
   stops_longer_history fault bytes more stops =
       stops_file fault h.profile h.clients_max (records_of h ++ bytes ∷ more) (head_record h.profile h.clients_max) (map dumped h.entries ++ bytes ∷ more) refl
-      (inr (refl, (state_of h, (map dumped h.entries, bytes, more, refl, leads, stops))))
+      (inr (refl, (history_state h, (map dumped h.entries, bytes, more, refl, leads, stops))))
 
-  stopped : (fault : StartFault) (bytes : List ℕ) → BeginsWith (records_of h ++ bytes ∷ []) file → StopsAt fault (state_of h) bytes
+  stopped : (fault : StartFault) (bytes : List ℕ) → BeginsWith (records_of h ++ bytes ∷ []) file → StopsAt fault (history_state h) bytes
       → (rules : Rules) × HasRules rules file × StopsBeginning fault rules.profile rules.clients_max file
   stopped fault bytes begins stops = (
     rules_of h.profile h.clients_max,
@@ -212,7 +212,7 @@ module _ (h : History) (keepable : IsKeepable h) (end : ℕ) (file : List ℕ) w
     },
   )
 
-  pub taken_not_whole : (fault : StartFault) → IsTaken h end (Some fault) file → IsNotBackedUp (Old fault) file
+  pub taken_not_whole : (fault : StartFault) → IsHistoryTaken h end (Some fault) file → IsNotBackedUp (Old fault) file
   taken_not_whole (start.TornTooLong at bytes) taken = taken.stops.1
   taken_not_whole (start.Journal (open_faults.Refused (refusals.Damaged at))) taken = taken.stops.0
   taken_not_whole (start.Journal (open_faults.Refused refusals.NotAJournal)) taken = absurd taken.stops
@@ -223,7 +223,7 @@ module _ (h : History) (keepable : IsKeepable h) (end : ℕ) (file : List ℕ) w
   taken_not_whole start.OtherRules taken = absurd taken.stops
   taken_not_whole start.NoMemory taken = absurd taken.stops
 
-  pub taken_cause : (before after : Disk) → before.seen ≡ file → FailsNone before after → (fault : StartFault) → IsTaken h end (Some fault) file → IsStartCause before after fault
+  pub taken_cause : (before after : Disk) → before.seen ≡ file → FailsNone before after → (fault : StartFault) → IsHistoryTaken h end (Some fault) file → IsStartCause before after fault
   taken_cause before after seen none (start.TornTooLong at bytes) taken = none
   taken_cause before after seen none (start.Journal (open_faults.Refused (refusals.Damaged at))) taken = (ap contents seen ∙ taken.stops.0, none)
   taken_cause before after seen none (start.Journal (open_faults.Refused refusals.NotAJournal)) taken = absurd taken.stops
@@ -275,7 +275,7 @@ module _ (rules : Rules) (clients : IsClients rules.clients_max) {N : Type 0} (d
         subst (λ (l : List (List ℕ)). LeavesOnly (disk created.journal.device) to (IsBetween (top ∷ []) l)) (lines t)
         (subst (λ (r : List (List ℕ)). LeavesOnly (disk created.journal.device) to (IsBetween r (line disk created.journal ++ records))) (kept t).file leaves)
 
-    all_moments : tells → (before to : Disk) → is_blank before.seen ≡ true → LeavesOnly before (disk created.journal.device) (MayBeCreated rules.profile rules.clients_max before)
+    all_moments : tells → (before to : Disk) → is_blank before.seen ≡ true → LeavesOnly before (disk created.journal.device) (LedgerMayBeCreated rules.profile rules.clients_max before)
         → LeavesOnly (disk created.journal.device) to (IsBetween (recorded (disk created.journal.device).seen) (line disk created.journal ++ records))
         → LeavesOnly before to (MayBeSalvaged reads before)
     all_moments t before to blank made leaves =
@@ -310,7 +310,7 @@ module _ (rules : Rules) (clients : IsClients rules.clients_max) {N : Type 0} (d
             record {
               begins = subst (λ (r : List (List ℕ)). BeginsWith r file) spelled at.begins;
               end_is = end ∙ at.end ∙ ap records_end spelled;
-              stops = subst (λ (r : List (List ℕ)). StopsBehind stop r (state_of history) file) spelled
+              stops = subst (λ (r : List (List ℕ)). StopsBehind stop r (history_state history) file) spelled
                   (subst (λ (S : State). StopsBehind stop (top ∷ records) S file) leads.state (stops file (top ∷ []) of.0 of.1));
             };
       }
@@ -319,7 +319,7 @@ module _ (rules : Rules) (clients : IsClients rules.clients_max) {N : Type 0} (d
   unsalvaged_all fault (records, here, middle, taken, untaken, is) file of = is file (top ∷ []) of.0 of.1
 
   pub moments_behind : tells → (result : Result (Extent × Option StartFault) SalvageFault) → (before : Disk) → is_blank before.seen ≡ true
-      → LeavesOnly before (disk created.journal.device) (MayBeCreated rules.profile rules.clients_max before)
+      → LeavesOnly before (disk created.journal.device) (LedgerMayBeCreated rules.profile rules.clients_max before)
       → TakesRest disk tells holds result first created last → LeavesOnly before (disk last.journal.device) (MayBeSalvaged reads before)
   moments_behind t (Ok found) before blank made (records, here, taken, none_waits, end, stops) =
       all_moments records here last taken t before (disk last.journal.device) blank made (taken.queues t).any_moment
@@ -352,7 +352,7 @@ module _ (rules : Rules) (clients : IsClients rules.clients_max) {N : Type 0} (d
       }
 
 module _ (rules : Rules) (clients : IsClients rules.clients_max) (holds : List ℕ → Type 0) (first : ScanState) (before after : Disk) where
-  pub moments_not_made : LeavesOnly before after (MayBeCreated rules.profile rules.clients_max before) → LeavesOnly before after (MayBeSalvaged (HoldsRead holds (head_record rules.profile rules.clients_max ∷ []) first) before)
+  pub moments_not_made : LeavesOnly before after (LedgerMayBeCreated rules.profile rules.clients_max before) → LeavesOnly before after (MayBeSalvaged (HoldsRead holds (head_record rules.profile rules.clients_max ∷ []) first) before)
   moments_not_made leaves =
       moments_of_none rules.profile rules.clients_max (HoldsRead holds (head_record rules.profile rules.clients_max ∷ []) first) before after leaves
       (λ c alone.
@@ -367,15 +367,15 @@ module _ (tells : Type 0) {N : Type 0} (disk : N → Disk) (holds : List ℕ →
     history = is.history;
     kept = is.keeper;
     whole = λ file of.
-        let taken = subst (λ (stop : Option StartFault). IsTaken is.history s.end stop file) whole (is.taken file of) in
+        let taken = subst (λ (stop : Option StartFault). IsHistoryTaken is.history s.end stop file) whole (is.taken file of) in
         (whole_history is.history s.end file is.keeper.keepable taken, taken.stops.1);
   }
 
   pub not_backed_up : (fault : StartFault) → s.stop ≡ Some fault → (file : List ℕ) → holds file → IsNotBackedUp (Old fault) file
   not_backed_up fault stop file of =
-      taken_not_whole is.history is.keeper.keepable s.end file fault (subst (λ (o : Option StartFault). IsTaken is.history s.end o file) stop (is.taken file of))
+      taken_not_whole is.history is.keeper.keepable s.end file fault (subst (λ (o : Option StartFault). IsHistoryTaken is.history s.end o file) stop (is.taken file of))
 
   pub backup_cause : (fault : StartFault) → s.stop ≡ Some fault → (before after : Disk) → holds before.seen → FailsNone before after → IsStartCause before after fault
   backup_cause fault stop before after of none =
       taken_cause is.history is.keeper.keepable s.end before.seen before after refl none fault
-      (subst (λ (o : Option StartFault). IsTaken is.history s.end o before.seen) stop (is.taken before.seen of))
+      (subst (λ (o : Option StartFault). IsHistoryTaken is.history s.end o before.seen) stop (is.taken before.seen of))

@@ -15,8 +15,8 @@ use Rattle.tb_machine.proofs.Running.{reads_none, reads_snoc}
 use Rattle.tb_keep.specs.declared.faults.KeepFault.{KeepFault}
 use Rattle.tb_keep.specs.declared.faults.KeepFault.TheVariants as keep
 use Rattle.tb_keep.specs.Keeping.{Keeping, IsFresh}
-use Rattle.tb_keep.specs.Rounds.{state_from, records_from, reply_bytes_from, IsServed, AreServed, pairs_of, Commits, Standing, standing_of, IsPrompt, ReadsPromptly, is_held, RefusesRecord, Round, Rounds, IsStop, Pauses, Fails, Served, Ends, block_bytes_max, IsDue}
-use Rattle.tb_keep.specs.private.Steps.{IsSudden, Next, Ceases, IsCommitted, IsUncommitted, CommitsAndReplies, MayReply, EndsNext}
+use Rattle.tb_keep.specs.Rounds.{state_from, records_from, reply_bytes_from, IsServed, AreServed, pairs_of, Commits, Standing, standing_of, IsPrompt, ReadsPromptly, is_held, RefusesRecord, Round, Rounds, IsStop, Pauses, FailsCommit, Served, EndsServing, block_bytes_max, IsDue}
+use Rattle.tb_keep.specs.private.Steps.{IsSudden, ServesNextPair, Ceases, IsCommitted, IsUncommitted, CommitsAndReplies, MayReply, EndsNext}
 use Rattle.tb_keep.proofs.Batches.{block_short, grows, some_byte}
 use Rattle.tb_keep.proofs.Pairs.{state_snoc, records_join, replies_join, served_snoc, pairs_snoc}
 
@@ -102,7 +102,7 @@ module _ {tells : Type 0} {D : Type 0} {disk : D → Disk} {k : ℕ} {before kee
   -- one more pair
   more_going : {after : Keeping D} {last : Input} {grown : List ℕ} → IsPrompt (is_held g.standing.output.held g.more) input
       → length (at_rest (records_from g.standing.state g.more)) + block_bytes_max ≤ 2 ^ 22
-      → Next (Ok tt) keeper after input last held grown
+      → ServesNextPair (Ok tt) keeper after input last held grown
       → Going tells disk (k + 1) before after first last start written grown
   more_going {after} {last} {grown} asked room n =
       let S = g.standing.state in
@@ -143,7 +143,7 @@ module _ {tells : Type 0} {D : Type 0} {disk : D → Disk} {k : ℕ} {before kee
   -- pairs were served, by what ended serving
   serves : {result : Result ℕ KeepFault} {after : Keeping D} {last : Input} {next : Output}
       → ((last ≡ input) ⊎ IsPrompt (is_held g.standing.output.held g.more) input)
-      → Ends tells disk result (length (pairs_of g.rounds ++ g.more)) g.more g.standing after input last next
+      → EndsServing tells disk result (length (pairs_of g.rounds ++ g.more)) g.more g.standing after input last next
       → Served tells disk result before after first last start next
   serves asked ended = record {
     rounds = g.rounds;
@@ -227,7 +227,7 @@ module _ {tells : Type 0} {D : Type 0} {disk : D → Disk} {k : ℕ} {before kee
 
   -- a commit that failed
   fails : {after : Keeping D} {next : Output} (fault : JournalFault) → IsUncommitted tells disk fault keeper after → next ≡ written
-      → Fails tells disk fault g.more g.standing after.journal.device next
+      → FailsCommit tells disk fault g.more g.standing after.journal.device next
   fails {after} {next} fault un silent = record {
     some = λ t none. un.some (g.waits t ∙ none);
     cause = λ t. subst (λ (d : D). HasFailed (disk d) (disk after.journal.device) fault) g.device (un.cause t);
@@ -268,11 +268,11 @@ module _ {tells : Type 0} {D : Type 0} {disk : D → Disk} {k : ℕ} {before kee
   asking_silent same = subst (λ (o : Output). Asking tells disk k before keeper first input start o held) (sym same) a
 
   -- one more pair
-  pub going_on : {after : Keeping D} {last : Input} {grown : List ℕ} → Next (Ok tt) keeper after input last held grown → Going tells disk (k + 1) before after first last start written grown
+  pub going_on : {after : Keeping D} {last : Input} {grown : List ℕ} → ServesNextPair (Ok tt) keeper after input last held grown → Going tells disk (k + 1) before after first last start written grown
   going_on n = more_going a.going a.prompt a.room n
 
   -- a fault in serving a pair, after which nothing is sent
-  served_into : (f : KeepFault) {after : Keeping D} {last : Input} {left : List ℕ} → IsSudden f → Next (Err f) keeper after input last held left → Served tells disk (Err f) before after first last start written
+  served_into : (f : KeepFault) {after : Keeping D} {last : Input} {left : List ℕ} → IsSudden f → ServesNextPair (Err f) keeper after input last held left → Served tells disk (Err f) before after first last start written
   served_into (keep.Serving run.NoMemory) is n = serves a.going (inr a.prompt) ((n.pair, n.read), record { same = n.turn ∙ a.going.device; silent = a.going.output })
   served_into (keep.Journal fault) {after} is n = serves a.going (inr a.prompt) (inl (
     record {
@@ -332,7 +332,7 @@ module _ (tells : Type 0) {D : Type 0} (disk : D → Disk) (cut : ℕ) (usable :
   left_as keeper = record { journal = keeper.journal; state = keeper.state; cut = cut; usable = usable }
 
   ends_left : (f : KeepFault) (count : ℕ) (ps : List Pair) (middle : Standing D) (keeper : Keeping D) (input last : Input) (output : Output)
-      → Ends tells disk (Err f) count ps middle keeper input last output → Ends tells disk (Err f) count ps middle (left_as keeper) input last output
+      → EndsServing tells disk (Err f) count ps middle keeper input last output → EndsServing tells disk (Err f) count ps middle (left_as keeper) input last output
   ends_left (keep.Journal fault) count ps middle keeper input last output ends = ends
   ends_left (keep.Serving (run.Frame fault)) count ps middle keeper input last output ends = ends
   ends_left (keep.Serving run.NoMemory) count ps middle keeper input last output ends = ends

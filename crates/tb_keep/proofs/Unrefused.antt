@@ -3,12 +3,12 @@ use Rattle.std.proofs.Common.{arith, ℕ, ◌≡◌, ◌⊎◌, ◌+◌, ◌<◌
 use Rattle.std.proofs.lemmas.Grind.{common_steps}
 use Rattle.std.specs.Prelude.{nat_le}
 use Rattle.tb_records.specs.declared.faults.FrameFault.{FrameFault}
+use Rattle.tb_records.specs.declared.limits.TheConstants.{LAST_MOMENT}
 use Rattle.tb_journal.specs.declared.opening.OpenFault.TheVariants as open_faults
 use Rattle.tb_journal.specs.declared.reading.Refusal.{Refusal}
 use Rattle.tb_journal.specs.Device.{Disk}
 use Rattle.tb_journal.specs.Contents.{Records}
 use Rattle.tb_journal.specs.Opening.{refused_as}
-use Rattle.tb_ledger.specs.Verdicts.{max_time}
 use Rattle.tb_sessions.specs.Judged.{class_of}
 use Rattle.tb_machine.specs.declared.entries.Entry.{Entry}
 use Rattle.tb_machine.specs.declared.restoring.Unfit.{Unfit}
@@ -21,7 +21,7 @@ use Rattle.tb_machine.proofs.JournalRecords.{one_record}
 use Rattle.tb_keep.specs.declared.faults.StartFault.{StartFault}
 use Rattle.tb_keep.specs.declared.faults.StartFault.TheVariants as start
 use Rattle.tb_keep.specs.Keeping.{History, head_record, records_of, IsKeepable, AreRecorded, IsLedger}
-use Rattle.tb_keep.specs.Recovering.{IsNoRecord, Fails, StopsAt, AppliesRecords, HeadAnswers, StopsBehindHead, StopsBeginning, StopsOpening, torn_bytes, IsNotOfFile, OnlyMemory, FileOnlyMemory}
+use Rattle.tb_keep.specs.Recovering.{IsNoRecord, FailsTest, StopsAt, AppliesRecords, HeadRecordAnswers, StopsBehindHead, StopsBeginning, StopsOpening, torn_bytes, IsNotOfFile, OnlyMemory, FileOnlyMemory}
 use Rattle.tb_keep.proofs.OneHistory.{one_head}
 use Rattle.tb_keep.proofs.WholeFiles.{whole_stops}
 
@@ -30,9 +30,9 @@ no_cause : (a b c d e : Bool) → ((((a && b) && c) && d) && e) ≡ true → con
 no_cause a b c d e is = grind (arith, common_steps)
 
 fits_none : (S : State) (e : Entry) → fits S e ≡ true → cause_of S e ≡ None
-fits_none S e is = no_cause (e.commit == S.commit + 1) (nat_le (least_time S e.request) e.time) (nat_le e.time max_time) (is_lawful e.request) (is_new (class_of S.rows e.request)) is
+fits_none S e is = no_cause (e.commit == S.commit + 1) (nat_le (least_time S e.request) e.time) (nat_le e.time LAST_MOMENT) (is_lawful e.request) (is_new (class_of S.rows e.request)) is
 
-fails_not : (cause : Unfit) (S : State) (e : Entry) → cause_of S e ≡ None → Fails cause S e → ⊥
+fails_not : (cause : Unfit) (S : State) (e : Entry) → cause_of S e ≡ None → FailsTest cause S e → ⊥
 fails_not cause S e none is = grind (arith, common_steps)
 
 pub no_record : (fault : FrameFault) (bytes : List ℕ) (e : Entry) → IsRecord bytes e → IsNoRecord fault bytes → ⊥
@@ -69,14 +69,14 @@ restored_not : (fault : StartFault) (S T : State) (es : List Entry) → LegalFro
 restored_not fault S T es legal are (front, bytes, rest, is, leads, stops) =
     along fault S T front bytes rest es leads.entries legal are is leads.recorded_are leads.spelled leads.state stops
 
-head_not : (fault : StartFault) (h : History) → IsKeepable h → HeadAnswers (Err fault) (head_record h.profile h.clients_max) h.profile h.clients_max → fault ≡ start.NoMemory
+head_not : (fault : StartFault) (h : History) → IsKeepable h → HeadRecordAnswers (Err fault) (head_record h.profile h.clients_max) h.profile h.clients_max → fault ≡ start.NoMemory
 head_not fault h keepable none = grind (arith, common_steps, one_head)
 
 stopped_not : (fault : StartFault) (h : History) (head : List ℕ) (rest : List (List ℕ)) → IsKeepable h → records_of h ≡ head ∷ rest
-    → (HeadAnswers (Err fault) head h.profile h.clients_max ⊎ StopsBehindHead fault h.profile h.clients_max head rest) → fault ≡ start.NoMemory
+    → (HeadRecordAnswers (Err fault) head h.profile h.clients_max ⊎ StopsBehindHead fault h.profile h.clients_max head rest) → fault ≡ start.NoMemory
 stopped_not fault h head rest keepable is (inl why) =
     let first : head ≡ head_record h.profile h.clients_max = sym (cc (is)) in
-    head_not fault h keepable (subst (λ (b : List ℕ). HeadAnswers (Err fault) b h.profile h.clients_max) first why)
+    head_not fault h keepable (subst (λ (b : List ℕ). HeadRecordAnswers (Err fault) b h.profile h.clients_max) first why)
 stopped_not fault h head rest keepable is (inr (own, (T, why))) =
     let others : rest ≡ map dumped h.entries = sym (cc (is)) in
     restored_not fault (start_state h.profile h.clients_max) T h.entries keepable.legal keepable.recorded_are (subst (λ (r : List (List ℕ)). AppliesRecords (Err fault) (start_state h.profile h.clients_max) r T) others why)

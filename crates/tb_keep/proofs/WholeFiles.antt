@@ -5,7 +5,7 @@ use Rattle.tb_records.specs.declared.limits.Profile.{Profile}
 use Rattle.tb_records.specs.DumpBytes.{head_bytes}
 use Rattle.tb_records.proofs.Sendings.{sent_few}
 use Rattle.tb_journal.specs.declared.reading.Extent.{Extent}
-use Rattle.tb_journal.specs.Contents.{Contents, Records, contents, records_of, recorded}
+use Rattle.tb_journal.specs.Contents.{Contents, Records, contents, content_records, recorded}
 use Rattle.tb_journal.specs.Reading.{extent_of}
 use Rattle.tb_journal.specs.Scans.{BeginsWith}
 use Rattle.tb_journal.proofs.Growths.{begins_part}
@@ -14,14 +14,14 @@ use Rattle.tb_keep.specs.declared.faults.StartFault.{StartFault}
 use Rattle.tb_keep.specs.declared.faults.StartFault.TheVariants as start
 use Rattle.tb_keep.specs.declared.recovering.Rules.{Rules}
 use Rattle.tb_keep.specs.Keeping.{History, head_record, records_of as records_of_history}
-use Rattle.tb_keep.specs.Recovering.{HeadAnswers, IsRestoredFrom, StopsBehindHead, StopsFile, StopsReading, WholeStops}
-use Rattle.tb_keep.specs.Reading.{IsNoHead, HasRules, HasNoHead, RulesAnswer, IsHistory, IsNoHistory, behind_head, joined, dump_with, dump_of, WholeRules, WholeNoHead, WholeDumps}
+use Rattle.tb_keep.specs.Recovering.{HeadRecordAnswers, IsRestoredFrom, StopsBehindHead, StopsFile, StopsReading, WholeStops}
+use Rattle.tb_keep.specs.Reading.{IsNoHead, HasRules, BeginsWithNoHead, RulesAnswer, IsHistory, IsNoHistory, behind_head, joined_bytes, dump_with, dump_of, WholeRules, WholeNoHead, WholeDumps}
 use Rattle.tb_keep.proofs.Dumping.{joined_join}
 use Rattle.tb_keep.proofs.Leading.{stops_file}
 
 -- a file that is read to its end has records
 
-is_records : (c : Contents) (extent : Extent) → extent_of c ≡ Ok extent → c ≡ Records (records_of c)
+is_records : (c : Contents) (extent : Extent) → extent_of c ≡ Ok extent → c ≡ Records (content_records c)
 is_records c extent is = grind (arith, common_steps)
 
 pub extent_reads : (file : List ℕ) (extent : Extent) → extent_of (contents file) ≡ Ok extent → contents file ≡ Records (recorded file)
@@ -35,14 +35,14 @@ begins_rest records all file begins reads = begins_part records all file begins 
 -- so what stops the first of them stops all
 
 longer : (fault : StartFault) (profile : Profile) (clients_max : ℕ) (head : List ℕ) (rest more : List (List ℕ))
-    → (HeadAnswers (Err fault) head profile clients_max ⊎ StopsBehindHead fault profile clients_max head rest)
-    → (HeadAnswers (Err fault) head profile clients_max ⊎ StopsBehindHead fault profile clients_max head (rest ++ more))
+    → (HeadRecordAnswers (Err fault) head profile clients_max ⊎ StopsBehindHead fault profile clients_max head rest)
+    → (HeadRecordAnswers (Err fault) head profile clients_max ⊎ StopsBehindHead fault profile clients_max head (rest ++ more))
 longer fault profile clients_max head rest more (inl why) = inl why
 longer fault profile clients_max head rest more (inr (own, (T, (front, bytes, behind, is, leads, stops)))) =
     inr (own, (T, (front, bytes, behind ++ more, ap (λ (l : List (List ℕ)). l ++ more) is ∙ append_assoc front (bytes ∷ behind) more, leads, stops)))
 
 stops_more : (fault : StartFault) (profile : Profile) (clients_max : ℕ) (records more all : List (List ℕ)) → all ≡ records ++ more
-    → (head : List ℕ) × (rest : List (List ℕ)) × (records ≡ head ∷ rest) × (HeadAnswers (Err fault) head profile clients_max ⊎ StopsBehindHead fault profile clients_max head rest)
+    → (head : List ℕ) × (rest : List (List ℕ)) × (records ≡ head ∷ rest) × (HeadRecordAnswers (Err fault) head profile clients_max ⊎ StopsBehindHead fault profile clients_max head rest)
     → StopsFile fault profile clients_max all
 stops_more fault profile clients_max records more all whole (head, rest, is, why) =
     stops_file fault profile clients_max all head (rest ++ more) (whole ∙ ap (λ (l : List (List ℕ)). l ++ more) is) (longer fault profile clients_max head rest more why)
@@ -79,10 +79,10 @@ whole_no_head file head rest reads (inr (other, others, begins, is_none)) =
     subst IsNoHead same is_none
 
 dump_more : (rules : Rules) (records more : List (List ℕ)) → (left : List ℕ) × (dump_with rules records ++ left ≡ dump_with rules (records ++ more))
-dump_more rules [] more = (joined (behind_head more), ap (λ (l : List ℕ). l ++ joined (behind_head more)) (append-nil (head_bytes rules.profile rules.clients_max)))
+dump_more rules [] more = (joined_bytes (behind_head more), ap (λ (l : List ℕ). l ++ joined_bytes (behind_head more)) (append-nil (head_bytes rules.profile rules.clients_max)))
 dump_more rules (r ∷ records) more = (
-  joined more,
-  append_assoc (head_bytes rules.profile rules.clients_max) (joined records) (joined more)
+  joined_bytes more,
+  append_assoc (head_bytes rules.profile rules.clients_max) (joined_bytes records) (joined_bytes more)
       ∙ ap (λ (l : List ℕ). head_bytes rules.profile rules.clients_max ++ l) (sym (joined_join records more)),
 )
 
@@ -118,7 +118,7 @@ pub is_no_history : (fault : StartFault) (rules : Rules) (file : List ℕ) → H
 is_no_history (start.Journal f) rules file has stops = stops
 is_no_history start.Head rules file has stops = by stops.records stops.begins stops.stops
   where
-    by : (records : List (List ℕ)) → BeginsWith records file → StopsFile start.Head rules.profile rules.clients_max records → HasNoHead file
+    by : (records : List (List ℕ)) → BeginsWith records file → StopsFile start.Head rules.profile rules.clients_max records → BeginsWithNoHead file
     by records begins (head, rest, is, inl none) = inr (head, rest, subst (λ (r : List (List ℕ)). BeginsWith r file) is begins, none)
     by records begins (head, rest, is, inr (own, (T, (front, bytes, behind, all, leads, never)))) = absurd never
 is_no_history start.OtherRules rules file has stops = (rules, has, stops)

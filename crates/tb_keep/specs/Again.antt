@@ -4,21 +4,21 @@ use Rattle.tb_records.specs.Transport.{Input, Output}
 use Rattle.tb_journal.specs.Device.{Disk}
 use Rattle.tb_machine.specs.Scripts.{Pair}
 use Rattle.tb_keep.specs.declared.faults.KeepFault.{KeepFault}
-use Rattle.tb_keep.specs.Keeping.{History, state_of, longer, Keeping, Keeps, IsLedger}
+use Rattle.tb_keep.specs.Keeping.{History, history_state, longer, Keeping, Keeps, IsLedger}
 use Rattle.tb_keep.specs.Rounds.{state_from, entries_from, reply_bytes_from, pairs_of, Served}
 
 -- a file represents one history at most
-abbrev pub OneHistory : Type 0
-OneHistory = (file : List ℕ) (h k : History) → IsLedger h file → IsLedger k file → h ≡ k
+abbrev pub FileHasOneHistory : Type 0
+FileHasOneHistory = (file : List ℕ) (h k : History) → IsLedger h file → IsLedger k file → h ≡ k
 
 -- behind the entries of pairs the machine is the one that served these pairs
 abbrev pub OneLedger : Type 0
-OneLedger = (h : History) (ps : List Pair) → state_of (longer h (entries_from (state_of h) ps)) ≡ state_from (state_of h) ps
+OneLedger = (h : History) (ps : List Pair) → history_state (longer h (entries_from (history_state h) ps)) ≡ state_from (history_state h) ps
 
 -- pairs that come after a crash are answered as they are behind the pairs from before it
 abbrev pub GoesOnAfter : Type 0
 GoesOnAfter = (h : History) (ps qs : List Pair)
-    → reply_bytes_from (state_of h) (ps ++ qs) ≡ reply_bytes_from (state_of h) ps ++ reply_bytes_from (state_of (longer h (entries_from (state_of h) ps))) qs
+    → reply_bytes_from (history_state h) (ps ++ qs) ≡ reply_bytes_from (history_state h) ps ++ reply_bytes_from (history_state (longer h (entries_from (history_state h) ps))) qs
 
 -- the pairs that were read, and of which none is acknowledged without its entry
 abbrev pub all_pairs : {tells : Type 0} {D : Type 0} {disk : D → Disk} {result : Result ℕ KeepFault} {before after : Keeping D} {first last : Input} {start written : Output}
@@ -30,7 +30,7 @@ pub record HasFirst (h : History) (all : List Pair) (file : List ℕ) : Type 0 w
   pub pairs : List Pair
   pub others : List Pair
   pub all_are : all ≡ pairs ++ others
-  pub stands : IsLedger (longer h (entries_from (state_of h) pairs)) file
+  pub stands : IsLedger (longer h (entries_from (history_state h) pairs)) file
 
 module _ (tells : Type 0) {D : Type 0} (disk : D → Disk) where
   -- a crash at any moment of serving

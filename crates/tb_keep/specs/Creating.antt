@@ -25,9 +25,9 @@ abbrev pub StandFor : History → List (List ℕ) → Type 0
 StandFor h records = (records ≡ records_of h) ⊎ ((records ≡ []) × (h.entries ≡ []))
 
 -- the device of a keeper, or the one that is given back
-abbrev pub device_left : {D : Type 0} → Result (Keeping D) (NotKept D) → D
-device_left (Ok keeper) = keeper.journal.device
-device_left (Err failed) = failed.device
+abbrev pub keeper_device_left : {D : Type 0} → Result (Keeping D) (NotKept D) → D
+keeper_device_left (Ok keeper) = keeper.journal.device
+keeper_device_left (Err failed) = failed.device
 
 -- and why it is
 abbrev pub why_left : {T D : Type 0} → Result T (NotKept D) → Result (Unit {0}) StartFault
@@ -36,7 +36,7 @@ why_left (Err failed) = Err failed.fault
 
 module _ {D : Type 0} (disk : D → Disk) (profile : Profile) (clients_max : ℕ) where
   -- the keeper of the history that the file had
-  pub record IsOpened (file : List ℕ) (keeper : Keeping D) : Type 0 where
+  pub record IsOpenedLedger (file : List ℕ) (keeper : Keeping D) : Type 0 where
     pub entries : List Entry
     pub reads : contents file ≡ Records (recorded file)
     pub found : StandFor (history_of profile clients_max entries) (recorded file)
@@ -45,7 +45,7 @@ module _ {D : Type 0} (disk : D → Disk) (profile : Profile) (clients_max : ℕ
 
   -- the keeper of a file that was opened, or of one that was blank
   abbrev pub IsStarted : List ℕ → Keeping D → Type 0
-  IsStarted file keeper = IsOpened file keeper ⊎ ((is_blank file ≡ true) × Keeps disk (history_of profile clients_max []) keeper × (keeper.cut ≡ 0))
+  IsStarted file keeper = IsOpenedLedger file keeper ⊎ ((is_blank file ≡ true) × Keeps disk (history_of profile clients_max []) keeper × (keeper.cut ≡ 0))
 
 -- by the file that the reads are of: the machine is in the state after the entries of its records, and its torn bytes, which are few, were cut
 -- off; or it is reported why not
@@ -57,9 +57,9 @@ OpensFile (Err failed) profile clients_max file = StopsOpening failed.fault prof
 
 -- by the same: a ledger is created in a blank file. Where something else is in it, the reads of the device that is given back are of
 -- it still
-abbrev pub CreatesIn : {T D : Type 0} → (D → List ℕ → Type 0) → Result T (NotKept D) → List ℕ → Type 0
-CreatesIn holds (Ok value) file = is_blank file ≡ true
-CreatesIn holds (Err failed) file =
+abbrev pub CreatesLedgerIn : {T D : Type 0} → (D → List ℕ → Type 0) → Result T (NotKept D) → List ℕ → Type 0
+CreatesLedgerIn holds (Ok value) file = is_blank file ≡ true
+CreatesLedgerIn holds (Err failed) file =
     failed.fault ≡ start.Journal (open_faults.Device NotEmpty) → (is_blank file ≡ false) × holds failed.device file
 
 -- by the same: a blank file has a ledger without entries, and any other is opened; or it is reported why not
@@ -71,15 +71,15 @@ StartsFile (Err failed) profile clients_max file =
     IsNotOfFile failed.fault ⊎ (StopsOpening failed.fault profile clients_max file × (is_blank file ≡ false))
 
 -- the file is as it was, and was at each moment
-pub record IsUntouched (before after : Disk) : Type 0 where
+pub record IsDiskUntouched (before after : Disk) : Type 0 where
   pub seen : after.seen ≡ before.seen
   pub any_moment : LeavesAsBefore before after
 
 -- where something is in a file none is created, the file is as it was, and no sync has failed that had not
 abbrev pub IsCreateRefused : StartFault → Disk → Disk → Type 0
-IsCreateRefused (start.Journal (open_faults.Device NotEmpty)) before after = IsUntouched before after × (after.sound ≡ before.sound)
+IsCreateRefused (start.Journal (open_faults.Device NotEmpty)) before after = IsDiskUntouched before after × (after.sound ≡ before.sound)
 IsCreateRefused (start.Journal (open_faults.Device fault)) before after = Unit {0}
-IsCreateRefused start.NoMemory before after = IsUntouched before after
+IsCreateRefused start.NoMemory before after = IsDiskUntouched before after
 IsCreateRefused fault before after = ⊥
 
 -- the cause of a fault: of one of the journal, that which it has when it is created; behind any other no call has failed
@@ -101,8 +101,8 @@ pub record HasEitherCause {T : Type 0} (result : Result T StartFault) (before af
   pub cause : IfErr result (IsEitherCause before after)
 
 -- where a device is given back, why it is, and what is left of its file
-abbrev pub GivesBack : {T D : Type 0} → (D → Disk) → D → Result T (NotKept D) → (StartFault → Disk → Disk → Type 0) → Type 0
-GivesBack disk device result Is = IfErr result (λ failed. Is failed.fault (disk device) (disk failed.device))
+abbrev pub GivesDeviceBack : {T D : Type 0} → (D → Disk) → D → Result T (NotKept D) → (StartFault → Disk → Disk → Type 0) → Type 0
+GivesDeviceBack disk device result Is = IfErr result (λ failed. Is failed.fault (disk device) (disk failed.device))
 
 -- the cause of the fault for which it is, by the disk before the call and the one behind it
 abbrev pub Causes : {T D : Type 0} → (D → Disk) → D → Result T (NotKept D) → D → (Result (Unit {0}) StartFault → Disk → Disk → Type 0) → Type 0
@@ -120,7 +120,7 @@ module _ {D : Type 0} (disk : D → Disk) (rules : Rules) where
 
   -- where it gives the device back, why it does, and what is left of its file
   abbrev pub GivesBackBy : {T : Type 0} → D → Result T (NotKept D) → (Profile → ℕ → StartFault → Disk → Disk → Type 0) → Type 0
-  GivesBackBy device result Is = GivesBack disk device result (Is rules.profile rules.clients_max)
+  GivesBackBy device result Is = GivesDeviceBack disk device result (Is rules.profile rules.clients_max)
 
 module _ (profile : Profile) (clients_max : ℕ) where
   -- no record, or a head and nothing behind it
@@ -133,21 +133,21 @@ module _ (profile : Profile) (clients_max : ℕ) where
   MayBeOpened before file = IsAsBefore before file ⊎ (contents file ≡ Records (recorded before.seen)) ⊎ ((recorded before.seen ≡ []) × HasNoEntry file)
 
   -- and while one is created: the file as it was, or, if that was blank, one without entries
-  abbrev pub MayBeCreated : Disk → List ℕ → Type 0
-  MayBeCreated before file = IsAsBefore before file ⊎ ((is_blank before.seen ≡ true) × (IsUnborn file ⊎ HasNoEntry file))
+  abbrev pub LedgerMayBeCreated : Disk → List ℕ → Type 0
+  LedgerMayBeCreated before file = IsAsBefore before file ⊎ ((is_blank before.seen ≡ true) × (IsUnborn file ⊎ HasNoEntry file))
 
   abbrev pub MayBeStarted : Disk → List ℕ → Type 0
-  MayBeStarted before file = MayBeOpened before file ⊎ MayBeCreated before file
+  MayBeStarted before file = MayBeOpened before file ⊎ LedgerMayBeCreated before file
 
   -- why a file is not opened: it is no journal or is damaged, it begins with records of which the last is none of the next entry by
   -- these rules, or too much would have to be cut off. Then, and where there is no memory to restore it, it is as it was. Behind any
   -- other fault the device failed, or was full (IsStartCause)
   abbrev pub IsOpenRefused : StartFault → Disk → Disk → Type 0
   IsOpenRefused (start.Journal (open_faults.Device fault)) before after = Unit {0}
-  IsOpenRefused fault before after = StopsOpening fault profile clients_max before.seen × IsUntouched before after
+  IsOpenRefused fault before after = StopsOpening fault profile clients_max before.seen × IsDiskUntouched before after
 
   -- the same of a start, which is never refused for what is in a blank file
   abbrev pub IsStartRefused : StartFault → Disk → Disk → Type 0
   IsStartRefused (start.Journal (open_faults.Device fault)) before after = Unit {0}
-  IsStartRefused start.NoMemory before after = IsUntouched before after
+  IsStartRefused start.NoMemory before after = IsDiskUntouched before after
   IsStartRefused fault before after = IsOpenRefused fault before after × (is_blank before.seen ≡ false)

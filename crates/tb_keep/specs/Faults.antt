@@ -1,7 +1,7 @@
 -- The numbers and the names of faults.
 use Rattle.std.specs.Prelude.{ℕ, ◌+◌, List, codes}
 use Rattle.tb_records.specs.Faults as frame_faults
-use Rattle.tb_journal.specs.Faults.{fault_number, fault_name}
+use Rattle.tb_journal.specs.Faults.{journal_fault_number, journal_fault_name}
 use Rattle.tb_machine.specs.RunFaults.{run_fault_number, run_fault_name}
 use Rattle.tb_keep.specs.declared.faults.DumpFault.{DumpFault}
 use Rattle.tb_keep.specs.declared.faults.DumpFault.TheVariants as dump
@@ -15,12 +15,12 @@ use Rattle.tb_keep.specs.declared.faults.StartFault.TheVariants as start
 -- a fault's number, by which other programs may know it: those of serving first
 abbrev pub keep_fault_number : KeepFault → ℕ
 keep_fault_number (keep.Serving fault) = run_fault_number fault
-keep_fault_number (keep.Journal fault) = 4 + fault_number fault
+keep_fault_number (keep.Journal fault) = 4 + journal_fault_number fault
 
 -- a fault's name, as a message shows it
 abbrev pub keep_fault_name : KeepFault → List ℕ
 keep_fault_name (keep.Serving fault) = run_fault_name fault
-keep_fault_name (keep.Journal fault) = fault_name fault
+keep_fault_name (keep.Journal fault) = journal_fault_name fault
 
 abbrev pub start_fault_number : StartFault → ℕ
 start_fault_number (start.Journal fault) = 1
@@ -40,9 +40,9 @@ start_fault_name (start.Entry fault) = codes "Entry"
 start_fault_name start.NoMemory = codes "NoMemory"
 start_fault_name (start.TornTooLong at bytes) = codes "TornTooLong"
 
-abbrev pub dump_fault_name : DumpFault → List ℕ
-dump_fault_name (dump.Journal fault) = codes "Journal"
-dump_fault_name (dump.Writer fault) = frame_faults.fault_name fault
+abbrev pub ledger_dump_fault_name : DumpFault → List ℕ
+ledger_dump_fault_name (dump.Journal fault) = codes "Journal"
+ledger_dump_fault_name (dump.Writer fault) = frame_faults.fault_name fault
 
 abbrev pub salvage_fault_name : SalvageFault → List ℕ
 salvage_fault_name (salvage.Old fault) = start_fault_name fault

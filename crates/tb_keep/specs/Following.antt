@@ -12,12 +12,12 @@ use Rattle.tb_machine.specs.Dumps.{dumped}
 use Rattle.tb_keep.specs.declared.faults.DumpFault.{DumpFault}
 use Rattle.tb_keep.specs.declared.faults.DumpFault.TheVariants as dump
 use Rattle.tb_keep.specs.Keeping.{History, records_of, IsKeepable}
-use Rattle.tb_keep.specs.Reading.{HasDumpCause, joined}
+use Rattle.tb_keep.specs.Reading.{HasDumpCause, joined_bytes}
 
 -- the bytes of those records behind the ones read so far that have a number above `after`. Record 0 is the head, and record n is that
 -- of the entry of commit number n
 abbrev pub entries_above : ℕ → List (List ℕ) → List (List ℕ) → List ℕ
-entries_above after read more = joined (drop (after + 1 - length read) more)
+entries_above after read more = joined_bytes (drop (after + 1 - length read) more)
 
 -- all records behind those read so far were read, and of these the later ones were written; or the file is not read to its end; or the
 -- writer failed, and a prefix of them went out

@@ -18,8 +18,8 @@ pub record History : Type 0 where
   pub clients_max : ℕ
   pub entries : List Entry
 
-abbrev pub state_of : History → State
-state_of h = after h.profile h.clients_max h.entries
+abbrev pub history_state : History → State
+history_state h = after h.profile h.clients_max h.entries
 
 -- a history with more entries behind it
 abbrev pub longer : History → List Entry → History
@@ -70,7 +70,7 @@ pub record IsFresh {D : Type 0} (disk : D → Disk) (keeper : Keeping D) : Type 
 pub record Keeps {D : Type 0} (disk : D → Disk) (h : History) (keeper : Keeping D) : Type 0 where
   pub fresh : IsFresh disk keeper
   pub file : recorded (disk keeper.journal.device).seen ≡ records_of h
-  pub state : keeper.state ≡ state_of h
+  pub state : keeper.state ≡ history_state h
   pub keepable : IsKeepable h
 
 -- rows

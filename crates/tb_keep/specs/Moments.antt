@@ -5,7 +5,7 @@ use Rattle.tb_journal.specs.Device.{Disk, LeavesOnly}
 use Rattle.tb_journal.specs.Contents.{Records, contents, recorded}
 use Rattle.tb_journal.specs.Steps.{IsAtRest, IsBeforeOrAfter}
 use Rattle.tb_machine.specs.Scripts.{Pair}
-use Rattle.tb_keep.specs.Keeping.{History, state_of, longer, records_of, IsKeepable, IsLedger}
+use Rattle.tb_keep.specs.Keeping.{History, history_state, longer, records_of, IsKeepable, IsLedger}
 use Rattle.tb_keep.specs.Rounds.{records_from, reply_bytes_from, pairs_of, Commits, Standing, Rounds, entries_from, AreServed}
 
 module _ (tells : Type 0) {D : Type 0} (disk : D → Disk) where
@@ -49,10 +49,10 @@ module _ (tells : Type 0) {D : Type 0} (disk : D → Disk) where
   -- such a file represents a history that may be kept: that of the file at first, and the entries of those pairs
   abbrev pub Lasts : Type 0
   Lasts = (h : History) (first : Standing D) (all : List Pair) (file bytes : List ℕ)
-      → IsKeepable h → recorded (disk first.device).seen ≡ records_of h → first.state ≡ state_of h
+      → IsKeepable h → recorded (disk first.device).seen ≡ records_of h → first.state ≡ history_state h
       → AreServed first.state all
       → (backs : Backs first all file bytes)
-      → IsLedger (longer h (entries_from (state_of h) backs.pairs)) file
+      → IsLedger (longer h (entries_from (history_state h) backs.pairs)) file
 
   -- the pairs of rounds are served one after another
   abbrev pub RoundsAreServed : Type 0

@@ -2,7 +2,7 @@
 use Rattle.std.specs.Prelude.{ℕ, ◌≡◌, ◌+◌, ◌≤◌, ◌^◌, ◌==◌, ◌&&◌, not, max, nat_le, if◌then◌else◌, List, [], ◌∷◌, ◌++◌, map, length, Option, None, Some, Result, Ok, Err}
 use Rattle.tb_records.specs.Messages.{count}
 use Rattle.tb_records.specs.DumpBytes.{IsClients}
-use Rattle.tb_ledger.specs.Verdicts.{max_time}
+use Rattle.tb_records.specs.declared.limits.TheConstants.{LAST_MOMENT}
 use Rattle.tb_journal.specs.declared.reading.Extent.{Extent}
 use Rattle.tb_journal.specs.Contents.{Records, contents}
 use Rattle.tb_journal.specs.Opening.{RefusesFile}
@@ -16,8 +16,8 @@ use Rattle.tb_machine.specs.Recording.{IsRecord}
 use Rattle.tb_keep.specs.declared.faults.StartFault.{StartFault}
 use Rattle.tb_keep.specs.declared.faults.StartFault.TheVariants as start
 use Rattle.tb_keep.specs.declared.recovering.Rules.{Rules}
-use Rattle.tb_keep.specs.Keeping.{History, state_of, head_record, AreRecorded, IsLedger}
-use Rattle.tb_keep.specs.Reading.{HasNoHead, rules_of}
+use Rattle.tb_keep.specs.Keeping.{History, history_state, head_record, AreRecorded, IsLedger}
+use Rattle.tb_keep.specs.Reading.{BeginsWithNoHead, rules_of}
 use Rattle.tb_keep.specs.Recovering.{IsNoRecord, IsNotOfFile, IsTornTooLong, torn_bytes}
 
 -- the first test that an entry fails which is to have this commit number and follow one of this time. Whether its request is new is not
@@ -25,7 +25,7 @@ use Rattle.tb_keep.specs.Recovering.{IsNoRecord, IsNotOfFile, IsTornTooLong, tor
 abbrev pub misplaced : ℕ → ℕ → Entry → Option Unfit
 misplaced place time e =
     if not (e.commit == place) then Some Commit
-    else if not (nat_le (time + max (count e.request.body) 1) e.time && nat_le e.time max_time) then Some Time
+    else if not (nat_le (time + max (count e.request.body) 1) e.time && nat_le e.time LAST_MOMENT) then Some Time
     else None
 
 -- entries of which the first has this commit number, each one more, and whose times rise far enough
@@ -74,7 +74,7 @@ pub record StopsOrder (fault : StartFault) (file : List ℕ) : Type 0 where
 -- than one batch can have
 abbrev pub IsNotInOrder : StartFault → List ℕ → Type 0
 IsNotInOrder (start.Journal fault) file = RefusesFile fault file
-IsNotInOrder start.Head file = HasNoHead file
+IsNotInOrder start.Head file = BeginsWithNoHead file
 IsNotInOrder start.NoMemory file = Unit {0}
 IsNotInOrder (start.TornTooLong at bytes) file = IsTornTooLong at bytes file
 IsNotInOrder fault file = StopsOrder fault file
@@ -86,7 +86,7 @@ FindsOrder (Err fault) file = IsNotInOrder fault file
 
 -- what a file that represents a history has: its rules, and its entries in order
 abbrev pub HistoriesAreInOrder : Type 0
-HistoriesAreInOrder = (h : History) (file : List ℕ) → IsLedger h file → IsInOrder (rules_of h.profile h.clients_max) (state_of h).books.time file
+HistoriesAreInOrder = (h : History) (file : List ℕ) → IsLedger h file → IsInOrder (rules_of h.profile h.clients_max) (history_state h).books.time file
 
 -- so what a start or a whole check accepts no quick check refuses, but where memory runs out or the device fails
 abbrev pub QuickRefusesNone : Type 0

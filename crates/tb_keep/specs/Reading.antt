@@ -17,7 +17,7 @@ use Rattle.tb_keep.specs.declared.faults.DumpFault.TheVariants as dump
 use Rattle.tb_keep.specs.declared.faults.StartFault.{StartFault}
 use Rattle.tb_keep.specs.declared.faults.StartFault.TheVariants as start
 use Rattle.tb_keep.specs.declared.recovering.Rules.{Rules}
-use Rattle.tb_keep.specs.Keeping.{History, state_of, head_record, IsLedger}
+use Rattle.tb_keep.specs.Keeping.{History, history_state, head_record, IsLedger}
 use Rattle.tb_keep.specs.Recovering.{StopsOpening, torn_bytes}
 
 abbrev pub rules_of : Profile → ℕ → Rules
@@ -42,13 +42,13 @@ abbrev pub HasRules : Rules → List ℕ → Type 0
 HasRules rules file = BeginsWith (head_record rules.profile rules.clients_max ∷ []) file
 
 -- the first record is no head, or there is none
-abbrev pub HasNoHead : List ℕ → Type 0
-HasNoHead file =
+abbrev pub BeginsWithNoHead : List ℕ → Type 0
+BeginsWithNoHead file =
     (contents file ≡ Records []) ⊎ ((head : List ℕ) × (rest : List (List ℕ)) × BeginsWith (head ∷ rest) file × IsNoHead head)
 
 abbrev pub RulesAnswer : Result Rules StartFault → List ℕ → Type 0
 RulesAnswer (Ok rules) file = HasRules rules file
-RulesAnswer (Err start.Head) file = HasNoHead file
+RulesAnswer (Err start.Head) file = BeginsWithNoHead file
 RulesAnswer (Err (start.Journal fault)) file = RefusesFile fault file
 RulesAnswer (Err fault) file = ⊥
 
@@ -58,7 +58,7 @@ WholeRules = (rules : Rules) (file : List ℕ) (all : List (List ℕ)) → conte
     → (rest : List (List ℕ)) × (all ≡ head_record rules.profile rules.clients_max ∷ rest)
 
 abbrev pub WholeNoHead : Type 0
-WholeNoHead = (file head : List ℕ) (rest : List (List ℕ)) → contents file ≡ Records (head ∷ rest) → HasNoHead file → IsNoHead head
+WholeNoHead = (file head : List ℕ) (rest : List (List ℕ)) → contents file ≡ Records (head ∷ rest) → BeginsWithNoHead file → IsNoHead head
 
 -- the file represents a history of these rules, which the machine has applied
 pub record IsHistory (rules : Rules) (S : State) (file : List ℕ) : Type 0 where
@@ -66,13 +66,13 @@ pub record IsHistory (rules : Rules) (S : State) (file : List ℕ) : Type 0 wher
   pub stands : IsLedger history file
   pub profile : history.profile ≡ rules.profile
   pub clients : history.clients_max ≡ rules.clients_max
-  pub state : S ≡ state_of history
+  pub state : S ≡ history_state history
 
 -- no start opens the file: it is not read, it has no head, a record behind it is none of the next entry, or more torn bytes are behind its
 -- records than one batch can have
 abbrev pub IsNoHistory : StartFault → List ℕ → Type 0
 IsNoHistory (start.Journal fault) file = RefusesFile fault file
-IsNoHistory start.Head file = HasNoHead file
+IsNoHistory start.Head file = BeginsWithNoHead file
 IsNoHistory fault file = (rules : Rules) × HasRules rules file × StopsOpening fault rules.profile rules.clients_max file
 
 -- that history and where the records end, or why there is none
@@ -86,13 +86,13 @@ behind_head [] = []
 behind_head (head ∷ records) = records
 
 -- the bytes of records, one behind another
-abbrev pub joined : List (List ℕ) → List ℕ
-joined [] = []
-joined (bytes ∷ records) = bytes ++ joined records
+abbrev pub joined_bytes : List (List ℕ) → List ℕ
+joined_bytes [] = []
+joined_bytes (bytes ∷ records) = bytes ++ joined_bytes records
 
 -- a dump of records: the head of a dump, and the records behind the first
 abbrev pub dump_with : Rules → List (List ℕ) → List ℕ
-dump_with rules records = head_bytes rules.profile rules.clients_max ++ joined (behind_head records)
+dump_with rules records = head_bytes rules.profile rules.clients_max ++ joined_bytes (behind_head records)
 
 -- a dump of a file
 abbrev pub dump_of : Rules → List ℕ → List ℕ

@@ -16,9 +16,9 @@ use Rattle.tb_keep.specs.declared.faults.StartFault.{StartFault}
 use Rattle.tb_keep.specs.declared.faults.StartFault.TheVariants as start
 use Rattle.tb_keep.specs.declared.salvaging.NotSalvaged.{NotSalvaged}
 use Rattle.tb_keep.specs.declared.salvaging.Salvaged.{Salvaged}
-use Rattle.tb_keep.specs.Keeping.{History, state_of, records_of, Keeping, Keeps, IsUsable, IsKeepable, IsLedger}
-use Rattle.tb_keep.specs.Creating.{IsUntouched}
-use Rattle.tb_keep.specs.Reading.{HasNoHead, IsNoHistory}
+use Rattle.tb_keep.specs.Keeping.{History, history_state, records_of, Keeping, Keeps, IsUsable, IsKeepable, IsLedger}
+use Rattle.tb_keep.specs.Creating.{IsDiskUntouched}
+use Rattle.tb_keep.specs.Reading.{BeginsWithNoHead, IsNoHistory}
 use Rattle.tb_keep.specs.Recovering.{StopsAt, IsTornTooLong, torn_bytes}
 
 -- a fault of the file that is read, or of the new one; the other has none
@@ -64,15 +64,15 @@ StopsBehind (Some (start.Entry fault)) records S file = (bytes : List ℕ) × Be
 StopsBehind stop records S file = ⊥
 
 -- a history was taken of a file: the file begins with its records, behind which no more can be taken
-pub record IsTaken (h : History) (end : ℕ) (stop : Option StartFault) (file : List ℕ) : Type 0 where
+pub record IsHistoryTaken (h : History) (end : ℕ) (stop : Option StartFault) (file : List ℕ) : Type 0 where
   pub begins : BeginsWith (records_of h) file
   pub end_is : end ≡ records_end (records_of h)
-  pub stops : StopsBehind stop (records_of h) (state_of h) file
+  pub stops : StopsBehind stop (records_of h) (history_state h) file
 
 -- a history that a keeper of the new file keeps, which may serve
 pub record IsNewKeeper (tells : Type 0) {N : Type 0} (disk : N → Disk) (h : History) (keeper : Keeping N) : Type 0 where
   pub keepable : IsKeepable h
-  pub state : keeper.state ≡ state_of h
+  pub state : keeper.state ≡ history_state h
   pub kept : tells → Keeps disk h keeper
   pub usable : IsUsable keeper
   pub uncut : keeper.cut ≡ 0
@@ -81,7 +81,7 @@ pub record IsNewKeeper (tells : Type 0) {N : Type 0} (disk : N → Disk) (h : Hi
 pub record IsSalvaged (tells : Type 0) {N : Type 0} (disk : N → Disk) (holds : List ℕ → Type 0) (salvaged : Salvaged N) : Type 0 where
   pub history : History
   pub keeper : IsNewKeeper tells disk history salvaged.keeper
-  pub taken : (file : List ℕ) → holds file → IsTaken history salvaged.end salvaged.stop file
+  pub taken : (file : List ℕ) → holds file → IsHistoryTaken history salvaged.end salvaged.stop file
 
 -- the new file has the history that the one that is read represents, with few torn bytes behind it
 pub record IsBackedUp (tells : Type 0) {N : Type 0} (disk : N → Disk) (holds : List ℕ → Type 0) (keeper : Keeping N) : Type 0 where
@@ -92,7 +92,7 @@ pub record IsBackedUp (tells : Type 0) {N : Type 0} (disk : N → Disk) (holds :
 -- why nothing is taken of a file: it is no journal, its first block is damaged, or its first record is no head. For any other fault it is
 -- not the reason
 abbrev pub IsUnsalvaged : SalvageFault → List ℕ → Type 0
-IsUnsalvaged (Old start.Head) file = HasNoHead file
+IsUnsalvaged (Old start.Head) file = BeginsWithNoHead file
 IsUnsalvaged (Old (start.Journal (open_faults.Refused refusals.NotAJournal))) file = contents file ≡ NotAJournal
 IsUnsalvaged (Old (start.Journal (open_faults.Refused (refusals.Damaged at)))) file = (contents file ≡ Damaged at) × (at ≡ 8)
 IsUnsalvaged (Old (start.Journal (open_faults.Device fault))) file = Unit {0}
@@ -126,7 +126,7 @@ IsNewCause before after fault = ⊥
 
 -- where something is in the place of the new file, that is as it was
 abbrev pub IsLeftAlone : Disk → Disk → StartFault → Type 0
-IsLeftAlone before after (start.Journal (open_faults.Device NotEmpty)) = IsUntouched before after
+IsLeftAlone before after (start.Journal (open_faults.Device NotEmpty)) = IsDiskUntouched before after
 IsLeftAlone before after fault = Unit {0}
 
 pub record HasNewCause {T : Type 0} (result : Result T StartFault) (before after : Disk) : Type 0 where
@@ -152,5 +152,5 @@ LeavesSome disk holds into after = LeavesOnly (disk into) (disk after) (MayBeSal
 
 -- no legal history with whose records the file begins has more of them than the one that is taken
 abbrev pub IsLongest : Type 0
-IsLongest = (h k : History) (end : ℕ) (stop : Option StartFault) (file : List ℕ) → IsKeepable h → IsKeepable k → IsTaken h end stop file → BeginsWith (records_of k) file
+IsLongest = (h k : History) (end : ℕ) (stop : Option StartFault) (file : List ℕ) → IsKeepable h → IsKeepable k → IsHistoryTaken h end stop file → BeginsWith (records_of k) file
     → (rest : List (List ℕ)) × (records_of h ≡ records_of k ++ rest)

@@ -2,8 +2,8 @@
 ghost use Rattle.std.specs.Prelude.{◌≡◌, ℕ, true, List, [], IfOk};
 ghost use Rattle.tb_records.specs.Transport.{IsSent};
 ghost use Rattle.tb_journal.specs.Scans.{GoesFurther};
-ghost use Rattle.tb_keep.specs.private.Entering.{StaysKept, FindsRules, HeadCause, OfBehind, OfExtent, UnreadCause, head_of};
-ghost use Rattle.tb_keep.specs.Creating.{IsUntouched};
+ghost use Rattle.tb_keep.specs.private.Entering.{StaysKept, FindsHeadRules, HeadCause, OfBehind, OfExtent, UnreadCause, head_of};
+ghost use Rattle.tb_keep.specs.Creating.{IsDiskUntouched};
 ghost use Rattle.tb_keep.specs.Recovering.{HasStartCause};
 ghost use Rattle.tb_keep.specs.Reading.{RulesAnswer, RulesIn, HasRules, IsHistory, FindsHistory, Dumps, HasDumpCause, OfRead};
 ghost use Rattle.tb_keep.specs.Following.{HasLaterCause, WritesEntries};
@@ -35,7 +35,7 @@ fn rules_in(head: &[u8]) -> Result<Rules, StartFault>
 
 /// Reads the first record of a file of which nothing was read, and answers the rules that it names.
 pub(crate) fn first_rules<D: Device>(scan: &mut Scan, device: &mut D) -> Result<Rules, StartFault>
-    ensures rules { OfBehind (D.holds device.old) [] scan.old (FindsRules result scan.new) }
+    ensures rules { OfBehind (D.holds device.old) [] scan.old (FindsHeadRules result scan.new) }
     ensures same { (file : List ℕ) → D.holds device.old file → D.holds device.new file }
     ensures stays { D.tells → StaysKept (D.disk device.old) (D.disk device.new) }
     ensures cause { D.tells → UnreadCause result scan.old (D.disk device.old) (D.disk device.new) }
@@ -53,7 +53,7 @@ pub fn read_rules<D: Device>(global: Global, device: &mut D) -> Result<Rules, St
     // Of any device, by the file that its reads are of.
     ensures rules { (file : List ℕ) → D.holds device.old file → RulesAnswer result file }
     ensures same { (file : List ℕ) → D.holds device.old file → D.holds device.new file }
-    ensures untouched { D.tells → IsUntouched (D.disk device.old) (D.disk device.new) }
+    ensures untouched { D.tells → IsDiskUntouched (D.disk device.old) (D.disk device.new) }
     ensures cause { D.tells → HasStartCause result (D.disk device.old) (D.disk device.new) }
 {
     match Scan::start(global, device) {
@@ -70,7 +70,7 @@ pub fn read_history<D: Device>(
     // Of any device, by the file that its reads are of.
     ensures found { (file : List ℕ) → D.holds device.old file → FindsHistory result file }
     ensures same { (file : List ℕ) → D.holds device.old file → D.holds device.new file }
-    ensures untouched { D.tells → IsUntouched (D.disk device.old) (D.disk device.new) }
+    ensures untouched { D.tells → IsDiskUntouched (D.disk device.old) (D.disk device.new) }
     ensures cause { D.tells → HasStartCause result (D.disk device.old) (D.disk device.new) }
 {
     match Scan::start(global, device) {
@@ -108,8 +108,7 @@ fn history_behind<D: Device>(
     ensures stays { D.tells → StaysKept (D.disk device.old) (D.disk device.new) }
     ensures cause { D.tells → HeadCause result rules scan.old (D.disk device.old) (D.disk device.new) }
 {
-    let same = rules;
-    match replay_behind_head(global, global, same, scan, device) {
+    match replay_behind_head(global, global, &rules, scan, device) {
         Ok((machine, extent)) => history_of(rules, machine, extent, device),
         Err(fault) => Err(fault),
     }
@@ -228,7 +227,7 @@ pub fn write_entries<D: Device, W: Sink>(
     ensures writes { OfRead (D.holds device.old) scan.old
         (λ read file. WritesEntries result after read file scan.new (W.output writer.old) (W.output writer.new)) }
     ensures same { (file : List ℕ) → D.holds device.old file → D.holds device.new file }
-    ensures untouched { D.tells → IsUntouched (D.disk device.old) (D.disk device.new) }
+    ensures untouched { D.tells → IsDiskUntouched (D.disk device.old) (D.disk device.new) }
     ensures cause { D.tells → HasLaterCause result scan.old (D.disk device.old) (D.disk device.new) }
 {
     match send_records(scan, device, after, writer) {
@@ -273,7 +272,7 @@ pub fn write_dump<D: Device, W: Sink>(
     ensures dumps { (file : List ℕ) → D.holds device.old file
         → Dumps result rules file (W.output writer.old) (W.output writer.new) }
     ensures same { (file : List ℕ) → D.holds device.old file → D.holds device.new file }
-    ensures untouched { D.tells → IsUntouched (D.disk device.old) (D.disk device.new) }
+    ensures untouched { D.tells → IsDiskUntouched (D.disk device.old) (D.disk device.new) }
     ensures cause { D.tells → HasDumpCause result (D.disk device.old) (D.disk device.new) }
 {
     match Scan::start(global, device) {

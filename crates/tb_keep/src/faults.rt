@@ -1,6 +1,6 @@
 //! Why a kept ledger does not go on.
 ghost use Rattle.std.specs.Prelude.{◌≡◌};
-ghost use Rattle.tb_keep.specs.Faults.{keep_fault_number, keep_fault_name, start_fault_number, start_fault_name, dump_fault_name, salvage_fault_name};
+ghost use Rattle.tb_keep.specs.Faults.{keep_fault_number, keep_fault_name, start_fault_number, start_fault_name, ledger_dump_fault_name, salvage_fault_name};
 
 use std::fmt;
 use tb_journal::{JournalFault, OpenFault};
@@ -146,7 +146,7 @@ pub enum DumpFault {
 impl DumpFault {
     /// The fault's name, as a message shows it.
     pub fn name(self) -> &'static str
-        ensures { result.now ≡ dump_fault_name self }
+        ensures { result.now ≡ ledger_dump_fault_name self }
     {
         match self {
             DumpFault::Journal(_) => "Journal",
@@ -157,9 +157,9 @@ impl DumpFault {
 
 impl fmt::Display for DumpFault {
     ghost use Rattle.std.specs.Prelude.{Some};
-    ghost use Rattle.tb_keep.specs.Faults.{dump_fault_name};
+    ghost use Rattle.tb_keep.specs.Faults.{ledger_dump_fault_name};
 
-    ghost output = { λ fault. Some (dump_fault_name fault) };
+    ghost output = { λ fault. Some (ledger_dump_fault_name fault) };
 
     fn fmt<W: fmt::Write>(&self, f: &mut fmt::Formatter<W>) -> fmt::Result {
         f.write_str(self.name())

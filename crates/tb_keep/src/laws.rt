@@ -1,5 +1,5 @@
 //! What holds of every kept ledger.
-ghost use Rattle.tb_keep.specs.Again.{OneHistory, OneLedger, GoesOnAfter, AnyCrash, AfterKill};
+ghost use Rattle.tb_keep.specs.Again.{FileHasOneHistory, OneLedger, GoesOnAfter, AnyCrash, AfterKill};
 ghost use Rattle.tb_keep.specs.Following.{EntriesAreAbove, EntriesOnce};
 ghost use Rattle.tb_keep.specs.Quick.{HistoriesAreInOrder, QuickRefusesNone};
 ghost use Rattle.tb_keep.specs.Reading.{DumpIsOfHistory, WholeRules, WholeNoHead, WholeDumps};
@@ -38,7 +38,7 @@ pub fn after_kill<D: Device>()
 /// What is opened again after a crash: a file represents one history, and the machine behind the entries of pairs is the one
 /// that served these pairs. So a request that is sent again gets what it would have got with no crash between.
 pub fn opened_again()
-    ensures one_history { OneHistory }
+    ensures one_history { FileHasOneHistory }
     ensures one_ledger { OneLedger }
     ensures goes_on { GoesOnAfter }
 {}

@@ -1,7 +1,7 @@
 //! The numbers and times of the entries of a kept file, read without the ledger that they make.
 ghost use Rattle.std.specs.Prelude.{◌≡◌, ℕ, List, [], IfOk, IfSome};
 ghost use Rattle.tb_journal.specs.Scans.{GoesFurther};
-ghost use Rattle.tb_keep.specs.Creating.{IsUntouched};
+ghost use Rattle.tb_keep.specs.Creating.{IsDiskUntouched};
 ghost use Rattle.tb_keep.specs.Quick.{FindsOrder, IsInOrder, misplaced};
 ghost use Rattle.tb_keep.specs.Reading.{OfRead};
 ghost use Rattle.tb_keep.specs.Recovering.{HasStartCause};
@@ -128,7 +128,7 @@ fn order_behind<D: Device>(
     ensures stays { D.tells → StaysKept (D.disk device.old) (D.disk device.new) }
     ensures cause { D.tells → HeadCause result rules scan.old (D.disk device.old) (D.disk device.new) }
 {
-    let _clients = rules.clients_max.get();
+    rules.expose_bound();
     match pass_all(global, scan, device) {
         Ok(time) => order_of(rules, time, scan.extent(), device),
         Err(fault) => Err(fault),
@@ -165,7 +165,7 @@ pub fn read_quick<D: Device>(
     // Of any device, by the file that its reads are of.
     ensures found { (file : List ℕ) → D.holds device.old file → FindsOrder result file }
     ensures same { (file : List ℕ) → D.holds device.old file → D.holds device.new file }
-    ensures untouched { D.tells → IsUntouched (D.disk device.old) (D.disk device.new) }
+    ensures untouched { D.tells → IsDiskUntouched (D.disk device.old) (D.disk device.new) }
     ensures cause { D.tells → HasStartCause result (D.disk device.old) (D.disk device.new) }
 {
     match Scan::start(global, device) {

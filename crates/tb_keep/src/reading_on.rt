@@ -2,7 +2,7 @@
 ghost use Rattle.std.specs.Prelude.{◌≡◌, ◌+◌, ◌<◌, ◌≤◌, ◌^◌, ℕ, true, false, List, [], length, take, drop, Ok, IfOk, IfErr, IfSome, OnOk};
 ghost use Rattle.tb_journal.specs.Ready.{IsReady};
 ghost use Rattle.tb_journal.specs.Seeking.{IsSeeking};
-ghost use Rattle.tb_keep.specs.Creating.{IsUntouched};
+ghost use Rattle.tb_keep.specs.Creating.{IsDiskUntouched};
 ghost use Rattle.tb_keep.specs.Keeping.{History, Keeps, IsUsable, IsFresh};
 ghost use Rattle.tb_keep.specs.ReadingOn.{IsReadOn, LeavesLonger};
 ghost use Rattle.tb_keep.specs.private.Behind.{TakesIf, TakesHere, TakesOn};
@@ -272,7 +272,7 @@ pub fn read_on<D: Device, N: Device>(
     ensures any_moment { N.tells → (h : History) → Keeps N.disk h keeper.old
         → LeavesLonger h (N.disk keeper.old.journal.device) (N.disk keeper.new.journal.device) }
     ensures same { (file : List ℕ) → D.holds from.old file → D.holds from.new file }
-    ensures untouched { D.tells → IsUntouched (D.disk from.old) (D.disk from.new) }
+    ensures untouched { D.tells → IsDiskUntouched (D.disk from.old) (D.disk from.new) }
 {
     let Ok(mut seek) = Seek::new(global, at) else {
         return Err(SalvageFault::Old(StartFault::NoMemory));

@@ -1,12 +1,13 @@
 //! The head of a kept file, record 0 of its journal, and the restoring of a machine from the records behind it.
 ghost use Rattle.std.specs.Prelude.{◌≡◌, ◌≤◌, ◌+◌, ℕ, true, List, [], Ok, IfOk, IfErr, OnOk};
+ghost use Rattle.tb_records.specs.Limits.{IsClients};
 ghost use Rattle.tb_journal.specs.Scans.{GoesFurther, IsAt, ScanCause};
 ghost use Rattle.tb_machine.specs.Recording.{IsRecord};
-ghost use Rattle.tb_keep.specs.Recovering.{ReadsRecord, AppliesRecord, ReplaysJournal, HasStartCause, HeadAnswers};
-ghost use Rattle.tb_keep.specs.Creating.{IsUntouched};
+ghost use Rattle.tb_keep.specs.Recovering.{ReadsRecord, AppliesRecord, ReplaysJournal, HasStartCause, HeadRecordAnswers};
+ghost use Rattle.tb_keep.specs.Creating.{IsDiskUntouched};
 ghost use Rattle.tb_keep.specs.Reading.{OfRead, NamesRules};
 ghost use Rattle.tb_keep.specs.private.Sources.{IsNext};
-ghost use Rattle.tb_keep.specs.private.Entering.{StaysKept, ReadCause, ReadsHead, EntersNext, EntersAll, FindsBehind, HeadCause, ReplaysEmpty, OfBehind, UnreadCause, head_of};
+ghost use Rattle.tb_keep.specs.private.Entering.{StaysKept, ReadCause, ReadsHead, EntersNextRecord, EntersAll, FindsBehind, HeadCause, ReplaysEmpty, OfBehind, UnreadCause, head_of};
 ghost use Rattle.tb_keep.specs.Keeping.{head_record};
 ghost use Rattle.tb_journal.specs.Device.{KeepsRead, OfHeld};
 
@@ -81,9 +82,9 @@ pub(crate) fn read_record<D: Device>(scan: &mut Scan, device: &mut D) -> Result<
 fn read_head_record<D: Device>(
     scan: &mut Scan,
     device: &mut D,
-    rules: Rules,
+    rules: &Rules,
 ) -> Result<bool, StartFault>
-    ensures head { OfBehind (D.holds device.old) [] scan.old (ReadsHead result rules scan.new) }
+    ensures head { OfBehind (D.holds device.old) [] scan.old (ReadsHead result rules.now scan.new) }
     ensures same { (file : List ℕ) → D.holds device.old file → D.holds device.new file }
     ensures stays { D.tells → StaysKept (D.disk device.old) (D.disk device.new) }
     ensures cause { D.tells → UnreadCause result scan.old (D.disk device.old) (D.disk device.new) }
@@ -106,7 +107,7 @@ fn enter_next<D: Device, A: Allocator + Clone>(
     device: &mut D,
 ) -> Result<bool, StartFault>
     ensures enters { OfRead (D.holds device.old) scan.old
-        (λ read file. EntersNext result read file scan.new machine.old machine.new) }
+        (λ read file. EntersNextRecord result read file scan.new machine.old machine.new) }
     ensures same { (file : List ℕ) → D.holds device.old file → D.holds device.new file }
     ensures stays { D.tells → StaysKept (D.disk device.old) (D.disk device.new) }
     ensures cause { D.tells → ReadCause result scan.old (D.disk device.old) (D.disk device.new) }
@@ -149,17 +150,17 @@ fn enter_all<D: Device, A: Allocator + Clone>(
 pub(crate) fn replay_behind_head<D: Device, A: Allocator + Clone>(
     global: Global,
     alloc: A,
-    rules: Rules,
+    rules: &Rules,
     scan: &mut Scan,
     device: &mut D,
 ) -> Result<(Machine<A>, Extent), StartFault>
-    ensures found { OfBehind (D.holds device.old) (head_of rules) scan.old (FindsBehind result rules) }
+    ensures found { OfBehind (D.holds device.old) (head_of rules.now) scan.old (FindsBehind result rules.now) }
     ensures few { IfOk result (λ found. found.1.count ≤ found.1.end) }
     ensures same { (file : List ℕ) → D.holds device.old file → D.holds device.new file }
     ensures stays { D.tells → StaysKept (D.disk device.old) (D.disk device.new) }
-    ensures cause { D.tells → HeadCause result rules scan.old (D.disk device.old) (D.disk device.new) }
+    ensures cause { D.tells → HeadCause result rules.now scan.old (D.disk device.old) (D.disk device.new) }
 {
-    let _clients = rules.clients_max.get();
+    rules.expose_bound();
     let Ok(mut machine) = Machine::new_in(global, alloc, rules.profile, rules.clients_max) else {
         return Err(StartFault::NoMemory);
     };
@@ -176,15 +177,15 @@ pub(crate) fn replay_behind_head<D: Device, A: Allocator + Clone>(
 fn new_machine<A: Allocator + Clone>(
     global: Global,
     alloc: A,
-    rules: Rules,
+    rules: &Rules,
     extent: Extent,
 ) -> Result<(Machine<A>, Extent), StartFault>
     requires few { extent.count ≤ extent.end }
-    ensures found { (file : List ℕ) → ReplaysEmpty result rules extent file }
+    ensures found { (file : List ℕ) → ReplaysEmpty result rules.now extent file }
     ensures fault { IfErr result (λ fault. fault ≡ StartFault.NoMemory) }
     ensures few { IfOk result (λ found. found.1.count ≤ found.1.end) }
 {
-    let _clients = rules.clients_max.get();
+    rules.expose_bound();
     match Machine::new_in(global, alloc, rules.profile, rules.clients_max) {
         Ok(machine) => Ok((machine, extent)),
         Err(_) => Err(StartFault::NoMemory),
@@ -195,18 +196,17 @@ fn new_machine<A: Allocator + Clone>(
 fn replay_records<D: Device, A: Allocator + Clone>(
     global: Global,
     alloc: A,
-    rules: Rules,
+    rules: &Rules,
     scan: &mut Scan,
     device: &mut D,
 ) -> Result<(Machine<A>, Extent), StartFault>
-    ensures found { OfBehind (D.holds device.old) [] scan.old (ReplaysJournal result rules.profile rules.clients_max) }
+    ensures found { OfBehind (D.holds device.old) [] scan.old (ReplaysJournal result rules.now.profile rules.now.clients_max) }
     ensures few { IfOk result (λ found. found.1.count ≤ found.1.end) }
     ensures same { (file : List ℕ) → D.holds device.old file → D.holds device.new file }
     ensures stays { D.tells → StaysKept (D.disk device.old) (D.disk device.new) }
     ensures cause { D.tells → UnreadCause result scan.old (D.disk device.old) (D.disk device.new) }
 {
-    let same = rules;
-    match read_head_record(scan, device, same) {
+    match read_head_record(scan, device, rules) {
         Ok(true) => replay_behind_head(global, alloc, rules, scan, device),
         Ok(false) => new_machine(global, alloc, rules, scan.extent()),
         Err(fault) => Err(fault),
@@ -220,17 +220,17 @@ fn replay_records<D: Device, A: Allocator + Clone>(
 pub fn replay_journal<D: Device, A: Allocator + Clone>(
     global: Global,
     alloc: A,
-    rules: Rules,
+    rules: &Rules,
     device: &mut D,
 ) -> Result<(Machine<A>, Extent), StartFault>
     // Of any device, by the file that its reads are of.
-    ensures found { OfHeld (D.holds device.old) (ReplaysJournal result rules.profile rules.clients_max) }
+    ensures found { OfHeld (D.holds device.old) (ReplaysJournal result rules.now.profile rules.now.clients_max) }
     ensures few { IfOk result (λ found. found.1.count ≤ found.1.end) }
     // Where no sync has failed before.
     ensures kept { D.tells → KeepsRead result (D.disk device.old) (D.disk device.new) }
     ensures sound { D.tells → OnOk result ((D.disk device.new).sound ≡ (D.disk device.old).sound) }
     ensures same { (file : List ℕ) → D.holds device.old file → D.holds device.new file }
-    ensures untouched { D.tells → IsUntouched (D.disk device.old) (D.disk device.new) }
+    ensures untouched { D.tells → IsDiskUntouched (D.disk device.old) (D.disk device.new) }
     ensures cause { D.tells → HasStartCause result (D.disk device.old) (D.disk device.new) }
 {
     match Scan::start(global, device) {
@@ -273,9 +273,18 @@ pub struct Rules {
     pub clients_max: ClientsMax,
 }
 
+impl Rules {
+    /// Does nothing. Its clause gives a caller's proof the bound of the number of clients, which the field's type does not.
+    pub fn expose_bound(&self)
+        ensures { IsClients self.now.clients_max }
+    {
+        let _clients = self.clients_max.get();
+    }
+}
+
 /// Whether a record is the head of a ledger of these rules.
-pub(crate) fn check_head(bytes: &[u8], rules: Rules) -> Result<(), StartFault>
-    ensures { HeadAnswers result bytes.now rules.profile rules.clients_max }
+pub(crate) fn check_head(bytes: &[u8], rules: &Rules) -> Result<(), StartFault>
+    ensures { HeadRecordAnswers result bytes.now rules.now.profile rules.now.clients_max }
 {
     let Some((profile, clients_max)) = read_head(bytes) else {
         return Err(StartFault::Head);

@@ -4,7 +4,7 @@ ghost use Rattle.tb_journal.specs.Contents.{at_rest};
 ghost use Rattle.tb_journal.specs.Ready.{IsReady};
 ghost use Rattle.tb_journal.specs.Scans.{GoesFurther};
 ghost use Rattle.tb_keep.specs.private.Entering.{StaysKept, ReadCause, HeadCause, OfExtent, UnreadCause};
-ghost use Rattle.tb_keep.specs.Creating.{IsUntouched};
+ghost use Rattle.tb_keep.specs.Creating.{IsDiskUntouched};
 ghost use Rattle.tb_keep.specs.Recovering.{HasStartCause};
 ghost use Rattle.tb_keep.specs.Rounds.{block_bytes_max};
 ghost use Rattle.tb_keep.specs.Salvaging.{IsSalvaged, IsUnsalvaged, IsBackedUp, IsNotBackedUp, salvaged_device, backup_device, why_old, LeavesSome, NewCause, SaysWhy};
@@ -285,7 +285,7 @@ fn salvage_behind<D: Device, N: Device>(
     ensures stays { D.tells → StaysKept (D.disk from.old) (D.disk from.new) }
     ensures cause_old { D.tells → HeadCause (why_old result) rules scan.old (D.disk from.old) (D.disk from.new) }
 {
-    let _clients = rules.clients_max.get();
+    rules.expose_bound();
     let mut keeper = match create(global, global, into, rules) {
         Ok(keeper) => keeper,
         Err(failed) => {
@@ -353,7 +353,7 @@ pub fn salvage<D: Device, N: Device>(
     ensures any_moment { N.tells → LeavesSome N.disk (D.holds from.old) into (salvaged_device result) }
     ensures cause_new { N.tells → NewCause N.disk into result (salvaged_device result) }
     ensures same { (file : List ℕ) → D.holds from.old file → D.holds from.new file }
-    ensures untouched { D.tells → IsUntouched (D.disk from.old) (D.disk from.new) }
+    ensures untouched { D.tells → IsDiskUntouched (D.disk from.old) (D.disk from.new) }
     ensures cause_old { D.tells → HasStartCause (why_old result) (D.disk from.old) (D.disk from.new) }
 {
     match Scan::start(global, from) {
@@ -380,7 +380,7 @@ pub fn backup<D: Device, N: Device>(
     ensures any_moment { N.tells → LeavesSome N.disk (D.holds from.old) into (backup_device result) }
     ensures cause_new { N.tells → NewCause N.disk into result (backup_device result) }
     ensures same { (file : List ℕ) → D.holds from.old file → D.holds from.new file }
-    ensures untouched { D.tells → IsUntouched (D.disk from.old) (D.disk from.new) }
+    ensures untouched { D.tells → IsDiskUntouched (D.disk from.old) (D.disk from.new) }
     ensures cause_old { D.tells → HasStartCause (why_old result) (D.disk from.old) (D.disk from.new) }
 {
     match salvage(global, from, into) {

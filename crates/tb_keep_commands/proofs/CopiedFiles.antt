@@ -14,7 +14,7 @@ use Rattle.tb_keep_commands.specs.Copies.{IsCopy, EndsCopy, copied_of, copied_te
 use Rattle.tb_keep_commands.specs.declared.faults.KeepCommandFault.{KeepCommandFault}
 use Rattle.tb_keep_commands.specs.ExitStatuses.{started_fault}
 use Rattle.tb_keep_commands.specs.Naming.{Names}
-use Rattle.tb_keep_commands.specs.Outcomes.{Outcome, PrintsText}
+use Rattle.tb_keep_commands.specs.Outcomes.{FileOutcome, PrintsText}
 
 pub copy_is : {N : Type 0} (its : devices.Ghosts N) (holds : List ℕ → Type 0) (len : ℕ) (salvaged : Salvaged N)
     → IsSalvaged its.tells its.disk holds salvaged → IsCopy its holds len salvaged (copied_of len salvaged)
@@ -32,21 +32,21 @@ copy_is its holds len salvaged is =
     }
 
 -- what was copied was printed, where that is not refused
-pub printed : {E : Type 0} (its : devices.Ghosts E) (asked : Option StartFault) (c copied : Copied) (outcome : Outcome) (from : E) (start written : Output) → None ≡ asked → c ≡ copied
-    → PrintsText (copied_text c) outcome start written → EndsCopy its asked copied outcome from from start written
+pub printed : {E : Type 0} (its : devices.Ghosts E) (asked : Option StartFault) (c copied : Copied) (outcome : FileOutcome) (from : E) (start written : Output) → None ≡ asked → c ≡ copied
+    → PrintsText (copied_text c) outcome start written → EndsCopy its asked copied outcome (record { file = from; sink = start }) (record { file = from; sink = written })
 printed its asked c copied outcome from start written none same prints =
-    subst (λ (a : Option StartFault). EndsCopy its a copied outcome from from start written) none
+    subst (λ (a : Option StartFault). EndsCopy its a copied outcome (record { file = from; sink = start }) (record { file = from; sink = written })) none
     (subst (λ (d : Copied). PrintsText (copied_text d) outcome start written) same prints, refl)
 
 -- or it is, and it is said why
 pub refused : {E : Type 0} (its : devices.Ghosts E) (asked : Option StartFault) (fault : StartFault) (copied : Copied) (named : KeepCommandFault) (from after : E) (start : Output) → Some fault ≡ asked
-    → Names its (started_fault fault) named from after → EndsCopy its asked copied (Err named) from after start start
+    → Names its (started_fault fault) named from after → EndsCopy its asked copied (Err named) (record { file = from; sink = start }) (record { file = after; sink = start })
 refused its asked fault copied named from after start is names =
-    subst (λ (a : Option StartFault). EndsCopy its a copied (Err named) from after start start) is
+    subst (λ (a : Option StartFault). EndsCopy its a copied (Err named) (record { file = from; sink = start }) (record { file = after; sink = start })) is
     (record { named = named; outcome_is = refl; names = names }, refl)
 
 -- the same of what was read on
-pub rescued_printed : (found : Rescued) (copied c : Copied) (S : State) (on : ReadOn) (outcome : Outcome) (start written : Output) → found ≡ rescued_of copied S on → copied ≡ c
+pub rescued_printed : (found : Rescued) (copied c : Copied) (S : State) (on : ReadOn) (outcome : FileOutcome) (start written : Output) → found ≡ rescued_of copied S on → copied ≡ c
     → PrintsText (rescued_text found) outcome start written → PrintsText (rescued_text (rescued_of c S on)) outcome start written
 rescued_printed found copied c S on outcome start written is same prints =
     subst (λ (r : Rescued). PrintsText (rescued_text r) outcome start written) (is ∙ ap (λ (d : Copied). rescued_of d S on) same) prints

@@ -4,16 +4,16 @@ use Rattle.tb_journal.specs.declared.faults.JournalFault.{JournalFault}
 use Rattle.tb_journal.specs.Contents.{Contents, NotAJournal, Damaged, Records, contents}
 use Rattle.tb_journal.specs.Device.{Disk, Looks}
 use Rattle.tb_journal.specs.Growing.{Later, Grown}
-use Rattle.tb_journal.specs.Snapshots.{Snapped, IsFinal, ShowsOf, IsHeld, Refreshes}
+use Rattle.tb_journal.specs.Snapshots.{Snapped, IsFinal, ShowsOf, HoldsBytes, Refreshes}
 use Rattle.tb_journal.proofs.Growths.{extends_later, final_later, later_same, later_then}
 use Rattle.tb_journal.proofs.Showing.{shown_contents, shown_prefix}
 use Rattle.tb_keep_commands.specs.Live as live
 use Rattle.tb_keep_commands.specs.Live.{LooksAgain, WholeOf, IsWholeLength}
 
 module _ {G : Type 0} (grows : G → List ℕ → Type 0) (before after : Snapped G) where
-  pub refreshed : (result : Result (Unit {0}) JournalFault) → ((shown : List ℕ) (held : IsHeld grows before shown) → OnOk result (Refreshes grows held.file shown after))
-      → ((shown : List ℕ) → IsHeld grows before shown → OnErr result (IsHeld grows after shown))
-      → (shown : List ℕ) → IsHeld grows before shown → live.Refreshes (λ (s : Snapped G). grows s.file) (IsHeld grows) before after shown result
+  pub refreshed : (result : Result (Unit {0}) JournalFault) → ((shown : List ℕ) (held : HoldsBytes grows before shown) → OnOk result (Refreshes grows held.file shown after))
+      → ((shown : List ℕ) → HoldsBytes grows before shown → OnErr result (HoldsBytes grows after shown))
+      → (shown : List ℕ) → HoldsBytes grows before shown → live.RefreshesFile (λ (s : Snapped G). grows s.file) (HoldsBytes grows) before after shown result
   refreshed (Ok done) ok err shown held =
       let r = ok shown held in
       record {
@@ -30,7 +30,7 @@ module _ {G : Type 0} (grows : G → List ℕ → Type 0) (before after : Snappe
 
 -- one that is shown whole holds the file as it is
 module _ {G : Type 0} (grows : G → List ℕ → Type 0) (snapshot : Snapped G) (whole : snapshot.closed ≡ false) where
-  pub looked_whole : (shown : List ℕ) → IsHeld grows snapshot shown → grows snapshot.file shown
+  pub looked_whole : (shown : List ℕ) → HoldsBytes grows snapshot shown → grows snapshot.file shown
   looked_whole shown held =
       let met = held.shows.met in
       let all = subst (λ (b : Bool). ShowsOf b snapshot.end snapshot.len met shown) whole held.shows.shows in
@@ -86,7 +86,7 @@ whole_shown closed end len met shown last shows after = by (contents shown) refl
 module _ {G : Type 0} (grows : G → List ℕ → Type 0) (before : Snapped G) (now : G) where
   pub shown_length : (result : Result ℕ JournalFault)
       → ((file : List ℕ) → grows before.file file → Grown (grows now) file (λ later. IfOk result (λ len. len ≡ length later)))
-      → (shown : List ℕ) → IsHeld grows before shown → IfOk result (IsWholeLength shown)
+      → (shown : List ℕ) → HoldsBytes grows before shown → IfOk result (IsWholeLength shown)
   shown_length (Ok len) long shown held =
       let grown = long held.file held.now in
       let met = held.shows.met in

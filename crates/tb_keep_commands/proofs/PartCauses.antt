@@ -20,7 +20,7 @@ use Rattle.tb_keep_commands.specs.declared.faults.KeepCommandFault.{KeepCommandF
 use Rattle.tb_keep_commands.specs.declared.faults.KeepCommandFault.TheVariants.{Device}
 use Rattle.tb_keep_commands.specs.declared.faults.Failed.TheVariants as failed
 use Rattle.tb_keep_commands.specs.ExitStatuses.{disk_fault, opened_fault, dumped_fault}
-use Rattle.tb_keep_commands.specs.Following.{HasPartCause, ReadsOn, RoundCause}
+use Rattle.tb_keep_commands.specs.Following.{HasPartCause, IsReadOnFrom, RoundCause}
 
 -- behind calls of which none failed
 
@@ -32,7 +32,7 @@ module _ (before mid after : Disk) (quiet : FailsNone before mid) (seen : mid.se
     cause = has_dump_then before mid after quiet seen is.result is.cause;
   }
 
-  pub reads_on_then : (scan : ScanState) → ReadsOn mid after scan → ReadsOn before after scan
+  pub reads_on_then : (scan : ScanState) → IsReadOnFrom mid after scan → IsReadOnFrom before after scan
   reads_on_then scan is = record { quiet = none_since before mid after quiet is.quiet; seen = is.seen ∙ seen; read = is.read; place = is.place }
 
   pub round_cause_then : (outcome : Result (Unit {0}) KeepCommandFault) (scan : ScanState) → RoundCause outcome mid after scan → RoundCause outcome before after scan
@@ -64,7 +64,7 @@ module _ (before after : Disk) where
   -- one round of entries
   pub round_reads_on : (above : ℕ) (read : List (List ℕ)) (scan : ScanState) (count : ℕ) (start written : Output)
       → WritesEntries (Ok count) above read before.seen scan start written → HasDumpCause {T = ℕ} (Ok count) before after → after.seen ≡ before.seen
-      → ReadsOn before after scan
+      → IsReadOnFrom before after scan
   round_reads_on above read scan count start written (more, whole, place, counted, sent) quiet seen = record {
     quiet = quiet.ok;
     seen = seen;

@@ -5,7 +5,7 @@ use Rattle.tb_journal.specs.declared.opening.OpenFault.TheVariants as open_fault
 use Rattle.tb_journal.specs.declared.faults.JournalFault.{JournalFault}
 use Rattle.tb_journal.specs.Growing.{Later}
 use Rattle.tb_journal.specs.Opening.{RefusesFile}
-use Rattle.tb_journal.specs.Scans.{BeginsWith, ScanState, Starts}
+use Rattle.tb_journal.specs.Scans.{BeginsWith, ScanState, BeginsScan}
 use Rattle.tb_records.specs.Transport.{Output, Sent, CutOff}
 use Rattle.tb_records.specs.declared.faults.FrameFault.TheVariants as frame
 use Rattle.tb_records.proofs.Sendings.{sent_rest, sent_few}
@@ -19,7 +19,7 @@ use Rattle.tb_keep_commands.specs.declared.faults.KeepCommandFault.{KeepCommandF
 use Rattle.tb_keep_commands.specs.declared.faults.KeepCommandFault.TheVariants.{Device}
 use Rattle.tb_keep_commands.specs.declared.faults.Failed.TheVariants as failed
 use Rattle.tb_keep_commands.specs.ExitStatuses.{disk_fault, opened_fault, dumped_fault}
-use Rattle.tb_keep_commands.specs.Following.{GrowsTo, StopsReading, EndsBy, SendsRound, Grown, Breaks, GrowsBy, EndsRounds, WritesSome, WritesPart, start_of, floor_of}
+use Rattle.tb_keep_commands.specs.Following.{GrowsTo, StopsWriting, EndsWriting, SendsRound, WritesGrown, Breaks, GrowsBy, EndsRounds, WritesSome, WritesPart, start_of, floor_of}
 
 -- two parts that were sent
 pub both : (xs ys : List ℕ) (old mid new : Output) → Sent xs old mid → Sent ys mid new → Sent (xs ++ ys) old new
@@ -30,18 +30,18 @@ pub then_cut : (xs ys : List ℕ) (old mid new : Output) → Sent xs old mid →
 then_cut xs ys old mid new one two = (sent_rest xs ys old mid new (xs ++ ys) refl one (Err frame.Device) (refl, two)).1
 
 -- a fault of a file that is not read on, with what went out before it
-pub stopped : (fault : KeepCommandFault) (file : List ℕ) (P Q : Type 0) → (P → Q) → StopsReading fault file P → StopsReading fault file Q
+pub stopped : (fault : KeepCommandFault) (file : List ℕ) (P Q : Type 0) → (P → Q) → StopsWriting fault file P → StopsWriting fault file Q
 stopped fault file P Q f stops = record { why = stops.why; named = stops.named; refuses = stops.refuses; went = f stops.went }
 
 -- one that was sent, before what ends by a fault
-pub behind_ends : (fault : KeepCommandFault) (file xs ys : List ℕ) (old mid new : Output) → Sent xs old mid → EndsBy fault file ys mid new → EndsBy fault file (xs ++ ys) old new
+pub behind_ends : (fault : KeepCommandFault) (file xs ys : List ℕ) (old mid new : Output) → Sent xs old mid → EndsWriting fault file ys mid new → EndsWriting fault file (xs ++ ys) old new
 behind_ends fault file xs ys old mid new one two =
     ⊎_elim (λ stops. inl (stopped fault file (Sent ys mid new) (Sent (xs ++ ys) old new) (both xs ys old mid new one) stops))
     (λ cut. inr (cut.0, then_cut xs ys old mid new one cut.1)) two
 
 -- what was sent is a prefix of it that the output held back and lost
 pub lost_held : (fault : KeepCommandFault) (file xs : List ℕ) (old mid new : Output) → fault ≡ Device failed.Output → Sent xs old mid → CutOff [] mid new
-    → EndsBy fault file xs old new
+    → EndsWriting fault file xs old new
 lost_held fault file xs old mid new is one two =
     inr (is, subst (λ (l : List ℕ). CutOff l old new) (append-nil xs) (then_cut xs [] old mid new one two))
 
@@ -69,7 +69,7 @@ round_broken after read file scan (dump.Writer cause) fault old new is (device, 
 module _ {D : Type 0} (holds : D → List ℕ → Type 0) (after : ℕ) (file : List ℕ) (start : Output) where
   pub once_more : (records : List (List ℕ)) (now : List ℕ) (device : D) (scan : ScanState) (result : Result (Unit {0}) KeepCommandFault) (mid new : Output)
       → Later file now → holds device now → Sent (entries_above after [] records) start mid → SendsRound result after records now scan mid new
-      → GrowsBy holds result after file device scan start new
+      → GrowsBy (holds device) result after file scan start new
   once_more records now device scan (Ok done) mid new since held sent (more, whole, place, also) = record {
     later = now;
     since = since;
@@ -84,11 +84,11 @@ module _ {D : Type 0} (holds : D → List ℕ → Type 0) (after : ℕ) (file : 
     since = since;
     records = records ++ more;
     begins = begins;
-    ends = subst (λ (l : List ℕ). EndsBy fault now l start new) (entries_once after [] records more) (behind_ends fault now _ _ start mid new sent ends);
+    ends = subst (λ (l : List ℕ). EndsWriting fault now l start new) (entries_once after [] records more) (behind_ends fault now _ _ start mid new sent ends);
   }
 
   -- no round more: the file could not be read on
-  pub no_more : (cause : JournalFault) (fault : KeepCommandFault) (device : D) (scan : ScanState) (mid : Output) → fault ≡ disk_fault cause → Grown holds after file device scan start mid
+  pub no_more : (cause : JournalFault) (fault : KeepCommandFault) (device : D) (scan : ScanState) (mid : Output) → fault ≡ disk_fault cause → WritesGrown (holds device) after file scan start mid
       → Breaks fault true after file start mid
   no_more cause fault device scan mid is g = record {
     later = g.later;
@@ -98,7 +98,7 @@ module _ {D : Type 0} (holds : D → List ℕ → Type 0) (after : ℕ) (file : 
     ends = inl (record { why = open_faults.Device cause; named = is; refuses = tt; went = g.sent });
   }
 
-  pub reached : (device : D) (scan : ScanState) (mid : Output) → Grown holds after file device scan start mid
+  pub reached : (device : D) (scan : ScanState) (mid : Output) → WritesGrown (holds device) after file scan start mid
       → EndsRounds (holds device) (Ok tt) true after file start mid
   reached device scan mid g = record { later = g.later; since = g.since; held = g.held; records = g.records; whole = g.whole; sent = g.sent }
 
@@ -130,7 +130,7 @@ grows_same true file = later_same file
 -- what comes before the entries was cut off
 pub start_cut : (follows : Bool) (after : Option ℕ) (rules : Rules) (file : List ℕ) (old new : Output) (fault : KeepCommandFault)
     → fault ≡ Device failed.Output → CutOff (start_of after rules) old new → BeginsWith [] file
-    → StopsReading fault file (new ≡ old) ⊎ WritesSome fault follows after rules file old new
+    → StopsWriting fault file (new ≡ old) ⊎ WritesSome fault follows after rules file old new
 start_cut follows after rules file old new fault is cut begins = inr (record {
   later = file;
   since = grows_same follows file;
@@ -141,7 +141,7 @@ start_cut follows after rules file old new fault is cut begins = inr (record {
 
 -- the first round, of a file of which nothing was read
 module _ {D : Type 0} (holds : D → List ℕ → Type 0) (after : ℕ) (file : List ℕ) (start written : Output) where
-  pub first_round : (device : D) (scan : ScanState) → holds device file → SendsRound (Ok tt) after [] file scan start written → Grown holds after file device scan start written
+  pub first_round : (device : D) (scan : ScanState) → holds device file → SendsRound (Ok tt) after [] file scan start written → WritesGrown (holds device) after file scan start written
   first_round device scan held (more, whole, place, sent) = record {
     later = file;
     since = later_same file;
@@ -166,10 +166,10 @@ first_broken follows after file scan start written fault (more, begins, ends) =
 
 -- a file of which nothing is read
 pub unread : (follows : Bool) (after : Option ℕ) (rules : Rules) (file : List ℕ) (cause : OpenFault) (fault : KeepCommandFault) (old : Output)
-    → fault ≡ opened_fault cause → Starts (Err cause) file
-    → StopsReading fault file (old ≡ old) ⊎ WritesSome fault follows after rules file old old
+    → fault ≡ opened_fault cause → BeginsScan (Err cause) file
+    → StopsWriting fault file (old ≡ old) ⊎ WritesSome fault follows after rules file old old
 unread follows after rules file cause fault old is starts = inl (record { why = cause; named = is; refuses = refused cause starts; went = refl })
   where
-    refused : (cause : OpenFault) → Starts (Err cause) file → RefusesFile cause file
+    refused : (cause : OpenFault) → BeginsScan (Err cause) file → RefusesFile cause file
     refused (open_faults.Refused why) starts = starts
     refused (open_faults.Device failure) starts = tt

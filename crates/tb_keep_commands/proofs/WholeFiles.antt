@@ -2,7 +2,7 @@
 use Rattle.std.proofs.Common.{◌≡◌, ◌-◌, ℕ, List, length, Result, Ok, refl, sym, ap, ◌∙◌, subst}
 use Rattle.tb_journal.specs.declared.reading.Extent.{Extent}
 use Rattle.tb_journal.specs.declared.reading.Refusal.{Refusal}
-use Rattle.tb_journal.specs.Contents.{Contents, Records, contents, records_of, recorded, records_end}
+use Rattle.tb_journal.specs.Contents.{Contents, Records, contents, content_records, recorded, records_end}
 use Rattle.tb_journal.specs.Reading.{extent_of}
 use Rattle.tb_machine.specs.Histories.{State}
 use Rattle.tb_machine.proofs.RepeatLaws.{commit_is}
@@ -18,7 +18,7 @@ same_extent a b found one two = cc
 pub extent_is : (file : List ℕ) (records : List (List ℕ)) (extent : Extent) → contents file ≡ Records records → extent_of (contents file) ≡ Ok extent
     → (extent.count ≡ length (recorded file)) × (extent.end ≡ records_end (recorded file))
 extent_is file records extent reads found =
-    let P : Contents → Type 0 = λ c. extent_of c ≡ Ok extent → (extent.count ≡ length (records_of c)) × (extent.end ≡ records_end (records_of c)) in
+    let P : Contents → Type 0 = λ c. extent_of c ≡ Ok extent → (extent.count ≡ length (content_records c)) × (extent.end ≡ records_end (content_records c)) in
     subst P (sym reads) (λ is.
     let same = same_extent (record { end = records_end records; count = length records }) extent (extent_of (Records records)) refl is in
     (ap (λ (e : Extent). e.count) same, ap (λ (e : Extent). e.end) same)) found

@@ -12,13 +12,13 @@ use Rattle.tb_keep.specs.declared.reading_on.ReadOn.{ReadOn}
 use Rattle.tb_keep.specs.declared.recovering.Rules.{Rules}
 use Rattle.tb_keep.specs.declared.salvaging.NotSalvaged.{NotSalvaged}
 use Rattle.tb_keep.specs.declared.salvaging.Salvaged.{Salvaged}
-use Rattle.tb_keep.specs.Keeping.{History, Keeping, Keeps, state_of}
-use Rattle.tb_keep.specs.Creating.{IsUntouched}
+use Rattle.tb_keep.specs.Keeping.{History, Keeping, Keeps, history_state}
+use Rattle.tb_keep.specs.Creating.{IsDiskUntouched}
 use Rattle.tb_keep.specs.Reading.{RulesAnswer}
 use Rattle.tb_keep.specs.ReadingOn.{IsReadOn, LeavesLonger}
 use Rattle.tb_keep.specs.Recovering.{HasStartCause}
 use Rattle.tb_machine.specs.Histories.{State}
-use Rattle.tb_keep.specs.Salvaging.{IsTaken, IsNewKeeper, IsUnsalvaged, MayBeSalvaged, HasNewCause, salvaged_device, why_old, why_new}
+use Rattle.tb_keep.specs.Salvaging.{IsHistoryTaken, IsNewKeeper, IsUnsalvaged, MayBeSalvaged, HasNewCause, salvaged_device, why_old, why_new}
 use Rattle.tb_keep_commands.specs.declared.copies.Copied.{Copied}
 use Rattle.tb_keep_commands.specs.declared.rescues.Rescued.{Rescued}
 use Rattle.tb_keep_commands.specs.declared.faults.Damage.{Damage}
@@ -26,10 +26,10 @@ use Rattle.tb_keep_commands.specs.declared.faults.Damage.TheVariants.{Block}
 use Rattle.tb_keep_commands.specs.declared.faults.KeepCommandFault.{KeepCommandFault}
 use Rattle.tb_keep_commands.specs.declared.faults.KeepCommandFault.TheVariants.{Damaged, Opening, Making, NotAJournal}
 use Rattle.tb_keep_commands.specs.declared.mending.Mended.{Mended}
-use Rattle.tb_keep_commands.specs.Ends.{KnownFiles}
-use Rattle.tb_keep_commands.specs.Mending.{mended_device}
+use Rattle.tb_keep_commands.specs.Ends.{FileOutput, KnownFiles, KnownReading, reading_of}
+use Rattle.tb_keep_commands.specs.Mending.{mended_device, mended_reading}
 use Rattle.tb_keep_commands.specs.Naming.{Names}
-use Rattle.tb_keep_commands.specs.Outcomes.{Outcome, Prints, PrintsText, IsMeasured, IsRefused, Opens}
+use Rattle.tb_keep_commands.specs.Outcomes.{FileOutcome, PrintsWhole, PrintsText, IsMeasured, IsRefused, Opens}
 use Rattle.tb_keep_commands.specs.ExitStatuses.{damage_text, disk_fault, new_fault, started_fault}
 use Rattle.tb_keep_commands.specs.Summaries.{line_before, behind_text}
 
@@ -87,23 +87,23 @@ rescued_of c S on = record {
 pub record IsCopy {N : Type 0} (its : devices.Ghosts N) (holds : List ℕ → Type 0) (len : ℕ) (salvaged : Salvaged N) (c : Copied) : Type 0 where
   pub history : History
   pub keeper : IsNewKeeper its.tells its.disk history salvaged.keeper
-  pub taken : (file : List ℕ) → holds file → IsTaken history salvaged.end salvaged.stop file
+  pub taken : (file : List ℕ) → holds file → IsHistoryTaken history salvaged.end salvaged.stop file
   pub entries : c.entries ≡ length history.entries
-  pub time : c.time ≡ (state_of history).books.time
+  pub time : c.time ≡ (history_state history).books.time
   pub end : c.end ≡ salvaged.end
   pub behind : c.behind ≡ len - salvaged.end - 4
   pub damage : c.damage ≡ damage_of salvaged.stop
 
 -- why a copy that ended so is refused: none, where the file needs not be whole
-abbrev pub refused_by : Bool → Option StartFault → Option StartFault
+abbrev pub refused_by : {F : Type 0} → Bool → Option F → Option F
 refused_by true stop = stop
 refused_by false stop = None
 
 module _ {E : Type 0} (its : devices.Ghosts E) where
   -- what was copied was printed; or it is reported what is damaged, and nothing was printed
-  abbrev pub EndsCopy : Option StartFault → Copied → Outcome → E → E → Output → Output → Type 0
-  EndsCopy None c outcome from after start written = PrintsText (copied_text c) outcome start written × (after ≡ from)
-  EndsCopy (Some fault) c outcome from after start written = IsRefused its fault outcome from after × (written ≡ start)
+  abbrev pub EndsCopy : Option StartFault → Copied → FileOutcome → FileOutput E → FileOutput E → Type 0
+  EndsCopy None c outcome before after = PrintsText (copied_text c) outcome before.sink after.sink × (after.file ≡ before.file)
+  EndsCopy (Some fault) c outcome before after = IsRefused its fault outcome before.file after.file × (after.sink ≡ before.sink)
 
   -- a fault of the file, with what there is to say of it; or one of the new file
   abbrev pub NamesCopy : SalvageFault → KeepCommandFault → E → E → Type 0
@@ -114,7 +114,7 @@ module _ {E : Type 0} (its : devices.Ghosts E) where
   pub record IsHeadRead (rules : Result Rules StartFault) (from after : E) : Type 0 where
     pub rules_are : (file : List ℕ) → its.holds from file → RulesAnswer rules file
     pub same : (file : List ℕ) → its.holds from file → its.holds after file
-    pub untouched : its.tells → IsUntouched (its.disk from) (its.disk after)
+    pub untouched : its.tells → IsDiskUntouched (its.disk from) (its.disk after)
     pub cause : its.tells → HasStartCause rules (its.disk from) (its.disk after)
 
 module _ {E : Type 0} (its : devices.Ghosts E) (whole_read : E → List ℕ → Type 0) {D : Type 0} (new_file : devices.Ghosts D) where
@@ -124,14 +124,14 @@ module _ {E : Type 0} (its : devices.Ghosts E) (whole_read : E → List ℕ → 
     pub any_moment : new_file.tells → LeavesOnly (new_file.disk into) (new_file.disk (salvaged_device result)) (MayBeSalvaged (its.holds from) (new_file.disk into))
     pub cause_new : new_file.tells → HasNewCause (why_new result) (new_file.disk into) (new_file.disk (salvaged_device result))
     pub same : (file : List ℕ) → its.holds from file → its.holds after file
-    pub untouched : its.tells → IsUntouched (its.disk from) (its.disk after)
+    pub untouched : its.tells → IsDiskUntouched (its.disk from) (its.disk after)
     pub cause_old : its.tells → HasStartCause (why_old result) (its.disk from) (its.disk after)
 
   -- a file of so many bytes was read on behind its damage, also behind its closed latch: the new one goes on with each next entry that stands
   -- there, and what was taken over was printed; or why it is not read or written on
-  pub record Rescues (len : ℕ) (salvaged : Salvaged D) (outcome : Outcome) (from after : E) (start written : Output) : Type 0 where
+  pub record Rescues (len : ℕ) (salvaged : Salvaged D) (outcome : FileOutcome) (before after : FileOutput E) : Type 0 where
     pub looked : E
-    pub looks : (file : List ℕ) → whole_read from file → whole_read looked file
+    pub looks : (file : List ℕ) → whole_read before.file file → whole_read looked file
     pub all : (file : List ℕ) → its.holds looked file → whole_read looked file
     pub between : E
     pub result : Result ReadOn SalvageFault
@@ -139,35 +139,36 @@ module _ {E : Type 0} (its : devices.Ghosts E) (whole_read : E → List ℕ → 
     pub on : OnOk result (IsReadOn new_file.tells new_file.disk (its.holds looked) salvaged.end salvaged.keeper keeper)
     pub any_moment : new_file.tells → (h : History) → Keeps new_file.disk h salvaged.keeper
         → LeavesLonger h (new_file.disk salvaged.keeper.journal.device) (new_file.disk keeper.journal.device)
-    pub ends : MatchResult result (λ it. PrintsText (rescued_text (rescued_of (copied_of len salvaged) keeper.state it)) outcome start written × (after ≡ between))
-        (λ fault. (named : KeepCommandFault) × (outcome ≡ Err named) × NamesCopy its fault named between after × (written ≡ start))
+    pub ends : MatchResult result
+        (λ it. PrintsText (rescued_text (rescued_of (copied_of len salvaged) keeper.state it)) outcome before.sink after.sink × (after.file ≡ between))
+        (λ fault. (named : KeepCommandFault) × (outcome ≡ Err named) × NamesCopy its fault named between after.file × (after.sink ≡ before.sink))
 
   -- a copy of a file that is to be whole ends there, and any other is read on
-  abbrev pub EndsBy : Bool → ℕ → Salvaged D → Outcome → E → E → Output → Output → Type 0
-  EndsBy true len salvaged outcome from after start written = EndsCopy its (refused_by true salvaged.stop) (copied_of len salvaged) outcome from after start written
-  EndsBy false len salvaged outcome from after start written = Rescues len salvaged outcome from after start written
+  abbrev pub EndsOrReadsOn : Bool → ℕ → Salvaged D → FileOutcome → FileOutput E → FileOutput E → Type 0
+  EndsOrReadsOn true len salvaged outcome before after = EndsCopy its (refused_by true salvaged.stop) (copied_of len salvaged) outcome before after
+  EndsOrReadsOn false len salvaged outcome before after = Rescues len salvaged outcome before after
 
   -- the new file keeps what was copied, which was printed, or the file is refused; or why there is no new file, or one not to its end
-  abbrev pub CopiesBy : Result (Salvaged D) (NotSalvaged D) → ℕ → Bool → Outcome → E → E → E → Output → Output → Type 0
-  CopiesBy (Ok salvaged) len whole outcome from between after start written =
-      IsCopy new_file (its.holds from) len salvaged (copied_of len salvaged) × EndsBy whole len salvaged outcome between after start written
-  CopiesBy (Err failed) len whole outcome from between after start written =
-      (named : KeepCommandFault) × (outcome ≡ Err named) × NamesCopy its failed.fault named between after × (written ≡ start)
+  abbrev pub CopiesBy : Result (Salvaged D) (NotSalvaged D) → ℕ → Bool → FileOutcome → E → FileOutput E → FileOutput E → Type 0
+  CopiesBy (Ok salvaged) len whole outcome from before after =
+      IsCopy new_file (its.holds from) len salvaged (copied_of len salvaged) × EndsOrReadsOn whole len salvaged outcome before after
+  CopiesBy (Err failed) len whole outcome from before after =
+      (named : KeepCommandFault) × (outcome ≡ Err named) × NamesCopy its failed.fault named before.file after.file × (after.sink ≡ before.sink)
 
   -- a file of so many bytes was copied
-  pub record CopiesLong (len : ℕ) (whole : Bool) (outcome : Outcome) (into : D) (from after : E) (start written : Output) : Type 0 where
+  pub record CopiesLong (len : ℕ) (whole : Bool) (outcome : FileOutcome) (into : D) (before after : FileOutput E) : Type 0 where
     pub result : Result (Salvaged D) (NotSalvaged D)
     pub between : E
-    pub copying : IsCopying result into from between
-    pub copies : CopiesBy result len whole outcome from between after start written
+    pub copying : IsCopying result into before.file between
+    pub copies : CopiesBy result len whole outcome before.file (record before { file = between }) after
 
   -- a file's length was asked for, and then it was copied
-  pub record CopiesFile (whole : Bool) (outcome : Outcome) (into : D) (from after : E) (start written : Output) : Type 0 where
+  pub record CopiesFile (whole : Bool) (outcome : FileOutcome) (into : D) (before after : FileOutput E) : Type 0 where
     pub len : Result ℕ JournalFault
     pub between : E
-    pub asked : IsMeasured its whole_read len from between
-    pub copies : MatchResult len (λ n. CopiesLong n whole outcome into between after start written)
-        (λ fault. (outcome ≡ Err (disk_fault fault)) × (after ≡ between) × (written ≡ start))
+    pub asked : IsMeasured its whole_read len before.file between
+    pub copies : MatchResult len (λ n. CopiesLong n whole outcome into (record before { file = between }) after)
+        (λ fault. (outcome ≡ Err (disk_fault fault)) × (after ≡ record before { file = between }))
 
 -- a file that is not to be whole, and is no journal by its first bytes, is read as one
 abbrev pub is_mended : Bool → KeepCommandFault → Bool
@@ -178,19 +179,19 @@ is_mended whole fault = false
 abbrev pub mended_line : List ℕ
 mended_line = codes "damaged magic: the first 8 bytes are not a journal's\n"
 
-abbrev pub NotesMended : Outcome → Outcome → Output → Output → Type 0
-NotesMended (Ok done) outcome start written = Prints mended_line outcome start written
+abbrev pub NotesMended : FileOutcome → FileOutcome → Output → Output → Type 0
+NotesMended (Ok done) outcome start written = PrintsWhole mended_line outcome start written
 NotesMended (Err fault) outcome start written = (outcome ≡ Err fault) × (written ≡ start)
 
 module _ {O D E : Type 0} (its : KnownFiles O D E) (new : List ℕ) where
   -- the new file of a name was made, and a file was copied into it; or it was not, and nothing was read
-  abbrev pub MakesCopy : {F : Type 0} → devices.Ghosts F → (F → List ℕ → Type 0) → O → O → Bool → Outcome → F → F → Output → Output → Type 0
-  MakesCopy reading whole_read before left whole outcome from after start written =
-      Opens Making (its.opener.makes_new before new) left outcome ((after ≡ from) × (written ≡ start))
-      (λ into. CopiesFile reading whole_read its.file whole outcome into from after start written)
+  abbrev pub MakesCopy : {F : Type 0} → KnownReading F → O → O → Bool → FileOutcome → FileOutput F → FileOutput F → Type 0
+  MakesCopy reading before left whole outcome first last =
+      Opens Making (its.opener.makes_new before new) left outcome (last ≡ first)
+      (λ into. CopiesFile reading.device reading.whole its.file whole outcome into first last)
 
   -- a file was read whole, with the first bytes of a journal over its own; where it begins as a ledger's then it was copied so
-  pub record CopiesMended (before left : O) (refused : KeepCommandFault) (outcome : Outcome) (from : E) (start written : Output) : Type 0 where
+  pub record CopiesMended (before left : O) (refused : KeepCommandFault) (outcome : FileOutcome) (from : E) (start written : Output) : Type 0 where
     pub looked : E
     pub looks : (file : List ℕ) → its.whole from file → its.whole looked file
     pub all : (file : List ℕ) → its.reading.holds looked file → its.whole looked file
@@ -199,34 +200,36 @@ module _ {O D E : Type 0} (its : KnownFiles O D E) (new : List ℕ) where
     pub rules : Result Rules StartFault
     pub between : Mended E
     pub head : IsHeadRead (mended_device its.reading) rules mended between
-    pub copied : Outcome
+    pub copied : FileOutcome
     pub after : Mended E
     pub middle : Output
     pub copies : MatchResult rules
-        (λ read. MakesCopy (mended_device its.reading) (mended_device its.reading).holds before left false copied between after start middle × NotesMended copied outcome middle written)
+        (λ read. MakesCopy (mended_reading its.reading) before left false copied (record { file = between; sink = start }) (record { file = after; sink = middle })
+        × NotesMended copied outcome middle written)
         (λ fault. (outcome ≡ Err refused) × (left ≡ before) × (written ≡ start))
 
-  abbrev pub CopiesIf : Bool → O → O → KeepCommandFault → Outcome → E → Output → Output → Type 0
+  abbrev pub CopiesIf : Bool → O → O → KeepCommandFault → FileOutcome → E → Output → Output → Type 0
   CopiesIf true before left refused outcome from start written = CopiesMended before left refused outcome from start written
   CopiesIf false before left refused outcome from start written = (outcome ≡ Err refused) × (left ≡ before) × (written ≡ start)
 
   -- a file that does not begin as a ledger's is refused, and no new one was made; but of one that may have other first bytes alone
-  pub record CopiesRefused (before left : O) (fault : StartFault) (whole : Bool) (outcome : Outcome) (from : E) (start written : Output) : Type 0 where
+  pub record CopiesRefused (before left : O) (fault : StartFault) (whole : Bool) (outcome : FileOutcome) (from : E) (start written : Output) : Type 0 where
     pub refused : KeepCommandFault
     pub after : E
     pub names : Names its.reading (started_fault fault) refused from after
     pub copies : CopiesIf (is_mended whole refused) before left refused outcome after start written
 
   -- the first record of a file was read, and then it was copied into a new one
-  pub record CopiesHeaded (before left : O) (whole : Bool) (outcome : Outcome) (from : E) (start written : Output) : Type 0 where
+  pub record CopiesHeaded (before left : O) (whole : Bool) (outcome : FileOutcome) (from : E) (start written : Output) : Type 0 where
     pub rules : Result Rules StartFault
     pub between : E
     pub head : IsHeadRead its.reading rules from between
-    pub copies : MatchResult rules (λ read. (after : E) × MakesCopy its.reading its.whole before left whole outcome between after start written)
+    pub copies : MatchResult rules (λ read. (after : E)
+        × MakesCopy (reading_of its) before left whole outcome (record { file = between; sink = start }) (record { file = after; sink = written }))
         (λ fault. CopiesRefused before left fault whole outcome between start written)
 
   -- the file of a name was opened and copied into a new one; or it was not opened, and none was made
-  pub record CopiesOver (name : List ℕ) (before left : O) (whole : Bool) (outcome : Outcome) (start written : Output) : Type 0 where
+  pub record CopiesOver (name : List ℕ) (before left : O) (whole : Bool) (outcome : FileOutcome) (start written : Output) : Type 0 where
     pub middle : O
     pub copies : Opens Opening (its.opener.opens before name) middle outcome ((left ≡ middle) × (written ≡ start))
         (λ from. CopiesHeaded middle left whole outcome from start written)

@@ -7,7 +7,7 @@ use Rattle.tb_keep.specs.Reading.{dump_with}
 use Rattle.tb_keep_commands.specs.Following.{part_of}
 
 -- a later file represents records of which the same part begins with these bytes
-pub record GoesOn (after : Option ℕ) (rules : Rules) (written later : List ℕ) : Type 0 where
+pub record DumpGoesOn (after : Option ℕ) (rules : Rules) (written later : List ℕ) : Type 0 where
   pub records : List (List ℕ)
   pub reads : contents later ≡ Records records
   pub rest : List ℕ
@@ -16,7 +16,7 @@ pub record GoesOn (after : Option ℕ) (rules : Rules) (written later : List ℕ
 -- the part of a file's history that is written at one moment is a prefix of that of each later moment
 abbrev pub PartsGoOn : Type 0
 PartsGoOn = (after : Option ℕ) (rules : Rules) (file later : List ℕ) (records : List (List ℕ)) → contents file ≡ Records records → Later file later
-    → GoesOn after rules (part_of after rules records) later
+    → DumpGoesOn after rules (part_of after rules records) later
 
 -- a dump is the part above no commit number
 abbrev pub DumpsAreParts : Type 0

@@ -1,11 +1,21 @@
 -- What contracts know of what a command works with: its files, its reader, and its writers.
-use Rattle.std.specs.Prelude.{ℕ, Bool, true, false, List, Result}
-use Rattle.tb_records.specs.Transport.{Input, Output}
+use Rattle.std.specs.Prelude.{ℕ, Bool, true, false, List, Result, Ok, Err}
+use Rattle.tb_records.specs.Transport.{Output}
 use Rattle.tb_records.specs.declared.devices.Sink as sinks
 use Rattle.tb_records.specs.declared.devices.Source as sources
 use Rattle.tb_journal.specs.declared.devices.Device as devices
+use Rattle.tb_keep.specs.declared.recovering.Rules.{Rules}
+use Rattle.tb_keep_commands.specs.Streams.{Change, OnStreams, Streams, new, old}
 use Rattle.tb_keep_commands.specs.declared.openers.Opener as openers
 use Rattle.tb_keep_commands.specs.declared.openers.OpeningFault.{OpeningFault}
+
+-- a file that is read, with all that is in it at a moment
+pub record KnownReading (E : Type 0) : Type 1 where
+  pub device : devices.Ghosts E
+  pub whole : E → List ℕ → Type 0
+
+abbrev pub known_reading : {E : Type 0} → devices.Ghosts E → (E → List ℕ → Type 0) → KnownReading E
+known_reading device whole = record { device = device; whole = whole }
 
 -- what opens files; a file that is served or made; and one that is read, with all that is in it at a moment
 pub record KnownFiles (O D E : Type 0) : Type 1 where
@@ -13,6 +23,9 @@ pub record KnownFiles (O D E : Type 0) : Type 1 where
   pub file : devices.Ghosts D
   pub reading : devices.Ghosts E
   pub whole : E → List ℕ → Type 0
+
+abbrev pub reading_of : {O D E : Type 0} → KnownFiles O D E → KnownReading E
+reading_of its = known_reading its.reading its.whole
 
 -- what opens the device of a name that is served: where one that is there is asked for none is made
 abbrev pub made_by : {O D E : Type 0} → KnownFiles O D E → Bool → O → List ℕ → Result D OpeningFault → O → Type 0
@@ -27,8 +40,34 @@ pub record KnownEnds (O D E R W L : Type 0) : Type 1 where
   pub gone : W → Type 0
   pub lines : sinks.Ghosts L
 
--- of what a reader gave, and a writer and a writer of lines took, before and after a call
-abbrev pub On : {R W L : Type 0} → sources.Ghosts R → sinks.Ghosts W → sinks.Ghosts L
-    → (Input → Input → Output → Output → Output → Output → Type 0) → R → R → W → W → L → L → Type 0
-On source sink lines Does first last start written quiet told =
-    Does (source.input first) (source.input last) (sink.output start) (sink.output written) (lines.output quiet) (lines.output told)
+-- of the streams between the ends of a command, before it and after it
+abbrev pub OnEnds : {O D E R W L : Type 0} → KnownEnds O D E R W L → (Streams → Streams → Type 0) → Change R → Change W → Change L → Type 0
+OnEnds its = OnStreams its.source its.sink its.lines
+
+-- done, or the fault by the name that this form has for it
+abbrev pub outcome_by : {T F G : Type 0} → (F → G) → Result T F → Result (Unit {0}) G
+outcome_by name (Ok done) = Ok tt
+outcome_by name (Err fault) = Err (name fault)
+
+-- of what a writer took, before a call and after it
+abbrev pub OnWriter : {W : Type 0} → sinks.Ghosts W → (Output → Output → Type 0) → Change W → Type 0
+OnWriter sink Does writer = Does (sink.output (old writer)) (sink.output (new writer))
+
+-- a file that is read, and what a writer took, at one moment
+pub record FileOutput (D : Type 0) : Type 0 where
+  pub file : D
+  pub sink : Output
+
+-- of both, before a call and after it
+abbrev pub OnDevice : {D W : Type 0} → sinks.Ghosts W → (FileOutput D → FileOutput D → Type 0) → Change D → Change W → Type 0
+OnDevice sink Does device writer =
+    Does (record { file = old device; sink = sink.output (old writer) }) (record { file = new device; sink = sink.output (new writer) })
+
+-- the file that a ledger or a log is kept in: its path, whether there has to be one, and the rules
+pub record KeptFile : Type 0 where
+  pub path : List ℕ
+  pub existing : Bool
+  pub rules : Rules
+
+abbrev pub kept_file : List ℕ → Bool → Rules → KeptFile
+kept_file path existing rules = record { path = path; existing = existing; rules = rules }

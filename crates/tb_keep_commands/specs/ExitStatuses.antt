@@ -65,6 +65,9 @@ use Rattle.tb_keep_commands.specs.Printable.{printable}
 abbrev pub opening_fault_of : ErrorKind → OpeningFault
 opening_fault_of kinds.NotFound = opening.Missing
 opening_fault_of kinds.PermissionDenied = opening.Forbidden
+opening_fault_of kinds.ReadOnlyFilesystem = opening.ReadOnly
+opening_fault_of kinds.StorageFull = opening.Full
+opening_fault_of kinds.QuotaExceeded = opening.Full
 opening_fault_of kinds.IsADirectory = opening.NotAFile
 opening_fault_of kinds.OutOfMemory = opening.NoMemory
 opening_fault_of kind = opening.Unopened
@@ -172,29 +175,29 @@ opening_exit_status opening.Full = 8
 opening_exit_status fault = 1
 
 -- 1 a device or memory failed, 2 the arguments are wrong or a request is none, and from 4 on why the file is not served
-abbrev pub fault_exit_status : KeepCommandFault → ℕ
-fault_exit_status (Device which) = 1
-fault_exit_status NoMemory = 1
-fault_exit_status (Opening fault) = opening_exit_status fault
-fault_exit_status (Making fault) = opening_exit_status fault
-fault_exit_status Usage = 2
-fault_exit_status (Request fault) = 2
-fault_exit_status (NotAJournal kind) = 5
-fault_exit_status NoHead = 5
-fault_exit_status (Damaged damage) = 6
-fault_exit_status (OtherRules numbers) = 7
-fault_exit_status Full = 8
-fault_exit_status SyncFailed = 9
-fault_exit_status Gone = 10
-fault_exit_status (NotCopied why) = 11
+abbrev pub file_exit_status : KeepCommandFault → ℕ
+file_exit_status (Device which) = 1
+file_exit_status NoMemory = 1
+file_exit_status (Opening fault) = opening_exit_status fault
+file_exit_status (Making fault) = opening_exit_status fault
+file_exit_status Usage = 2
+file_exit_status (Request fault) = 2
+file_exit_status (NotAJournal kind) = 5
+file_exit_status NoHead = 5
+file_exit_status (Damaged damage) = 6
+file_exit_status (OtherRules numbers) = 7
+file_exit_status Full = 8
+file_exit_status SyncFailed = 9
+file_exit_status Gone = 10
+file_exit_status (NotCopied why) = 11
 
 -- a number behind a text
 abbrev pub numbered : List ℕ → ℕ → List ℕ
 numbered text number = text ++ decimal number
 
 -- a number before a text
-abbrev pub counted : ℕ → List ℕ → List ℕ
-counted number text = decimal number ++ text
+abbrev pub counted_text : ℕ → List ℕ → List ℕ
+counted_text number text = decimal number ++ text
 
 -- a path between two texts, as it is shown
 abbrev pub named : List ℕ → List ℕ → List ℕ → List ℕ
@@ -219,14 +222,14 @@ abbrev pub unread_text : Option ℕ → List ℕ
 unread_text None = codes " is not what was written"
 unread_text (Some n) =
     if n == 0 then codes " (the head) is not what was written"
-    else codes " (entry " ++ counted n (codes ") is not what was written")
+    else codes " (entry " ++ counted_text n (codes ") is not what was written")
 
 -- the same in a line of its own, of a file with this path: entry N is the record N behind the head
 abbrev pub harm_text : Damage → List ℕ
 harm_text (Block at entry) = numbered (codes "the block at byte ") at ++ unread_text entry
 harm_text (Record place fault) = numbered (codes "entry ") place ++ (codes " is none: " ++ fault_name fault)
 harm_text (Entry fault) = numbered (codes "entry ") fault.place ++ (codes " may not come next: " ++ unfit_name fault.cause)
-harm_text (Torn at bytes) = counted bytes (codes " bytes are behind byte ") ++ counted at (codes ", more than one batch can have")
+harm_text (Torn at bytes) = counted_text bytes (codes " bytes are behind byte ") ++ counted_text at (codes ", more than one batch can have")
 
 -- a text, what is damaged in the file of this path, and what is to be done
 abbrev pub damaged_text : List ℕ → Damage → List ℕ → List ℕ → List ℕ
@@ -249,7 +252,7 @@ next_of damage =
 -- what is wrong with an entry in the file of this path, and what is to be done
 abbrev pub wrong_text : WrongEntry → List ℕ → List ℕ → List ℕ
 wrong_text wrong path next =
-    named (codes "tbd: Damaged: ") path wrong.before.now ++ (counted wrong.number wrong.after.now ++ (wrong.name.now ++ next))
+    named (codes "tbd: Damaged: ") path wrong.before.now ++ (counted_text wrong.number wrong.after.now ++ (wrong.name.now ++ next))
 
 abbrev pub sync_text : List ℕ → List ℕ
 sync_text path = named (codes "SyncFailed: ") path (codes ": restart the machine or copy the file before the next start")
@@ -261,7 +264,9 @@ full_text path = named (codes "Full: ") path (codes ": the disk is full, or the 
 abbrev pub opening_text : OpeningFault → List ℕ → List ℕ
 opening_text opening.Locked path = named (codes "Locked: ") path (codes " is open in another program; end that one first")
 opening_text opening.Missing path = named (codes "Device: cannot find ") path (codes "; look at its name and at its folder")
-opening_text opening.Forbidden path = named (codes "Device: no permission to open ") path (codes "; change its mode, or run tbd as a user that may")
+opening_text opening.Forbidden path = named (codes "Device: no permission to open ") path (codes "; change its mode or its folder's, or run tbd as a user that may")
+opening_text opening.ReadOnly path = named (codes "Device: ") path (codes " is on a disk that is read-only; mount it for writing, or name a file on another disk")
+opening_text opening.TooMany path = named (codes "Device: cannot open ") path (codes ": too many files are open; raise their number by ulimit -n")
 opening_text opening.NoMemory path = codes "NoMemory"
 opening_text opening.SyncFailed path = sync_text path
 opening_text opening.Exists path = named (codes "Usage: ") path (codes " exists; give the name of one that is not there")
@@ -270,14 +275,21 @@ opening_text opening.Dangling path = named (codes "Device: ") path (codes " is a
 opening_text opening.Unopened path = named (codes "Device: cannot open ") path (codes "; look at its disk and at its folder")
 opening_text opening.Unread path = named (codes "Device: ") path (codes ": a read or write failed; look at the disk, and start again")
 opening_text opening.Full path = full_text path
-opening_text opening.Empty path = codes "NotAJournal: " ++ (printable path ++ codes " is empty; tbd run without --existing makes a ledger in it")
+opening_text opening.Empty path = codes "NotAJournal: " ++ (printable path ++ codes " is empty; without --existing tbd run makes a ledger in it, and tbd follow a log")
+
+-- why a new file was not made, or not to its end: then it has a prefix of what was to be in it
+abbrev pub making_text : OpeningFault → List ℕ → List ℕ
+making_text opening.SyncFailed path = named (codes "SyncFailed: ") path (codes ": it may be lost; remove it, look at the disk, and start again")
+making_text opening.Unread path = named (codes "Device: ") path (codes ": a read or write failed; remove it, look at the disk, and start again")
+making_text opening.Full path = named (codes "Full: ") path (codes ": the disk is full, or the file has its greatest length; remove it, free space, and start again")
+making_text fault path = opening_text fault path
 
 -- what failed
 abbrev pub failed_text : Failed → List ℕ → List ℕ
 failed_text Input path = codes "Device: standard input"
 failed_text OutputSide path = codes "Device: standard output"
 failed_text File path = named (codes "Device: ") path (codes ": a read or write failed; look at the disk, and start again")
-failed_text New path = named (codes "Device: ") path (codes ": a read or write failed; look at the disk, and start again")
+failed_text New path = named (codes "Device: ") path (codes ": a read or write failed; remove it, look at the disk, and start again")
 
 -- a file that is no ledger, and what it is; nothing more where it was not looked at
 abbrev pub kind_text : Kind → List ℕ → List ℕ
@@ -285,6 +297,11 @@ kind_text kind.Unread path = codes "NotAJournal"
 kind_text kind.Empty path = codes "NotAJournal: " ++ (printable path ++ codes " is empty; tbd run makes a ledger in it")
 kind_text kind.Former path = codes "NotAJournal: " ++ (printable path ++ codes " has the former format TBJRNL01; tools/convert_journal.py makes a new file of it")
 kind_text kind.Dump path = codes "NotAJournal: " ++ (printable path ++ codes " is a dump; tbs replay and telovamish dump read it")
+kind_text kind.NoRecord path = codes "NotAJournal: " ++ (printable path ++ codes " has no record yet; tbd run makes a ledger in it, and tbd follow a log")
+kind_text kind.Begun path =
+    codes "NotAJournal: " ++ (printable path ++ codes " ends before its first record; restore a backup if it had one, or start without --existing")
+kind_text kind.Ledger path = codes "NotAJournal: " ++ (printable path ++ codes " is a ledger; tbd run serves it")
+kind_text kind.Log path = codes "NotAJournal: " ++ (printable path ++ codes " is a log; tbd follow serves it")
 kind_text kind.Script path = codes "NotAJournal: " ++ (printable path ++ codes " is a script; tbs and tbd run read it as standard input")
 kind_text kind.Text path = codes "NotAJournal: " ++ (printable path ++ codes " is a text; telovamish script makes request frames of statements")
 kind_text kind.Other path = codes "NotAJournal: " ++ (printable path ++ codes " does not begin as a ledger's file")
@@ -306,11 +323,11 @@ abbrev pub fault_text : KeepCommandFault → List ℕ → List ℕ
 fault_text Usage path = codes "Usage: a word is not UTF-8"
 fault_text (Device which) path = failed_text which path
 fault_text (Opening fault) path = opening_text fault path
-fault_text (Making fault) path = opening_text fault path
+fault_text (Making fault) path = making_text fault path
 fault_text NoMemory path = codes "NoMemory"
-fault_text (Request fault) path = run_fault_name fault
+fault_text (Request fault) path = run_fault_name fault ++ codes ": the next request on standard input is refused; those before it were answered"
 fault_text (NotAJournal kind) path = kind_text kind path
-fault_text NoHead path = named (codes "NotAJournal: ") path (codes " has no ledger's head; tbd follow serves a log")
+fault_text NoHead path = named (codes "NotAJournal: ") path (codes " has a first record that is no ledger's head; restore a backup")
 fault_text (Damaged damage) path = damaged_text (codes "Damaged: ") damage path (next_of damage)
 fault_text (OtherRules numbers) path = mismatch_text numbers path
 fault_text Full path = full_text path
@@ -326,8 +343,8 @@ SaysLine line before after = (Sent line before after × (after.held ≡ false)) 
 abbrev pub Says : {E : Type 0} → sinks.Ghosts E → List ℕ → E → E → Type 0
 Says lines line before after = SaysLine line (lines.output before) (lines.output after)
 
-abbrev pub fault_line : KeepCommandFault → List ℕ → List ℕ
-fault_line fault path = codes "tbd: " ++ (fault_text fault path ++ codes "\n")
+abbrev pub file_fault_line : KeepCommandFault → List ℕ → List ℕ
+file_fault_line fault path = codes "tbd: " ++ (fault_text fault path ++ codes "\n")
 
 -- what a start says that made a file of this path
 abbrev pub made_line : List ℕ → List ℕ
@@ -370,8 +387,8 @@ abbrev pub first_due : Bool → ℕ
 first_due reports = if reports then 64000000 else 2 ^ 64 - 1
 
 -- a read at an offset was reported where that was due, and the next report is due 64 MB behind it
-abbrev pub Reports : {D E : Type 0} → sinks.Ghosts E → ℕ → Reported D E → Reported D E → Type 0
-Reports lines at before after =
+abbrev pub ReportsProgress : {D E : Type 0} → sinks.Ghosts E → ℕ → Reported D E → Reported D E → Type 0
+ReportsProgress lines at before after =
     (after.path ≡ before.path) × (after.len ≡ before.len)
     × (after.due ≡ (if nat_le before.due at then min (at + 64000000) (2 ^ 64 - 1) else before.due))
     × PrintsWhere (nat_le before.due at) (reading_line (string_bytes before.path) (at / 1000000) (before.len / 1000000))
@@ -397,9 +414,9 @@ PrintsCut zero at before after = after ≡ before
 PrintsCut (suc more) at before after = SaysLine (cut_line (suc more) at) before after
 
 -- what was sent is passed on, where all was
-abbrev pub Passes : Result (Unit {0}) FrameFault → Output → Output → Type 0
-Passes (Ok done) before after = Sent [] before after × (after.held ≡ false)
-Passes (Err fault) before after = after ≡ before
+abbrev pub PassesOn : Result (Unit {0}) FrameFault → Output → Output → Type 0
+PassesOn (Ok done) before after = Sent [] before after × (after.held ≡ false)
+PassesOn (Err fault) before after = after ≡ before
 
 -- words as they are shown, a space before each
 abbrev pub shown_words : List (List ℕ) → List ℕ
@@ -410,7 +427,7 @@ abbrev pub said_text : List (List ℕ) → List ℕ → List ℕ
 said_text shown what = shown_words shown ++ (codes ": " ++ (what ++ codes "\n"))
 
 abbrev pub wrong_line : Wrong → List (List ℕ) → List ℕ
-wrong_line wrong words = codes "tbd: Usage:" ++ said_text (take wrong.shown words) (cli.fault_text wrong.fault)
+wrong_line wrong words = codes "tbd: Usage:" ++ said_text (take wrong.shown words) (cli.word_fault_text wrong.fault)
 
 -- the page of usage where there are no words
 abbrev pub usage_lines : Wrong → List (List ℕ) → List ℕ
@@ -434,22 +451,31 @@ read_line read all = line_of (read_text read all)
 -- rows
 
 pub line_of_a_block :
-    fault_line (Damaged (Block 94 (Some 3))) (codes "ledger")
+    file_fault_line (Damaged (Block 94 (Some 3))) (codes "ledger")
     ≡ codes "tbd: Damaged: ledger: the block at byte 94 (entry 3) is not what was written; tbd salvage makes a new file of the entries before it\n"
 unfolding digits printable chars lib.Utf8.encode
 line_of_a_block = refl
 
 pub line_of_a_head :
-    fault_line (Damaged (Block 8 (Some 0))) (codes "ledger")
+    file_fault_line (Damaged (Block 8 (Some 0))) (codes "ledger")
     ≡ codes "tbd: Damaged: ledger: the block at byte 8 (the head) is not what was written; restore a backup: tbd salvage needs the head\n"
 unfolding digits printable chars lib.Utf8.encode
 line_of_a_head = refl
 
-pub line_of_a_name : fault_line (Opening opening.Missing) (codes "ledger") ≡ codes "tbd: Device: cannot find ledger; look at its name and at its folder\n"
+pub line_of_a_name : file_fault_line (Opening opening.Missing) (codes "ledger") ≡ codes "tbd: Device: cannot find ledger; look at its name and at its folder\n"
 unfolding printable chars lib.Utf8.encode
 line_of_a_name = refl
 
-pub line_of_a_new_name : fault_line (Making opening.Exists) (codes "new") ≡ codes "tbd: Usage: new exists; give the name of one that is not there\n"
+pub line_of_a_new_file_that_is_not_whole :
+    file_fault_line (Making opening.Full) (codes "new") ≡ codes "tbd: Full: new: the disk is full, or the file has its greatest length; remove it, free space, and start again\n"
+unfolding printable chars lib.Utf8.encode
+line_of_a_new_file_that_is_not_whole = refl
+
+pub line_of_a_request :
+    file_fault_line (Request (run.Frame frame.Short)) [] ≡ codes "tbd: Short: the next request on standard input is refused; those before it were answered\n"
+line_of_a_request = refl
+
+pub line_of_a_new_name : file_fault_line (Making opening.Exists) (codes "new") ≡ codes "tbd: Usage: new exists; give the name of one that is not there\n"
 unfolding printable chars lib.Utf8.encode
 line_of_a_new_name = refl
 
@@ -462,15 +488,15 @@ unfolding digits
 line_of_a_ready_start = refl
 
 pub line_of_a_file_that_is_gone :
-    fault_line Gone (codes "ledger") ≡ codes "tbd: Gone: ledger is not the file that was opened, or another program cut it; put that file back before the next start\n"
+    file_fault_line Gone (codes "ledger") ≡ codes "tbd: Gone: ledger is not the file that was opened, or another program cut it; put that file back before the next start\n"
 unfolding printable chars lib.Utf8.encode
 line_of_a_file_that_is_gone = refl
 
-pub line_of_a_pipe : fault_line (Device OutputSide) (codes "ledger") ≡ codes "tbd: Device: standard output\n"
+pub line_of_a_pipe : file_fault_line (Device OutputSide) (codes "ledger") ≡ codes "tbd: Device: standard output\n"
 line_of_a_pipe = refl
 
 pub line_of_other_rules :
-    fault_line (OtherRules (Some (record { made = record { clients_max = 3; profile = 1 }; asked = record { clients_max = 64; profile = 2 } }))) (codes "ledger")
+    file_fault_line (OtherRules (Some (record { made = record { clients_max = 3; profile = 1 }; asked = record { clients_max = 64; profile = 2 } }))) (codes "ledger")
     ≡ codes "tbd: OtherRules: ledger was made with CLIENTS_MAX 3 and PROFILE 1, not with CLIENTS_MAX 64 and PROFILE 2\n"
 unfolding digits numbers_text printable chars lib.Utf8.encode
 line_of_other_rules = refl

@@ -15,6 +15,7 @@ use Rattle.tb_keep.specs.Reading.{HasDumpCause}
 use Rattle.tb_keep_commands.specs.declared.faults.KeepCommandFault.{KeepCommandFault}
 use Rattle.tb_keep_commands.specs.declared.faults.KeepCommandFault.TheVariants.{Device}
 use Rattle.tb_keep_commands.specs.declared.faults.Failed.TheVariants as failed
+use Rattle.tb_keep_commands.specs.Ends.{outcome_by}
 use Rattle.tb_keep_commands.specs.ExitStatuses.{opened_fault, dumped_fault}
 
 -- above which commit number entries are written: all where none is given
@@ -37,16 +38,16 @@ GrowsTo false file later = later ≡ file
 GrowsTo true file later = Later file later
 
 -- the file was not read on for the reason that the fault names, and before that this went out
-pub record StopsReading (fault : KeepCommandFault) (file : List ℕ) (Went : Type 0) : Type 0 where
+pub record StopsWriting (fault : KeepCommandFault) (file : List ℕ) (Went : Type 0) : Type 0 where
   pub why : OpenFault
   pub named : fault ≡ opened_fault why
   pub refuses : RefusesFile why file
   pub went : Went
 
 -- the file was not read on, and these bytes went out; or standard output failed, and a prefix of them did
-abbrev pub EndsBy : KeepCommandFault → List ℕ → List ℕ → Output → Output → Type 0
-EndsBy fault file bytes start written =
-    StopsReading fault file (Sent bytes start written) ⊎ ((fault ≡ Device failed.Output) × CutOff bytes start written)
+abbrev pub EndsWriting : KeepCommandFault → List ℕ → List ℕ → Output → Output → Type 0
+EndsWriting fault file bytes start written =
+    StopsWriting fault file (Sent bytes start written) ⊎ ((fault ≡ Device failed.Output) × CutOff bytes start written)
 
 -- all of a file was read, the file itself or, where more was waited for, what it had become: it is the one that the device holds at the
 -- end. The part of its records went out
@@ -64,34 +65,30 @@ pub record WritesSome (fault : KeepCommandFault) (follows : Bool) (after : Optio
   pub since : GrowsTo follows file later
   pub records : List (List ℕ)
   pub begins : BeginsWith records later
-  pub ends : EndsBy fault later (part_of after rules records) start written
+  pub ends : EndsWriting fault later (part_of after rules records) start written
 
 abbrev pub WritesPart : (List ℕ → Type 0) → Result (Unit {0}) KeepCommandFault → Bool → Option ℕ → Rules → List ℕ → Output → Output → Type 0
 WritesPart holds (Ok done) follows after rules file start written = WritesRead holds follows after rules file start written
 WritesPart holds (Err fault) follows after rules file start written =
-    StopsReading fault file (written ≡ start) ⊎ WritesSome fault follows after rules file start written
-
-abbrev pub dump_outcome : Result (Unit {0}) DumpFault → Result (Unit {0}) KeepCommandFault
-dump_outcome (Ok done) = Ok tt
-dump_outcome (Err fault) = Err (dumped_fault fault)
+    StopsWriting fault file (written ≡ start) ⊎ WritesSome fault follows after rules file start written
 
 -- the cause of an outcome, over a device that reports what its calls do: that of a dump
 pub record HasPartCause (outcome : Result (Unit {0}) KeepCommandFault) (before after : Disk) : Type 0 where
   pub result : Result (Unit {0}) DumpFault
-  pub outcome_is : outcome ≡ dump_outcome result
+  pub outcome_is : outcome ≡ outcome_by dumped_fault result
   pub cause : HasDumpCause result before after
 
 -- what private functions alone cite
 
 -- no call on a device failed, and its file is read on from there
-pub record ReadsOn (before after : Disk) (scan : ScanState) : Type 0 where
+pub record IsReadOnFrom (before after : Disk) (scan : ScanState) : Type 0 where
   pub quiet : FailsNone before after
   pub seen : after.seen ≡ before.seen
   pub read : List (List ℕ)
   pub place : HasRead read after.seen scan
 
 abbrev pub RoundCause : Result (Unit {0}) KeepCommandFault → Disk → Disk → ScanState → Type 0
-RoundCause (Ok done) before after scan = ReadsOn before after scan
+RoundCause (Ok done) before after scan = IsReadOnFrom before after scan
 RoundCause (Err fault) before after scan = HasPartCause (Err fault) before after
 
 -- the entries behind the records that were read were read and written, to the end of the file; or some of them
@@ -100,13 +97,13 @@ SendsRound (Ok done) after read file scan start written =
     (more : List (List ℕ)) × (contents file ≡ Records (read ++ more)) × HasRead (read ++ more) file scan
     × Sent (entries_above after read more) start written
 SendsRound (Err fault) after read file scan start written =
-    (more : List (List ℕ)) × BeginsWith (read ++ more) file × EndsBy fault file (entries_above after read more) start written
+    (more : List (List ℕ)) × BeginsWith (read ++ more) file × EndsWriting fault file (entries_above after read more) start written
 
 -- a file that has grown meanwhile was read to its end, and of its entries those were written
-pub record Grown {D : Type 0} (holds : D → List ℕ → Type 0) (after : ℕ) (file : List ℕ) (device : D) (scan : ScanState) (start written : Output) : Type 0 where
+pub record WritesGrown (holds : List ℕ → Type 0) (after : ℕ) (file : List ℕ) (scan : ScanState) (start written : Output) : Type 0 where
   pub later : List ℕ
   pub since : Later file later
-  pub held : holds device later
+  pub held : holds later
   pub records : List (List ℕ)
   pub whole : contents later ≡ Records records
   pub place : HasRead records later scan
@@ -118,12 +115,12 @@ pub record Breaks (fault : KeepCommandFault) (follows : Bool) (after : ℕ) (fil
   pub since : GrowsTo follows file later
   pub records : List (List ℕ)
   pub begins : BeginsWith records later
-  pub ends : EndsBy fault later (entries_above after [] records) start written
+  pub ends : EndsWriting fault later (entries_above after [] records) start written
 
 -- one more round
-abbrev pub GrowsBy : {D : Type 0} → (D → List ℕ → Type 0) → Result (Unit {0}) KeepCommandFault → ℕ → List ℕ → D → ScanState → Output → Output → Type 0
-GrowsBy holds (Ok done) after file device scan start written = Grown holds after file device scan start written
-GrowsBy holds (Err fault) after file device scan start written = Breaks fault true after file start written
+abbrev pub GrowsBy : (List ℕ → Type 0) → Result (Unit {0}) KeepCommandFault → ℕ → List ℕ → ScanState → Output → Output → Type 0
+GrowsBy holds (Ok done) after file scan start written = WritesGrown holds after file scan start written
+GrowsBy holds (Err fault) after file scan start written = Breaks fault true after file start written
 
 -- all rounds: nobody waits for more, or a fault
 pub record Reaches (holds : List ℕ → Type 0) (follows : Bool) (after : ℕ) (file : List ℕ) (start written : Output) : Type 0 where

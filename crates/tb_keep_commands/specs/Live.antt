@@ -4,26 +4,27 @@ use Rattle.tb_journal.specs.declared.faults.JournalFault.{JournalFault}
 use Rattle.tb_journal.specs.Contents.{Contents, NotAJournal, Damaged, Records, contents}
 use Rattle.tb_journal.specs.Growing.{Extends, Grown, Later}
 
--- a device looked at its file again. What it holds is later than this file, and represents all that the whole file represented at some
--- moment of the call
-pub record LooksAgain {D : Type 0} (whole holds : D → List ℕ → Type 0) (before after : D) (file : List ℕ) : Type 0 where
-  pub later : List ℕ
-  pub since : Later file later
-  pub held : holds after later
-  pub first : List ℕ
-  pub was : whole before first
-  pub moment : List ℕ
-  pub grown : Later first moment
-  pub all : contents later ≡ contents moment
+module _ {D : Type 0} (whole holds : D → List ℕ → Type 0) where
+  -- a device looked at its file again. What it holds is later than this file, and represents all that the whole file represented at some
+  -- moment of the call
+  pub record LooksAgain (before after : D) (file : List ℕ) : Type 0 where
+    pub later : List ℕ
+    pub since : Later file later
+    pub held : holds after later
+    pub first : List ℕ
+    pub was : whole before first
+    pub moment : List ℕ
+    pub grown : Later first moment
+    pub all : contents later ≡ contents moment
 
--- or it failed, and holds what it held
-abbrev pub Refreshes : {D : Type 0} → (D → List ℕ → Type 0) → (D → List ℕ → Type 0) → D → D → List ℕ → Result (Unit {0}) JournalFault → Type 0
-Refreshes whole holds before after file (Ok done) = LooksAgain whole holds before after file
-Refreshes whole holds before after file (Err fault) = holds after file
+  -- or it failed, and holds what it held
+  abbrev pub RefreshesFile : D → D → List ℕ → Result (Unit {0}) JournalFault → Type 0
+  RefreshesFile before after file (Ok done) = LooksAgain before after file
+  RefreshesFile before after file (Err fault) = holds after file
 
--- of whatever file it held
-abbrev pub RefreshesHeld : {D : Type 0} → (D → List ℕ → Type 0) → (D → List ℕ → Type 0) → Result (Unit {0}) JournalFault → D → D → Type 0
-RefreshesHeld whole holds result before after = (file : List ℕ) → holds before file → Refreshes whole holds before after file result
+  -- of whatever file it held
+  abbrev pub RefreshesHeld : Result (Unit {0}) JournalFault → D → D → Type 0
+  RefreshesHeld result before after = (file : List ℕ) → holds before file → RefreshesFile before after file result
 
 -- so many bytes had the whole file at some moment of a call
 abbrev pub MeasuresWhole : {D : Type 0} → (D → List ℕ → Type 0) → Result ℕ JournalFault → D → D → Type 0

@@ -4,6 +4,7 @@ use Rattle.tb_journal.specs.declared.devices.Device as devices
 use Rattle.tb_journal.specs.Contents.{magic, latch_closed}
 use Rattle.tb_journal.specs.Real.{untold}
 use Rattle.tb_keep_commands.specs.declared.mending.Mended.{Mended}
+use Rattle.tb_keep_commands.specs.Ends.{KnownReading, known_reading}
 
 -- bytes over the first ones of others, as far as these go
 abbrev pub overlaid : List ℕ → List ℕ → List ℕ
@@ -27,6 +28,10 @@ mended_device its = record {
   holds = λ it. IsMended (its.holds it.device);
   aside = λ at bytes. Unit {0};
 }
+
+-- all that is in such a file is what its reads are of
+abbrev pub mended_reading : {D : Type 0} → devices.Ghosts D → KnownReading (Mended D)
+mended_reading its = known_reading (mended_device its) (mended_device its).holds
 
 -- rows
 

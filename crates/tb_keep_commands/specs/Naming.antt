@@ -1,5 +1,5 @@
 -- What is said of a file that is refused: what it is, by its first bytes, which entry is damaged, and the rules that it was made with.
-use Rattle.std.specs.Prelude.{ℕ, ◌≡◌, ◌⊎◌, ◌==◌, if◌then◌else◌, List, length, Option, Some, None, Result, Ok, Err}
+use Rattle.std.specs.Prelude.{ℕ, Bool, true, false, ◌≡◌, ◌⊎◌, ◌==◌, if◌then◌else◌, List, length, Option, Some, None, Result, Ok, Err}
 use Rattle.tb_journal.specs.declared.devices.Device as devices
 use Rattle.tb_journal.specs.declared.faults.JournalFault.{JournalFault}
 use Rattle.tb_journal.specs.declared.opening.OpenFault.{OpenFault}
@@ -11,16 +11,18 @@ use Rattle.tb_journal.specs.Scans.{BeginsWith}
 use Rattle.tb_keep.specs.declared.faults.StartFault.{StartFault}
 use Rattle.tb_keep.specs.declared.faults.StartFault.TheVariants as start
 use Rattle.tb_keep.specs.declared.recovering.Rules.{Rules}
-use Rattle.tb_keep.specs.Creating.{IsUntouched}
+use Rattle.tb_keep.specs.Creating.{IsDiskUntouched}
 use Rattle.tb_keep.specs.Reading.{RulesAnswer}
 use Rattle.tb_keep.specs.Recovering.{HasStartCause}
+use Rattle.tb_keep_commands.specs.declared.faults.Damage.{Damage}
 use Rattle.tb_keep_commands.specs.declared.faults.KeepCommandFault.{KeepCommandFault}
 use Rattle.tb_keep_commands.specs.declared.faults.Damage.TheVariants.{Block}
-use Rattle.tb_keep_commands.specs.declared.faults.KeepCommandFault.TheVariants.{NotAJournal, Damaged, OtherRules}
+use Rattle.tb_keep_commands.specs.declared.faults.KeepCommandFault.TheVariants.{NotAJournal, NoHead, Damaged, OtherRules}
 use Rattle.tb_keep_commands.specs.declared.faults.Mismatch.{Mismatch}
 use Rattle.tb_keep_commands.specs.declared.kinds.Kind.{Kind}
+use Rattle.tb_keep_commands.specs.declared.kinds.Kind.TheVariants.{NoRecord, Begun, Log}
 use Rattle.tb_keep_commands.specs.Kinds.{kind_by}
-use Rattle.tb_keep_commands.specs.ExitStatuses.{numbers_of, started_fault}
+use Rattle.tb_keep_commands.specs.ExitStatuses.{is_of_head, numbers_of, started_fault}
 
 -- rules that were read next to those that were asked for
 abbrev pub mismatch : Result Rules StartFault → Rules → Option Mismatch
@@ -39,6 +41,18 @@ abbrev pub entry_by : ℕ → Result Extent OpenFault → Option ℕ
 entry_by at (Ok extent) = if extent.end == at then Some extent.count else None
 entry_by at (Err fault) = None
 
+-- of a journal whose first record is no ledger's head, or that has none: what it is instead
+abbrev pub headless_fault : Kind → KeepCommandFault
+headless_fault NoRecord = NotAJournal NoRecord
+headless_fault Log = NotAJournal Log
+headless_fault kind = NoHead
+
+-- of a journal whose first block is not what was written: it has none yet, or is a log
+abbrev pub first_block_fault : Damage → Kind → KeepCommandFault
+first_block_fault damage Begun = NotAJournal Begun
+first_block_fault damage Log = NotAJournal Log
+first_block_fault damage kind = Damaged damage
+
 module _ {D : Type 0} (its : devices.Ghosts D) where
   -- the first bytes of the file of a device were read, or it failed
   pub record IsOfKind (kind : Kind) (device after : D) : Type 0 where
@@ -51,13 +65,28 @@ module _ {D : Type 0} (its : devices.Ghosts D) where
     pub read : Result Extent OpenFault
     pub entry_is : entry ≡ entry_by at read
     pub of_file : (file : List ℕ) → its.holds device file → IsReadable read file
-    pub untouched : its.tells → IsUntouched (its.disk device) (its.disk after)
+    pub untouched : its.tells → IsDiskUntouched (its.disk device) (its.disk after)
     pub cause : its.tells → HasOpenCause read (its.disk device) (its.disk after)
 
-  -- of a file that is no journal it is said what it is, and of a block that is not what was written, of which entry it is
+  -- the first bytes of a journal without a ledger's head were read
+  abbrev pub NamesHeadless : KeepCommandFault → D → D → Type 0
+  NamesHeadless fault device after = (kind : Kind) × (fault ≡ headless_fault kind) × IsOfKind kind device after
+
+  -- the same of one whose first block is damaged
+  abbrev pub NamesFirst : Bool → Damage → KeepCommandFault → D → D → Type 0
+  NamesFirst true damage fault device after = (kind : Kind) × (fault ≡ first_block_fault damage kind) × IsOfKind kind device after
+  NamesFirst false damage fault device after = (fault ≡ Damaged damage) × (after ≡ device)
+
+  -- the records before a block that is not what was written were counted, and if there is none the first bytes were read
+  abbrev pub NamesBlock : ℕ → KeepCommandFault → D → D → Type 0
+  NamesBlock at fault device after =
+      (entry : Option ℕ) × (counted : D) × IsEntryAt at entry device counted × NamesFirst (is_of_head (Block at entry)) (Block at entry) fault counted after
+
+  -- of a file that is no journal, or has no head, it is said what it is, and of a block that is not what was written, of which entry it is
   abbrev pub Names : KeepCommandFault → KeepCommandFault → D → D → Type 0
   Names (NotAJournal kind) fault device after = (found : Kind) × (fault ≡ NotAJournal found) × IsOfKind found device after
-  Names (Damaged (Block at uncounted)) fault device after = (entry : Option ℕ) × (fault ≡ Damaged (Block at entry)) × IsEntryAt at entry device after
+  Names NoHead fault device after = NamesHeadless fault device after
+  Names (Damaged (Block at uncounted)) fault device after = NamesBlock at fault device after
   Names named fault device after = (fault ≡ named) × (after ≡ device)
 
   -- the rules of the file were read

@@ -5,7 +5,7 @@ use Rattle.tb_records.specs.declared.limits.Profile.TheVariants.{One}
 use Rattle.tb_records.specs.DumpBytes.{profile_number}
 use Rattle.tb_journal.specs.Contents.{recorded, records_end}
 use Rattle.tb_keep.specs.declared.faults.StartFault.{StartFault}
-use Rattle.tb_keep.specs.Keeping.{History, state_of, IsLedger}
+use Rattle.tb_keep.specs.Keeping.{History, history_state, IsLedger}
 use Rattle.tb_keep.specs.Quick.{IsInOrder, IsNotInOrder}
 use Rattle.tb_keep.specs.Reading.{IsNoHistory, rules_of}
 use Rattle.tb_keep_commands.specs.declared.summaries.Found.{Found}
@@ -20,7 +20,7 @@ pub record IsFound (found : Found) (file : List ℕ) : Type 0 where
   pub clients : found.rules.clients_max ≡ history.clients_max
   pub records : found.records ≡ length (recorded file)
   pub entries : found.entries ≡ length history.entries
-  pub time : found.time ≡ (state_of history).books.time
+  pub time : found.time ≡ (history_state history).books.time
   pub end : found.end ≡ records_end (recorded file)
 
 -- the file was read to its end as one history, or there is none

@@ -1,7 +1,7 @@
 //! What the words of the command line ask for.
 ghost use Rattle.std.specs.Prelude.{◌≡◌, map, string_bytes};
 ghost use Rattle.tb_cli.specs.Words.{given_word};
-ghost use Rattle.tb_keep_commands.specs.Forms.{IsRead, Reads, asked_in, form_by, form_or_fault, options_in, options_of};
+ghost use Rattle.tb_keep_commands.specs.Forms.{IsRead, ReadsForm, asked_in, form_by, form_or_fault, options_in, given_options};
 
 use tb_cli::{Asked, Fault, FormName, Given, Wrong, given_word, read};
 use tb_records::{ClientsMax, Profile};
@@ -72,7 +72,7 @@ const NO_FORM: Wrong = Wrong {
 
 /// The options among what is given.
 fn options_of(given: Given) -> Options
-    ensures { result ≡ options_of given }
+    ensures { result ≡ given_options given }
 {
     Options {
         reports: given.progress,
@@ -120,7 +120,7 @@ fn form_by(form: FormName, given: Given) -> Option<Form>
 
 /// A form with what is given for it.
 fn command_by(words: &[String], form: FormName, given: Given) -> Result<Command<'_>, Wrong>
-    ensures { Reads result (form_or_fault (form_by form given)) (given_word (map string_bytes words.now) given.file)
+    ensures { ReadsForm result (form_or_fault (form_by form given)) (given_word (map string_bytes words.now) given.file)
         (given_word (map string_bytes words.now) given.new) }
 {
     let file = given_word(words, given.file);

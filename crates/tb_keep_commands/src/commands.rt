@@ -2,7 +2,7 @@
 ghost use Rattle.std.specs.Prelude.{◌≡◌, true, IfOk};
 ghost use Rattle.tb_keep_commands.specs.Ends.{made_by};
 ghost use Rattle.tb_keep_commands.specs.private.Stages.{DumpsAsked, RunsOpened};
-ghost use Rattle.tb_keep_commands.specs.Outcomes.{ChecksOver, DumpsOver, Prints, RunsOn, named_by};
+ghost use Rattle.tb_keep_commands.specs.Outcomes.{ChecksOver, DumpsOver, PrintsWhole, RunsOn, named_by};
 
 use crate::asides::Reason;
 use crate::ends::{Ends, Files};
@@ -37,7 +37,7 @@ fn named_by(
     reason: Option<Reason>,
     served: Result<(), KeepCommandFault>,
 ) -> Result<(), KeepCommandFault>
-    ensures { result ≡ named_by reason served }
+    ensures { result ≡ named_by (λ fault. fault) reason served }
 {
     match (reason, served) {
         (Some(reason), Err(_)) => Err(reason_fault(reason)),
@@ -55,7 +55,7 @@ fn run_opened<O: Opener, R: Source, W: Outlet, E: Sink>(
     writer: &mut W,
     faults: &mut E,
 ) -> Result<(), KeepCommandFault>
-    ensures { RunsOpened ⟦<O as Ends<R, W, E>>⟧.its rules file.now opener result reader writer faults }
+    ensures { RunsOpened ⟦<O as Ends<R, W, E>>⟧.its rules file.now result opener reader writer faults }
 {
     match made_by(opener, file.path, file.existing) {
         Ok(device) => run(alloc, device, rules, file, reader, writer, faults),
@@ -74,8 +74,7 @@ pub fn run_over<O: Opener, R: Source, W: Outlet, E: Sink>(
     writer: &mut W,
     faults: &mut E,
 ) -> Result<(), KeepCommandFault>
-    ensures { RunsOn ⟦<O as Ends<R, W, E>>⟧.its rules file.now talks opener.old opener.new result
-        reader.old reader.new writer.old writer.new faults.old faults.new }
+    ensures { RunsOn ⟦<O as Ends<R, W, E>>⟧.its rules file.now talks result opener reader writer faults }
 {
     print_frames(talks, faults);
     let served = run_opened(alloc, opener, rules, file, reader, writer, faults);
@@ -147,7 +146,7 @@ pub fn check_over<O: Opener, W: Sink>(
 
 /// Writes a text.
 pub fn print<W: Sink>(writer: &mut W, text: &str) -> Result<(), KeepCommandFault>
-    ensures { Prints text.now result (W.output writer.old) (W.output writer.new) }
+    ensures { PrintsWhole text.now result (W.output writer.old) (W.output writer.new) }
 {
     match put_all(writer, text.as_bytes()) {
         Ok(()) => Ok(()),

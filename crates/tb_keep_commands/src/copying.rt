@@ -1,9 +1,9 @@
 //! A file copied into a new one: what can be read of it, or where it is whole.
 ghost use Rattle.std.specs.Prelude.{◌≡◌, true};
-ghost use Rattle.tb_keep_commands.specs.Copies.{copied_of, is_mended, mended_line, copied_text, rescued_text, refused_by, NamesCopy, Rescues, EndsBy, CopiesLong, CopiesFile, CopiesOver};
+ghost use Rattle.tb_keep_commands.specs.Copies.{copied_of, is_mended, mended_line, copied_text, rescued_text, refused_by, NamesCopy, Rescues, EndsOrReadsOn, CopiesLong, CopiesFile, CopiesOver};
 ghost use Rattle.tb_keep.specs.Keeping.{IsUsable, IsFresh};
-ghost use Rattle.tb_keep_commands.specs.Outcomes.{Prints, PrintsText};
-ghost use Rattle.tb_keep_commands.specs.private.Changes.{OnDevice};
+ghost use Rattle.tb_keep_commands.specs.Outcomes.{PrintsWhole, PrintsText};
+ghost use Rattle.tb_keep_commands.specs.Ends.{OnDevice, known_reading};
 ghost use Rattle.tb_keep_commands.specs.private.Stages.{CopiesHeadedOn, CopiesMendedOn, CopiesRefusedOn, EndsSalvage, MakesCopyOn, NotesMendedOn};
 
 use crate::copies::{Copied, damage_of};
@@ -154,7 +154,7 @@ fn end_by<D: Live, N: Device + Drop, W: Sink>(
 ) -> Result<(), KeepCommandFault>
     requires usable { IsUsable salvaged.keeper }
     requires fresh { N.tells → IsFresh N.disk salvaged.keeper }
-    ensures { OnDevice W.Sink (EndsBy D.Device D.whole N.Device whole len salvaged result) from writer }
+    ensures { OnDevice W.Sink (EndsOrReadsOn D.Device D.whole N.Device whole len salvaged result) from writer }
 {
     if whole {
         return end_copy(alloc, from, salvaged, len, true, writer);
@@ -210,7 +210,7 @@ fn copy_made<O: Opener, D: Live, W: Sink>(
     whole: bool,
     writer: &mut W,
 ) -> Result<(), KeepCommandFault>
-    ensures { MakesCopyOn ⟦<O as Files>⟧.its D.Device D.whole W.Sink new.now whole result opener from writer }
+    ensures { MakesCopyOn ⟦<O as Files>⟧.its (known_reading D.Device D.whole) W.Sink new.now whole result opener from writer }
 {
     let made = opener.make_new(new);
     match made {
@@ -234,7 +234,7 @@ const MENDED: &str = "damaged magic: the first 8 bytes are not a journal's\n";
 
 /// Writes that the first bytes of a file that was copied are not a journal's.
 pub fn print_mended<W: Sink>(writer: &mut W) -> Result<(), KeepCommandFault>
-    ensures { Prints mended_line result (W.output writer.old) (W.output writer.new) }
+    ensures { PrintsWhole mended_line result (W.output writer.old) (W.output writer.new) }
 {
     match put_all(writer, MENDED.as_bytes()) {
         Ok(()) => Ok(()),

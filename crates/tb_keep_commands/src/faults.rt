@@ -1,6 +1,6 @@
 //! Why a command ends with an exit status other than 0.
 ghost use Rattle.std.specs.Prelude.{◌≡◌, ◌<◌};
-ghost use Rattle.tb_keep_commands.specs.ExitStatuses.{is_of_head, fault_path, fault_exit_status, opening_exit_status, new_fault, numbers_of, opened_fault, read_fault, reason_fault, refused_fault, disk_fault, dumped_fault, started_fault, kept_fault, words_fault};
+ghost use Rattle.tb_keep_commands.specs.ExitStatuses.{is_of_head, fault_path, file_exit_status, opening_exit_status, new_fault, numbers_of, opened_fault, read_fault, reason_fault, refused_fault, disk_fault, dumped_fault, started_fault, kept_fault, words_fault};
 
 use crate::asides::{Reason, Uncopied};
 use crate::kinds::Kind;
@@ -265,7 +265,7 @@ impl KeepCommandFault {
     /// The exit status.
     pub fn exit_status(self) -> u8
         ensures failing { 0 < result }
-        ensures value { result ≡ fault_exit_status self }
+        ensures value { result ≡ file_exit_status self }
     {
         match self {
             KeepCommandFault::Opening(fault) | KeepCommandFault::Making(fault) =>

@@ -1,10 +1,10 @@
 //! Devices that are read without a write.
 ghost use Rattle.std.specs.Prelude.{◌≡◌, ℕ, List, Ok};
-ghost use Rattle.tb_keep.specs.Creating.{IsUntouched};
+ghost use Rattle.tb_keep.specs.Creating.{IsDiskUntouched};
 ghost use Rattle.tb_keep.specs.Recovering.{HasStartCause};
 ghost use Rattle.tb_keep_commands.specs.Summaries.{ReadsQuick, ReadsWhole, summary_text};
 ghost use Rattle.tb_keep_commands.specs.Outcomes.{DumpsFound, DumpsFile, IsReadBy, ChecksLong, ChecksFile, PrintsText};
-ghost use Rattle.tb_keep_commands.specs.private.Changes.{OnDevice};
+ghost use Rattle.tb_keep_commands.specs.Ends.{OnDevice};
 
 use crate::faults::{Failed, KeepCommandFault, disk_fault, dumped_fault};
 use crate::live::Live;
@@ -21,7 +21,7 @@ use tb_records::{Sink, put_all};
 pub(crate) fn read_whole<D: Device>(alloc: Global, device: &mut D) -> Result<Found, StartFault>
     ensures found { (file : List ℕ) → D.holds device.old file → ReadsWhole result file }
     ensures same { (file : List ℕ) → D.holds device.old file → D.holds device.new file }
-    ensures untouched { D.tells → IsUntouched (D.disk device.old) (D.disk device.new) }
+    ensures untouched { D.tells → IsDiskUntouched (D.disk device.old) (D.disk device.new) }
     ensures cause { D.tells → HasStartCause result (D.disk device.old) (D.disk device.new) }
 {
     match read_history(alloc, device) {
@@ -44,7 +44,7 @@ pub(crate) fn read_whole<D: Device>(alloc: Global, device: &mut D) -> Result<Fou
 fn read_quickly<D: Device>(alloc: Global, device: &mut D) -> Result<Found, StartFault>
     ensures found { (file : List ℕ) → D.holds device.old file → ReadsQuick result file }
     ensures same { (file : List ℕ) → D.holds device.old file → D.holds device.new file }
-    ensures untouched { D.tells → IsUntouched (D.disk device.old) (D.disk device.new) }
+    ensures untouched { D.tells → IsDiskUntouched (D.disk device.old) (D.disk device.new) }
     ensures cause { D.tells → HasStartCause result (D.disk device.old) (D.disk device.new) }
 {
     match read_quick(alloc, device) {

@@ -1,7 +1,7 @@
 //! The entries of a file above a commit number, written as the file grows.
 ghost use Rattle.std.specs.Prelude.{◌≡◌, true, ℕ, List, IfOk, OnOk};
 ghost use Rattle.tb_keep_commands.specs.Following.{floor_of, start_of};
-ghost use Rattle.tb_keep_commands.specs.Outcomes.{Prints};
+ghost use Rattle.tb_keep_commands.specs.Outcomes.{PrintsWhole};
 ghost use Rattle.tb_keep_commands.specs.private.Stages.{FollowsAsked, HasHeldCause, HasRestCause, HasRoundCause, HasWholeCause, LooksOnOk, SendsMore, SendsOn, SendsRest, SendsUnread, WritesHeld, WritesUnread};
 
 use crate::faults::{Failed, KeepCommandFault, disk_fault, dumped_fault, opened_fault};
@@ -123,7 +123,7 @@ fn send_start<W: Sink>(
     rules: Rules,
     after: Option<u64>,
 ) -> Result<(), KeepCommandFault>
-    ensures { Prints (start_of after rules) result (W.output writer.old) (W.output writer.new) }
+    ensures { PrintsWhole (start_of after rules) result (W.output writer.old) (W.output writer.new) }
 {
     if after.is_some() {
         return Ok(());

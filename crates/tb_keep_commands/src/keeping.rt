@@ -1,11 +1,12 @@
 //! The serving of a ledger over a device.
 ghost use Rattle.std.specs.Prelude.{◌≡◌, true, IfOk};
 ghost use Rattle.tb_keep.specs.Keeping.{IsFresh, IsUsable};
-ghost use Rattle.tb_keep_commands.specs.Ends.{On};
+ghost use Rattle.tb_keep_commands.specs.Streams.{OnStreams};
+ghost use Rattle.tb_keep_commands.specs.Ends.{outcome_by};
 ghost use Rattle.tb_keep_commands.specs.Naming.{NamesAsked, Left};
-ghost use Rattle.tb_keep_commands.specs.Outcomes.{kept_outcome, StartsBy, HandsBy, IsAside};
+ghost use Rattle.tb_keep_commands.specs.Outcomes.{StartsBy, HandsBy, IsAside};
 ghost use Rattle.tb_keep_commands.specs.private.Stages.{KeepsOver, RunsFile, StartsOver};
-ghost use Rattle.tb_keep_commands.specs.ExitStatuses.{failed_pipe};
+ghost use Rattle.tb_keep_commands.specs.ExitStatuses.{failed_pipe, kept_fault};
 
 use crate::faults::{Failed, KeepCommandFault, disk_fault, kept_fault};
 use crate::lines::{print_cut, print_made, print_reading, print_ready};
@@ -48,7 +49,7 @@ pub fn failed_pipe(before: u64, now: u64) -> Failed
 
 /// What is reported of serving that ended so.
 fn kept_outcome(kept: Result<u64, KeepFault>, pipe: Failed) -> Result<(), KeepCommandFault>
-    ensures { result ≡ kept_outcome pipe kept }
+    ensures { result ≡ outcome_by (kept_fault pipe) kept }
 {
     match kept {
         Ok(_) => Ok(()),
@@ -69,8 +70,7 @@ fn serve<D: Device + Drop, A: Allocator + Clone, R: Source, W: Sink, E: Sink>(
 ) -> Result<(), KeepCommandFault>
     requires usable { IsUsable keeper }
     requires fresh { D.tells → IsFresh D.disk keeper }
-    ensures { On R.Source W.Sink E.Sink (KeepsOver D.Device result keeper file.now len)
-        reader.old reader.new writer.old writer.new faults.old faults.new }
+    ensures { OnStreams R.Source W.Sink E.Sink (KeepsOver D.Device result keeper file.now len) reader writer faults }
 {
     let mut keeper = keeper;
     let cut = keeper.cut_bytes();
@@ -119,8 +119,7 @@ fn start<D: Device + Drop, A: Allocator + Copy, R: Source, W: Sink, E: Sink>(
     faults: &mut E,
 ) -> Result<(), KeepCommandFault>
     requires { D.tells → (D.disk device).sound ≡ true }
-    ensures { On R.Source W.Sink E.Sink (StartsOver D.Device result rules file.now len device)
-        reader.old reader.new writer.old writer.new faults.old faults.new }
+    ensures { OnStreams R.Source W.Sink E.Sink (StartsOver D.Device result rules file.now len device) reader writer faults }
 {
     print_reading(file.reports, file.path, len, faults);
     let asked = rules;
@@ -141,8 +140,7 @@ pub(crate) fn run<D: Device + Drop, R: Source, W: Sink, E: Sink>(
     faults: &mut E,
 ) -> Result<(), KeepCommandFault>
     requires { D.tells → (D.disk device).sound ≡ true }
-    ensures { On R.Source W.Sink E.Sink (RunsFile D.Device result rules file.now device)
-        reader.old reader.new writer.old writer.new faults.old faults.new }
+    ensures { OnStreams R.Source W.Sink E.Sink (RunsFile D.Device result rules file.now device) reader writer faults }
 {
     let mut device = device;
     match device.len() {

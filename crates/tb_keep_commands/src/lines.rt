@@ -1,9 +1,9 @@
 //! The lines of standard error.
 ghost use Rattle.std.specs.Prelude.{◌≡◌, ◌++◌, Some, [], codes, map, string_bytes, take};
-ghost use Rattle.tb_keep_commands.specs.ExitStatuses.{fault_exit_status, damage_line, harm_text, unread_text, next_of, damaged_text, opening_text, wrong_text, failed_text, kind_text, numbers_text, both_text, mismatch_text, fault_text, fault_line, reading_line, shown_words, said_text, wrong_line, usage_lines, counted, line_of, named, numbered, place_line, read_line, rules_text, said_with, Passes, Says, PrintsMade, PrintsCut, PrintsReading, PrintsReady, PrintsFrames};
+ghost use Rattle.tb_keep_commands.specs.ExitStatuses.{file_exit_status, damage_line, harm_text, unread_text, next_of, damaged_text, opening_text, making_text, wrong_text, failed_text, kind_text, numbers_text, both_text, mismatch_text, fault_text, file_fault_line, reading_line, shown_words, said_text, wrong_line, usage_lines, counted_text, line_of, named, numbered, place_line, read_line, rules_text, said_with, PassesOn, Says, PrintsMade, PrintsCut, PrintsReading, PrintsReady, PrintsFrames};
 ghost use Rattle.tb_keep_commands.specs.Asides.{uncopied_text};
 ghost use Rattle.tb_keep_commands.specs.Printable.{printable};
-ghost use Rattle.tb_keep_commands.specs.private.Changes.{Puts};
+ghost use Rattle.tb_keep_commands.specs.private.Changes.{PutsText};
 
 use crate::asides::{Uncopied, uncopied_text};
 use crate::faults::{Damage, Failed, KeepCommandFault, Mismatch, Numbers};
@@ -17,7 +17,7 @@ use tb_records::{FrameFault, Sink, put_all};
 
 /// Writes two texts, one behind the other.
 fn put_both<E: Sink>(faults: &mut E, first: &str, second: &str) -> Result<(), FrameFault>
-    ensures { Puts E.Sink result (first.now ++ second.now) faults }
+    ensures { PutsText E.Sink result (first.now ++ second.now) faults }
 {
     match put_all(faults, first.as_bytes()) {
         Ok(()) => put_all(faults, second.as_bytes()),
@@ -27,7 +27,7 @@ fn put_both<E: Sink>(faults: &mut E, first: &str, second: &str) -> Result<(), Fr
 
 /// Writes a text, and a path or a word behind it.
 fn put_shown<E: Sink>(faults: &mut E, first: &str, path: &str) -> Result<(), FrameFault>
-    ensures { Puts E.Sink result (first.now ++ printable path.now) faults }
+    ensures { PutsText E.Sink result (first.now ++ printable path.now) faults }
 {
     match put_all(faults, first.as_bytes()) {
         Ok(()) => put_printable(faults, path),
@@ -37,7 +37,7 @@ fn put_shown<E: Sink>(faults: &mut E, first: &str, path: &str) -> Result<(), Fra
 
 /// Writes a path and a text behind it.
 fn put_shown_before<E: Sink>(faults: &mut E, path: &str, last: &str) -> Result<(), FrameFault>
-    ensures { Puts E.Sink result (printable path.now ++ last.now) faults }
+    ensures { PutsText E.Sink result (printable path.now ++ last.now) faults }
 {
     match put_printable(faults, path) {
         Ok(()) => put_all(faults, last.as_bytes()),
@@ -47,7 +47,7 @@ fn put_shown_before<E: Sink>(faults: &mut E, path: &str, last: &str) -> Result<(
 
 /// Writes a text, the path of a file and a text behind it.
 fn put_named<E: Sink>(faults: &mut E, first: &str, path: &str, last: &str) -> Result<(), FrameFault>
-    ensures { Puts E.Sink result (named first.now path.now last.now) faults }
+    ensures { PutsText E.Sink result (named first.now path.now last.now) faults }
 {
     match put_all(faults, first.as_bytes()) {
         Ok(()) => put_shown_before(faults, path, last),
@@ -57,7 +57,7 @@ fn put_named<E: Sink>(faults: &mut E, first: &str, path: &str, last: &str) -> Re
 
 /// Writes a text and a number behind it.
 fn put_number<E: Sink>(faults: &mut E, first: &str, number: u64) -> Result<(), FrameFault>
-    ensures { Puts E.Sink result (numbered first.now number) faults }
+    ensures { PutsText E.Sink result (numbered first.now number) faults }
 {
     let mut buffer = Buffer::new();
     put_both(faults, first, buffer.format(number))
@@ -71,7 +71,7 @@ fn put_place<E: Sink>(
     second: &str,
     what: &str,
 ) -> Result<(), FrameFault>
-    ensures { Puts E.Sink result (numbered first.now place ++ (second.now ++ what.now)) faults }
+    ensures { PutsText E.Sink result (numbered first.now place ++ (second.now ++ what.now)) faults }
 {
     match put_number(faults, first, place) {
         Ok(()) => put_both(faults, second, what),
@@ -81,7 +81,7 @@ fn put_place<E: Sink>(
 
 /// Writes a number and a text behind it.
 fn put_counted<E: Sink>(faults: &mut E, number: u64, last: &str) -> Result<(), FrameFault>
-    ensures { Puts E.Sink result (counted number last.now) faults }
+    ensures { PutsText E.Sink result (counted_text number last.now) faults }
 {
     let mut buffer = Buffer::new();
     put_both(faults, buffer.format(number), last)
@@ -95,7 +95,7 @@ fn put_torn<E: Sink>(
     at: u64,
     last: &str,
 ) -> Result<(), FrameFault>
-    ensures { Puts E.Sink result (counted bytes first.now ++ counted at last.now) faults }
+    ensures { PutsText E.Sink result (counted_text bytes first.now ++ counted_text at last.now) faults }
 {
     match put_counted(faults, bytes, first) {
         Ok(()) => put_counted(faults, at, last),
@@ -110,7 +110,7 @@ fn put_between<E: Sink>(
     number: u64,
     last: &str,
 ) -> Result<(), FrameFault>
-    ensures { Puts E.Sink result (first.now ++ counted number last.now) faults }
+    ensures { PutsText E.Sink result (first.now ++ counted_text number last.now) faults }
 {
     match put_all(faults, first.as_bytes()) {
         Ok(()) => put_counted(faults, number, last),
@@ -120,7 +120,7 @@ fn put_between<E: Sink>(
 
 /// Writes of which entry a block is that is not what was written, behind its place.
 fn put_unread<E: Sink>(faults: &mut E, entry: Option<u64>) -> Result<(), FrameFault>
-    ensures { Puts E.Sink result (unread_text entry) faults }
+    ensures { PutsText E.Sink result (unread_text entry) faults }
 {
     match entry {
         None => put_all(faults, b" is not what was written"),
@@ -135,7 +135,7 @@ fn put_unread<E: Sink>(faults: &mut E, entry: Option<u64>) -> Result<(), FrameFa
 
 /// Writes that the block at this offset, of this entry, is not what was written.
 fn put_block<E: Sink>(faults: &mut E, at: u64, entry: Option<u64>) -> Result<(), FrameFault>
-    ensures { Puts E.Sink result (numbered (codes "the block at byte ") at ++ unread_text entry) faults }
+    ensures { PutsText E.Sink result (numbered (codes "the block at byte ") at ++ unread_text entry) faults }
 {
     match put_number(faults, "the block at byte ", at) {
         Ok(()) => put_unread(faults, entry),
@@ -145,7 +145,7 @@ fn put_block<E: Sink>(faults: &mut E, at: u64, entry: Option<u64>) -> Result<(),
 
 /// Writes what is damaged.
 fn put_harm<E: Sink>(faults: &mut E, damage: Damage) -> Result<(), FrameFault>
-    ensures { Puts E.Sink result (harm_text damage) faults }
+    ensures { PutsText E.Sink result (harm_text damage) faults }
 {
     match damage {
         Damage::Block { at, entry } => put_block(faults, at as u64, entry),
@@ -179,7 +179,18 @@ const DISK: &str = ": a read or write failed; look at the disk, and start again"
 const MISSING: &str = "; look at its name and at its folder";
 
 /// The same where it may not be opened.
-const FORBIDDEN: &str = "; change its mode, or run tbd as a user that may";
+const FORBIDDEN: &str = "; change its mode or its folder's, or run tbd as a user that may";
+
+/// The same where its disk is read-only.
+const READ_ONLY: &str =
+    " is on a disk that is read-only; mount it for writing, or name a file on another disk";
+
+/// The same where no more files may be opened.
+const TOO_MANY: &str = ": too many files are open; raise their number by ulimit -n";
+
+/// The same of one that has no bytes.
+const EMPTY: &str =
+    " is empty; without --existing tbd run makes a ledger in it, and tbd follow a log";
 
 /// The same of a new file that is there.
 const EXISTS: &str = " exists; give the name of one that is not there";
@@ -195,7 +206,7 @@ const UNOPENED: &str = "; look at its disk and at its folder";
 
 /// Writes why a file of this path was not opened.
 fn put_opening<E: Sink>(faults: &mut E, fault: OpeningFault, path: &str) -> Result<(), FrameFault>
-    ensures { Puts E.Sink result (opening_text fault path.now) faults }
+    ensures { PutsText E.Sink result (opening_text fault path.now) faults }
 {
     match fault {
         OpeningFault::Locked => put_named(
@@ -208,6 +219,8 @@ fn put_opening<E: Sink>(faults: &mut E, fault: OpeningFault, path: &str) -> Resu
         OpeningFault::Forbidden => {
             put_named(faults, "Device: no permission to open ", path, FORBIDDEN)
         }
+        OpeningFault::ReadOnly => put_named(faults, "Device: ", path, READ_ONLY),
+        OpeningFault::TooMany => put_named(faults, "Device: cannot open ", path, TOO_MANY),
         OpeningFault::NoMemory => put_all(faults, b"NoMemory"),
         OpeningFault::SyncFailed => put_named(faults, "SyncFailed: ", path, SYNC),
         OpeningFault::Exists => put_named(faults, "Usage: ", path, EXISTS),
@@ -216,18 +229,35 @@ fn put_opening<E: Sink>(faults: &mut E, fault: OpeningFault, path: &str) -> Resu
         OpeningFault::Unopened => put_named(faults, "Device: cannot open ", path, UNOPENED),
         OpeningFault::Unread => put_named(faults, "Device: ", path, DISK),
         OpeningFault::Full => put_named(faults, "Full: ", path, FULL),
-        OpeningFault::Empty => put_named(
-            faults,
-            "NotAJournal: ",
-            path,
-            " is empty; tbd run without --existing makes a ledger in it",
-        ),
+        OpeningFault::Empty => put_named(faults, "NotAJournal: ", path, EMPTY),
+    }
+}
+
+/// What is to be done where a sync of a new file failed.
+const NEW_SYNC: &str = ": it may be lost; remove it, look at the disk, and start again";
+
+/// The same where a read or a write of it failed.
+const NEW_DISK: &str = ": a read or write failed; remove it, look at the disk, and start again";
+
+/// The same where there is no space for it.
+const NEW_FULL: &str =
+    ": the disk is full, or the file has its greatest length; remove it, free space, and start again";
+
+/// Writes why a new file of this path was not made, or not to its end.
+fn put_making<E: Sink>(faults: &mut E, fault: OpeningFault, path: &str) -> Result<(), FrameFault>
+    ensures { PutsText E.Sink result (making_text fault path.now) faults }
+{
+    match fault {
+        OpeningFault::SyncFailed => put_named(faults, "SyncFailed: ", path, NEW_SYNC),
+        OpeningFault::Unread => put_named(faults, "Device: ", path, NEW_DISK),
+        OpeningFault::Full => put_named(faults, "Full: ", path, NEW_FULL),
+        fault => put_opening(faults, fault, path),
     }
 }
 
 /// Writes what is damaged and a text behind it.
 fn put_harmed<E: Sink>(faults: &mut E, damage: Damage, last: &str) -> Result<(), FrameFault>
-    ensures { Puts E.Sink result (harm_text damage ++ last.now) faults }
+    ensures { PutsText E.Sink result (harm_text damage ++ last.now) faults }
 {
     match put_harm(faults, damage) {
         Ok(()) => put_all(faults, last.as_bytes()),
@@ -254,7 +284,7 @@ fn put_damaged<E: Sink>(
     path: &str,
     next: &str,
 ) -> Result<(), FrameFault>
-    ensures { Puts E.Sink result (damaged_text first.now damage path.now next.now) faults }
+    ensures { PutsText E.Sink result (damaged_text first.now damage path.now next.now) faults }
 {
     match put_named(faults, first, path, ": ") {
         Ok(()) => put_harmed(faults, damage, next),
@@ -264,19 +294,19 @@ fn put_damaged<E: Sink>(
 
 /// Writes what failed of a program over a file of this path.
 fn put_failed<E: Sink>(faults: &mut E, which: Failed, path: &str) -> Result<(), FrameFault>
-    ensures { Puts E.Sink result (failed_text which path.now) faults }
+    ensures { PutsText E.Sink result (failed_text which path.now) faults }
 {
     match which {
         Failed::Input => put_all(faults, b"Device: standard input"),
         Failed::Output => put_all(faults, b"Device: standard output"),
         Failed::File => put_named(faults, "Device: ", path, DISK),
-        Failed::New => put_named(faults, "Device: ", path, DISK),
+        Failed::New => put_named(faults, "Device: ", path, NEW_DISK),
     }
 }
 
 /// Writes that a file of this path is no ledger, and of what kind it is.
 fn put_kind<E: Sink>(faults: &mut E, kind: Kind, path: &str) -> Result<(), FrameFault>
-    ensures { Puts E.Sink result (kind_text kind path.now) faults }
+    ensures { PutsText E.Sink result (kind_text kind path.now) faults }
 {
     match kind {
         Kind::Unread => put_all(faults, b"NotAJournal"),
@@ -297,6 +327,30 @@ fn put_kind<E: Sink>(faults: &mut E, kind: Kind, path: &str) -> Result<(), Frame
             "NotAJournal: ",
             path,
             " is a dump; tbs replay and telovamish dump read it",
+        ),
+        Kind::NoRecord => put_named(
+            faults,
+            "NotAJournal: ",
+            path,
+            " has no record yet; tbd run makes a ledger in it, and tbd follow a log",
+        ),
+        Kind::Begun => put_named(
+            faults,
+            "NotAJournal: ",
+            path,
+            " ends before its first record; restore a backup if it had one, or start without --existing",
+        ),
+        Kind::Ledger => put_named(
+            faults,
+            "NotAJournal: ",
+            path,
+            " is a ledger; tbd run serves it",
+        ),
+        Kind::Log => put_named(
+            faults,
+            "NotAJournal: ",
+            path,
+            " is a log; tbd follow serves it",
         ),
         Kind::Script => put_named(
             faults,
@@ -327,7 +381,7 @@ fn put_two<E: Sink>(
     second: &str,
     two: u64,
 ) -> Result<(), FrameFault>
-    ensures { Puts E.Sink result (numbered first.now one ++ numbered second.now two) faults }
+    ensures { PutsText E.Sink result (numbered first.now one ++ numbered second.now two) faults }
 {
     match put_number(faults, first, one) {
         Ok(()) => put_number(faults, second, two),
@@ -338,7 +392,7 @@ fn put_two<E: Sink>(
 /// Writes rules in words.
 #[tactic(auto, unfolding(crate::specs::ExitStatuses::numbers_text))]
 fn put_numbers<E: Sink>(faults: &mut E, numbers: Numbers) -> Result<(), FrameFault>
-    ensures { Puts E.Sink result (numbers_text numbers) faults }
+    ensures { PutsText E.Sink result (numbers_text numbers) faults }
 {
     put_two(
         faults,
@@ -351,7 +405,7 @@ fn put_numbers<E: Sink>(faults: &mut E, numbers: Numbers) -> Result<(), FrameFau
 
 /// Writes a text and rules in words behind it.
 fn put_asked<E: Sink>(faults: &mut E, first: &str, asked: Numbers) -> Result<(), FrameFault>
-    ensures { Puts E.Sink result (first.now ++ numbers_text asked) faults }
+    ensures { PutsText E.Sink result (first.now ++ numbers_text asked) faults }
 {
     match put_all(faults, first.as_bytes()) {
         Ok(()) => put_numbers(faults, asked),
@@ -365,7 +419,7 @@ fn put_both_numbers<E: Sink>(
     both: Mismatch,
     between: &str,
 ) -> Result<(), FrameFault>
-    ensures { Puts E.Sink result (both_text both between.now) faults }
+    ensures { PutsText E.Sink result (both_text both between.now) faults }
 {
     match put_numbers(faults, both.made) {
         Ok(()) => put_asked(faults, between, both.asked),
@@ -382,7 +436,7 @@ fn put_rules<E: Sink>(
     both: Mismatch,
     between: &str,
 ) -> Result<(), FrameFault>
-    ensures { Puts E.Sink result (rules_text first.now path.now last.now both between.now) faults }
+    ensures { PutsText E.Sink result (rules_text first.now path.now last.now both between.now) faults }
 {
     match put_named(faults, first, path, last) {
         Ok(()) => put_both_numbers(faults, both, between),
@@ -396,7 +450,7 @@ fn put_mismatch<E: Sink>(
     numbers: Option<Mismatch>,
     path: &str,
 ) -> Result<(), FrameFault>
-    ensures { Puts E.Sink result (mismatch_text numbers path.now) faults }
+    ensures { PutsText E.Sink result (mismatch_text numbers path.now) faults }
 {
     match numbers {
         Some(both) => put_rules(
@@ -417,7 +471,11 @@ fn put_mismatch<E: Sink>(
 }
 
 /// What is reported of a file whose records have no head, behind its path.
-const NO_HEAD: &str = " has no ledger's head; tbd follow serves a log";
+const NO_HEAD: &str = " has a first record that is no ledger's head; restore a backup";
+
+/// What is reported of a request, behind its fault's name.
+const REFUSED: &str =
+    ": the next request on standard input is refused; those before it were answered";
 
 /// What is to be done where no space is left.
 const FULL: &str =
@@ -429,23 +487,22 @@ const GONE: &str =
 
 /// Writes why the torn bytes of a file of this path were not copied.
 fn put_uncopied<E: Sink>(faults: &mut E, why: Uncopied, path: &str) -> Result<(), FrameFault>
-    ensures { Puts E.Sink result (named (codes "NotCopied: ") path.now (uncopied_text why)) faults }
+    ensures { PutsText E.Sink result (named (codes "NotCopied: ") path.now (uncopied_text why)) faults }
 {
     put_named(faults, "NotCopied: ", path, uncopied_text(why))
 }
 
 /// Writes a fault's name, and what there is to say of it, over a file of this path.
 fn put_fault<E: Sink>(faults: &mut E, fault: KeepCommandFault, path: &str) -> Result<(), FrameFault>
-    ensures { Puts E.Sink result (fault_text fault path.now) faults }
+    ensures { PutsText E.Sink result (fault_text fault path.now) faults }
 {
     match fault {
         KeepCommandFault::Usage => put_all(faults, b"Usage: a word is not UTF-8"),
         KeepCommandFault::Device(which) => put_failed(faults, which, path),
-        KeepCommandFault::Opening(fault) | KeepCommandFault::Making(fault) => put_opening(
-            faults, fault, path,
-        ),
+        KeepCommandFault::Opening(fault) => put_opening(faults, fault, path),
+        KeepCommandFault::Making(fault) => put_making(faults, fault, path),
         KeepCommandFault::NoMemory => put_all(faults, b"NoMemory"),
-        KeepCommandFault::Request(fault) => put_all(faults, fault.name().as_bytes()),
+        KeepCommandFault::Request(fault) => put_both(faults, fault.name(), REFUSED),
         KeepCommandFault::NotAJournal(kind) => put_kind(faults, kind, path),
         KeepCommandFault::NoHead => put_named(faults, "NotAJournal: ", path, NO_HEAD),
         KeepCommandFault::Damaged(damage) => {
@@ -461,7 +518,7 @@ fn put_fault<E: Sink>(faults: &mut E, fault: KeepCommandFault, path: &str) -> Re
 
 /// Passes on what was sent.
 fn pass<E: Sink>(sent: Result<(), FrameFault>, faults: &mut E)
-    ensures { Passes sent (E.output faults.old) (E.output faults.new) }
+    ensures { PassesOn sent (E.output faults.old) (E.output faults.new) }
 {
     if sent.is_ok() {
         faults.pass_on();
@@ -470,7 +527,7 @@ fn pass<E: Sink>(sent: Result<(), FrameFault>, faults: &mut E)
 
 /// Writes a fault and the end of its line.
 fn put_rest<E: Sink>(faults: &mut E, fault: KeepCommandFault, path: &str) -> Result<(), FrameFault>
-    ensures { Puts E.Sink result (line_of (fault_text fault path.now)) faults }
+    ensures { PutsText E.Sink result (line_of (fault_text fault path.now)) faults }
 {
     match put_fault(faults, fault, path) {
         Ok(()) => put_all(faults, b"\n"),
@@ -485,7 +542,7 @@ fn put_line<E: Sink>(
     fault: KeepCommandFault,
     path: &str,
 ) -> Result<(), FrameFault>
-    ensures { Puts E.Sink result (first.now ++ line_of (fault_text fault path.now)) faults }
+    ensures { PutsText E.Sink result (first.now ++ line_of (fault_text fault path.now)) faults }
 {
     match put_all(faults, first.as_bytes()) {
         Ok(()) => put_rest(faults, fault, path),
@@ -495,14 +552,14 @@ fn put_line<E: Sink>(
 
 /// Prints a fault over a file of this path, in one line. A failure to write it changes no exit status.
 pub fn print_fault<E: Sink>(fault: KeepCommandFault, path: &str, faults: &mut E)
-    ensures { Says E.Sink (fault_line fault path.now) faults.old faults.new }
+    ensures { Says E.Sink (file_fault_line fault path.now) faults.old faults.new }
 {
     pass(put_line(faults, "tbd: ", fault, path), faults);
 }
 
 /// Writes a number behind a text, and the end of the line.
 fn put_end<E: Sink>(faults: &mut E, first: &str, at: u64) -> Result<(), FrameFault>
-    ensures { Puts E.Sink result (line_of (numbered first.now at)) faults }
+    ensures { PutsText E.Sink result (line_of (numbered first.now at)) faults }
 {
     match put_number(faults, first, at) {
         Ok(()) => put_all(faults, b"\n"),
@@ -518,7 +575,7 @@ fn put_cut<E: Sink>(
     second: &str,
     at: u64,
 ) -> Result<(), FrameFault>
-    ensures { Puts E.Sink result (numbered first.now bytes ++ line_of (numbered second.now at)) faults }
+    ensures { PutsText E.Sink result (numbered first.now bytes ++ line_of (numbered second.now at)) faults }
 {
     match put_number(faults, first, bytes) {
         Ok(()) => put_end(faults, second, at),
@@ -528,7 +585,7 @@ fn put_cut<E: Sink>(
 
 /// Writes a text, a path and a text, and the end of the line.
 fn put_path<E: Sink>(faults: &mut E, first: &str, path: &str, last: &str) -> Result<(), FrameFault>
-    ensures { Puts E.Sink result (line_of (named first.now path.now last.now)) faults }
+    ensures { PutsText E.Sink result (line_of (named first.now path.now last.now)) faults }
 {
     match put_named(faults, first, path, last) {
         Ok(()) => put_all(faults, b"\n"),
@@ -543,7 +600,7 @@ fn put_fault_at<E: Sink>(
     place: u64,
     what: &str,
 ) -> Result<(), FrameFault>
-    ensures { Puts E.Sink result (place_line first.now place what.now) faults }
+    ensures { PutsText E.Sink result (place_line first.now place what.now) faults }
 {
     match put_place(faults, first, place, ": ", what) {
         Ok(()) => put_all(faults, b"\n"),
@@ -558,7 +615,7 @@ fn put_damage_line<E: Sink>(
     path: &str,
     next: &str,
 ) -> Result<(), FrameFault>
-    ensures { Puts E.Sink result (damage_line damage path.now next.now) faults }
+    ensures { PutsText E.Sink result (damage_line damage path.now next.now) faults }
 {
     match put_damaged(faults, "tbd: Damaged: ", damage, path, next) {
         Ok(()) => put_all(faults, b"\n"),
@@ -588,7 +645,7 @@ fn put_wrong_number<E: Sink>(
     wrong: &WrongEntry,
     next: &str,
 ) -> Result<(), FrameFault>
-    ensures { Puts E.Sink result (counted wrong.now.number wrong.now.after.now ++ (wrong.now.name.now ++ next.now)) faults }
+    ensures { PutsText E.Sink result (counted_text wrong.now.number wrong.now.after.now ++ (wrong.now.name.now ++ next.now)) faults }
 {
     match put_counted(faults, wrong.number, wrong.after) {
         Ok(()) => put_both(faults, wrong.name, next),
@@ -603,7 +660,7 @@ fn put_wrong_entry<E: Sink>(
     path: &str,
     next: &str,
 ) -> Result<(), FrameFault>
-    ensures { Puts E.Sink result (wrong_text wrong.now path.now next.now) faults }
+    ensures { PutsText E.Sink result (wrong_text wrong.now path.now next.now) faults }
 {
     match put_named(faults, "tbd: Damaged: ", path, wrong.before) {
         Ok(()) => put_wrong_number(faults, wrong, next),
@@ -618,7 +675,7 @@ fn put_wrong_line<E: Sink>(
     path: &str,
     next: &str,
 ) -> Result<(), FrameFault>
-    ensures { Puts E.Sink result (line_of (wrong_text wrong.now path.now next.now)) faults }
+    ensures { PutsText E.Sink result (line_of (wrong_text wrong.now path.now next.now)) faults }
 {
     match put_wrong_entry(faults, wrong, path, next) {
         Ok(()) => put_all(faults, b"\n"),
@@ -676,7 +733,7 @@ pub fn print_cut<E: Sink>(bytes: u64, at: u64, faults: &mut E)
 
 /// Writes words, a space before each.
 fn put_words<E: Sink>(faults: &mut E, words: &[String]) -> Result<(), FrameFault>
-    ensures { Puts E.Sink result (shown_words (map string_bytes words.now)) faults }
+    ensures { PutsText E.Sink result (shown_words (map string_bytes words.now)) faults }
 {
     match words {
         [] => Ok(()),
@@ -689,7 +746,7 @@ fn put_words<E: Sink>(faults: &mut E, words: &[String]) -> Result<(), FrameFault
 
 /// Writes what is wrong, and the end of the line.
 fn put_what<E: Sink>(faults: &mut E, what: &str) -> Result<(), FrameFault>
-    ensures { Puts E.Sink result (line_of what.now) faults }
+    ensures { PutsText E.Sink result (line_of what.now) faults }
 {
     match put_all(faults, what.as_bytes()) {
         Ok(()) => put_all(faults, b"\n"),
@@ -699,7 +756,7 @@ fn put_what<E: Sink>(faults: &mut E, what: &str) -> Result<(), FrameFault>
 
 /// Writes a text and what is wrong behind it.
 fn put_behind<E: Sink>(faults: &mut E, first: &str, what: &str) -> Result<(), FrameFault>
-    ensures { Puts E.Sink result (first.now ++ line_of what.now) faults }
+    ensures { PutsText E.Sink result (first.now ++ line_of what.now) faults }
 {
     match put_all(faults, first.as_bytes()) {
         Ok(()) => put_what(faults, what),
@@ -714,7 +771,7 @@ fn put_said<E: Sink>(
     between: &str,
     what: &str,
 ) -> Result<(), FrameFault>
-    ensures { Puts E.Sink result (said_with (map string_bytes shown.now) between.now what.now) faults }
+    ensures { PutsText E.Sink result (said_with (map string_bytes shown.now) between.now what.now) faults }
 {
     match put_words(faults, shown) {
         Ok(()) => put_behind(faults, between, what),
@@ -729,7 +786,7 @@ fn put_wrong<E: Sink>(
     shown: &[String],
     what: &str,
 ) -> Result<(), FrameFault>
-    ensures { Puts E.Sink result (first.now ++ said_text (map string_bytes shown.now) what.now) faults }
+    ensures { PutsText E.Sink result (first.now ++ said_text (map string_bytes shown.now) what.now) faults }
 {
     match put_all(faults, first.as_bytes()) {
         Ok(()) => put_said(faults, shown, ": ", what),
@@ -748,7 +805,7 @@ pub fn print_made<E: Sink>(len: usize, path: &str, faults: &mut E)
 
 /// Writes how much of how much was read, in millions of bytes, and the end of the line.
 fn put_read<E: Sink>(faults: &mut E, read: u64, all: u64) -> Result<(), FrameFault>
-    ensures { Puts E.Sink result (read_line read all) faults }
+    ensures { PutsText E.Sink result (read_line read all) faults }
 {
     match put_torn(faults, read, " of ", all, " MB") {
         Ok(()) => put_all(faults, b"\n"),
@@ -765,7 +822,7 @@ fn put_reading<E: Sink>(
     read: u64,
     all: u64,
 ) -> Result<(), FrameFault>
-    ensures { Puts E.Sink result (named first.now path.now last.now ++ read_line read all) faults }
+    ensures { PutsText E.Sink result (named first.now path.now last.now ++ read_line read all) faults }
 {
     match put_named(faults, first, path, last) {
         Ok(()) => put_read(faults, read, all),
@@ -836,7 +893,7 @@ fn first_words(words: &[String], count: usize) -> &[String]
 
 /// Writes the line of words that are wrong so.
 fn put_usage<E: Sink>(faults: &mut E, words: &[String], wrong: Wrong) -> Result<(), FrameFault>
-    ensures { Puts E.Sink result (wrong_line wrong (map string_bytes words.now)) faults }
+    ensures { PutsText E.Sink result (wrong_line wrong (map string_bytes words.now)) faults }
 {
     let shown = first_words(words, wrong.shown);
     put_wrong(faults, "tbd: Usage:", shown, wrong.fault.text())
@@ -864,8 +921,8 @@ pub fn refuse_words<E: Sink>(words: &[String], wrong: Wrong, faults: &mut E) -> 
 
 /// Prints a fault of no file, and returns its exit status.
 pub fn refuse<E: Sink>(fault: KeepCommandFault, faults: &mut E) -> u8
-    ensures value { result ≡ fault_exit_status fault }
-    ensures printed { Says E.Sink (fault_line fault []) faults.old faults.new }
+    ensures value { result ≡ file_exit_status fault }
+    ensures printed { Says E.Sink (file_fault_line fault []) faults.old faults.new }
 {
     print_fault(fault, "", faults);
     fault.exit_status()

@@ -1,8 +1,8 @@
 //! What there is to say of a file that is refused.
 ghost use Rattle.std.specs.Prelude.{◌≡◌, ℕ, List};
 ghost use Rattle.tb_journal.specs.Opening.{HasOpenCause};
-ghost use Rattle.tb_keep.specs.Creating.{IsUntouched};
-ghost use Rattle.tb_keep_commands.specs.Naming.{IsEntryAt, IsOfKind, IsMadeWith, IsReadable, Names, NamesAsked};
+ghost use Rattle.tb_keep.specs.Creating.{IsDiskUntouched};
+ghost use Rattle.tb_keep_commands.specs.Naming.{IsEntryAt, IsOfKind, IsMadeWith, IsReadable, Names, NamesAsked, NamesBlock, NamesHeadless, first_block_fault, headless_fault};
 ghost use Rattle.tb_keep_commands.specs.ExitStatuses.{started_fault};
 
 use crate::faults::{Damage, KeepCommandFault, Mismatch, numbers_of, started_fault};
@@ -27,7 +27,7 @@ pub fn kind_in<D: Device>(device: &mut D) -> Kind
 fn readable<D: Device>(alloc: Global, device: &mut D) -> Result<Extent, OpenFault>
     ensures found { (file : List ℕ) → D.holds device.old file → IsReadable result file }
     ensures same { (file : List ℕ) → D.holds device.old file → D.holds device.new file }
-    ensures untouched { D.tells → IsUntouched (D.disk device.old) (D.disk device.new) }
+    ensures untouched { D.tells → IsDiskUntouched (D.disk device.old) (D.disk device.new) }
     ensures cause { D.tells → HasOpenCause result (D.disk device.old) (D.disk device.new) }
 {
     let mut scan = match Scan::start(alloc, device) {
@@ -62,16 +62,55 @@ pub fn entry_at<D: Device>(alloc: Global, device: &mut D, at: usize) -> Option<u
     }
 }
 
+/// The fault of a journal of this kind whose first record is no ledger's head, or that has none.
+fn headless_fault(kind: Kind) -> KeepCommandFault
+    ensures { result ≡ headless_fault kind }
+{
+    match kind {
+        Kind::NoRecord => KeepCommandFault::NotAJournal(Kind::NoRecord),
+        Kind::Log => KeepCommandFault::NotAJournal(Kind::Log),
+        _ => KeepCommandFault::NoHead,
+    }
+}
+
+/// The same, of which the first bytes are read.
+fn headless<D: Device>(device: &mut D) -> KeepCommandFault
+    ensures { NamesHeadless D.Device result device.old device.new }
+{
+    headless_fault(kind_in(device))
+}
+
+/// The fault of a journal of this kind whose first block is not what was written.
+fn first_block_fault(damage: Damage, kind: Kind) -> KeepCommandFault
+    ensures { result ≡ first_block_fault damage kind }
+{
+    match kind {
+        Kind::Begun => KeepCommandFault::NotAJournal(Kind::Begun),
+        Kind::Log => KeepCommandFault::NotAJournal(Kind::Log),
+        _ => KeepCommandFault::Damaged(damage),
+    }
+}
+
+/// The fault of a file of which the block at this offset is not what was written.
+fn named_block<D: Device>(alloc: Global, device: &mut D, at: usize) -> KeepCommandFault
+    ensures { NamesBlock D.Device at result device.old device.new }
+{
+    let entry = entry_at(alloc, device, at);
+    let damage = Damage::Block { at, entry };
+    if damage.is_of_head() {
+        return first_block_fault(damage, kind_in(device));
+    }
+    KeepCommandFault::Damaged(damage)
+}
+
 /// The fault of a file that is refused, with what there is to say of it.
 pub(crate) fn named<D: Device>(alloc: Global, device: &mut D, fault: StartFault) -> KeepCommandFault
     ensures { Names D.Device (started_fault fault) result device.old device.new }
 {
     match started_fault(fault) {
         KeepCommandFault::NotAJournal(_) => KeepCommandFault::NotAJournal(kind_in(device)),
-        KeepCommandFault::Damaged(Damage::Block { at, .. }) => {
-            let entry = entry_at(alloc, device, at);
-            KeepCommandFault::Damaged(Damage::Block { at, entry })
-        }
+        KeepCommandFault::NoHead => headless(device),
+        KeepCommandFault::Damaged(Damage::Block { at, .. }) => named_block(alloc, device, at),
         fault => fault,
     }
 }

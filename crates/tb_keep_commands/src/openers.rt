@@ -18,6 +18,10 @@ pub enum OpeningFault {
     Missing,
     /// This user may not open it.
     Forbidden,
+    /// Its disk is read-only.
+    ReadOnly,
+    /// As many files are open as may be.
+    TooMany,
     /// There is no memory.
     NoMemory,
     /// A sync of it failed.
@@ -52,6 +56,9 @@ pub fn opening_fault(fault: &FileFault) -> OpeningFault
         FileFault::System(error) => match error.kind() {
             ErrorKind::NotFound => OpeningFault::Missing,
             ErrorKind::PermissionDenied => OpeningFault::Forbidden,
+            ErrorKind::ReadOnlyFilesystem => OpeningFault::ReadOnly,
+            ErrorKind::StorageFull => OpeningFault::Full,
+            ErrorKind::QuotaExceeded => OpeningFault::Full,
             ErrorKind::IsADirectory => OpeningFault::NotAFile,
             ErrorKind::OutOfMemory => OpeningFault::NoMemory,
             _ => OpeningFault::Unopened,

@@ -1,5 +1,5 @@
 //! A file that is compared with what its name leads to, and of which nothing is cut off before it is set aside.
-ghost use Rattle.std.specs.Prelude.{◌≡◌, ◌+◌, ◌-◌, ◌≤◌, ◌^◌, Bool, true, false, ℕ, List, max, min, drop, length, IfOk, IfErr, OnOk};
+ghost use Rattle.std.specs.Prelude.{◌≡◌, ◌+◌, ◌-◌, ◌≤◌, ◌<◌, ◌^◌, Bool, true, false, ℕ, List, max, min, drop, length, IfOk, IfErr, OnOk};
 ghost use Rattle.tb_journal.specs.Real.{untold};
 ghost use Rattle.tb_journal.specs.Device.{IsOfCall, IsOfSync, SetsAside};
 
@@ -56,9 +56,11 @@ fn bytes_from<D: Device>(
     Ok(bytes)
 }
 
-/// A file that is compared with what its name leads to, before each write and each cut, and behind each sync. Where they differ the
-/// call fails, and so does each later one: so nothing rests on a write or a sync of a file that is gone. What a cut takes off is set
-/// aside before.
+/// A file that is compared with what its name leads to, before each cut, and behind a sync of bytes that were written over others.
+/// Before a write that lengthens it only its own length is asked for, which another program may have cut. Where they differ the call
+/// fails, and so does each later one. What a cut takes off is set aside before.
+///
+/// A journal commits by a write over an open latch, and syncs it: so each commit rests on a look at the name behind it.
 #[derive(Drop)]
 pub struct Named<D, P> {
     alloc: Global,
@@ -67,6 +69,8 @@ pub struct Named<D, P> {
     // The bytes that the file had when it was opened, or that the calls since have left.
     len: usize,
     gone: bool,
+    // Bytes were written over others, and the name was not looked at behind a sync of them.
+    due: bool,
 }
 
 impl<D: Silent + Drop, P: Place + Drop> Named<D, P> {
@@ -75,6 +79,7 @@ impl<D: Silent + Drop, P: Place + Drop> Named<D, P> {
         ensures names { IfErr result IsOfCall }
         ensures place { IfOk result (λ named. named.place ≡ place) }
         ensures there { IfOk result (λ named. named.gone ≡ false) }
+        ensures due { IfOk result (λ named. named.due ≡ false) }
         ensures len { (file : List ℕ) → D.holds device file → IfOk result (λ named. named.len ≡ length file) }
     {
         let mut device = device;
@@ -85,6 +90,7 @@ impl<D: Silent + Drop, P: Place + Drop> Named<D, P> {
             place,
             len,
             gone: false,
+            due: false,
         })
     }
 
@@ -92,6 +98,7 @@ impl<D: Silent + Drop, P: Place + Drop> Named<D, P> {
     fn look(&mut self) -> bool
         ensures device { self.new.device ≡ self.old.device }
         ensures len { self.new.len ≡ self.old.len }
+        ensures due { self.new.due ≡ self.old.due }
         ensures stays { self.old.gone ≡ true → self.new.gone ≡ true }
         ensures led { result ≡ true → P.led self.old.place self.old.len self.new.place }
         ensures there { result ≡ true → self.old.gone ≡ false }
@@ -101,6 +108,28 @@ impl<D: Silent + Drop, P: Place + Drop> Named<D, P> {
             self.gone = !self.place.leads(self.len);
         }
         !self.gone
+    }
+
+    /// Compares the length of the file with what the calls left. Where it is another one, the name is looked at too, so that it is
+    /// said what is wrong.
+    fn check_length(&mut self) -> Result<(), JournalFault>
+        ensures same { (file : List ℕ) → D.holds self.old.device file → D.holds self.new.device file }
+        ensures whole { (file : List ℕ) → D.holds self.old.device file → OnOk result (length file ≡ self.old.len) }
+        ensures names { IfErr result IsOfCall }
+        ensures len { self.new.len ≡ self.old.len }
+        ensures due { self.new.due ≡ self.old.due }
+        ensures stays { self.old.gone ≡ true → self.new.gone ≡ true }
+        ensures there { OnOk result (self.old.gone ≡ false) }
+    {
+        let len = self.device.len()?;
+        if self.gone {
+            return Err(JournalFault::Failed);
+        }
+        if len != self.len {
+            self.look();
+            return Err(JournalFault::Failed);
+        }
+        Ok(())
     }
 
     /// Sets aside what is in the file from an offset on; false where nothing is.
@@ -147,16 +176,24 @@ impl<D: Silent + Drop, P: Place + Drop> Device for Named<D, P> {
 
     fn write_at(&mut self, at: usize, bytes: &[u8]) -> Result<(), JournalFault>
         ensures names { IfErr result IsOfCall }
-        ensures led { OnOk result (P.led self.old.place self.old.len self.new.place) }
+        ensures whole { (file : List ℕ) → D.holds self.old.device file → OnOk result (self.old.len < min (at + length bytes.now) (2 ^ 64 - 1) → length file ≡ self.old.len) }
+        ensures due { OnOk result (at + length bytes.now ≤ self.old.len → self.new.due ≡ true) }
+        ensures stays_due { OnOk result (self.old.due ≡ true → self.new.due ≡ true) }
         ensures there { OnOk result (self.old.gone ≡ false) }
         ensures stays { self.old.gone ≡ true → self.new.gone ≡ true }
         ensures len { OnOk result (self.new.len ≡ max self.old.len (min (at + length bytes.now) (2 ^ 64 - 1))) }
     {
-        if !self.look() {
+        let end = at.saturating_add(bytes.len());
+        if self.gone {
             return Err(JournalFault::Failed);
         }
+        if end > self.len {
+            self.check_length()?;
+        } else {
+            self.due = true;
+        }
         self.device.write_at(at, bytes)?;
-        self.len = self.len.max(at.saturating_add(bytes.len()));
+        self.len = self.len.max(end);
         Ok(())
     }
 
@@ -181,14 +218,15 @@ impl<D: Silent + Drop, P: Place + Drop> Device for Named<D, P> {
     fn sync(&mut self) -> Result<(), JournalFault>
         ensures same { (file : List ℕ) → D.holds self.old.device file → D.holds self.new.device file }
         ensures names { IfErr result IsOfSync }
-        ensures led { OnOk result (P.led self.old.place self.old.len self.new.place) }
+        ensures led { OnOk result (self.old.due ≡ true → P.led self.old.place self.old.len self.new.place) }
         ensures there { OnOk result (self.old.gone ≡ false) }
         ensures stays { self.old.gone ≡ true → self.new.gone ≡ true }
     {
         self.device.sync()?;
-        if !self.look() {
+        if (self.due || self.gone) && !self.look() {
             return Err(JournalFault::SyncFailed);
         }
+        self.due = false;
         Ok(())
     }
 }

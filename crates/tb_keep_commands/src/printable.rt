@@ -1,7 +1,7 @@
 //! A path or a word of the command line as a line of standard error shows it.
 ghost use Rattle.std.specs.Prelude.{◌≡◌};
 ghost use Rattle.tb_keep_commands.specs.Printable.{printable, printable_char};
-ghost use Rattle.tb_keep_commands.specs.private.Changes.{Puts};
+ghost use Rattle.tb_keep_commands.specs.private.Changes.{PutsText};
 
 use tb_records::{FrameFault, Sink, put_all};
 
@@ -19,7 +19,7 @@ fn printable_char(character: char) -> char
 /// Writes a text, with `?` for each of its control characters.
 #[tactic(auto, unfolding(crate::specs::Printable::printable))]
 pub(crate) fn put_printable<E: Sink>(faults: &mut E, text: &str) -> Result<(), FrameFault>
-    ensures { Puts E.Sink result (printable text.now) faults }
+    ensures { PutsText E.Sink result (printable text.now) faults }
 {
     let mut buffer = [0; 4];
     for character in text.chars() {

@@ -1,7 +1,7 @@
 //! A file that reports how far it was read.
 ghost use Rattle.std.specs.Prelude.{◌≡◌, ◌≤◌, ℕ, List, length, IfErr, IfOk, MatchResult, string_bytes};
 ghost use Rattle.tb_journal.specs.Device.{IsOfCall, Looks, ReadsAt};
-ghost use Rattle.tb_keep_commands.specs.ExitStatuses.{first_due, IfHeld, IsMadeLooking, Reports};
+ghost use Rattle.tb_keep_commands.specs.ExitStatuses.{first_due, IfHeld, IsMadeLooking, ReportsProgress};
 
 use crate::lines::{MEGABYTE, print_read};
 use crate::places::Silent;
@@ -56,7 +56,7 @@ impl<D: Device + Drop, E: Sink + Drop> Reported<D, E> {
     /// Reports how far the file was read, where that is due.
     fn report(&mut self, at: usize)
         ensures same { self.new.device ≡ self.old.device }
-        ensures reports { Reports E.Sink at self.old self.new }
+        ensures reports { ReportsProgress E.Sink at self.old self.new }
     {
         if at >= self.due {
             let (read, all) = ((at / MEGABYTE) as u64, (self.len / MEGABYTE) as u64);
@@ -91,7 +91,7 @@ impl<D: Device + Drop, E: Sink + Drop> Device for Reported<D, E> {
         ensures same { (file : List ℕ) → D.holds self.old.device file → D.holds self.new.device file }
         ensures names { IfErr result IsOfCall }
         ensures looks { D.tells → Looks result (D.disk self.old.device) (D.disk self.new.device) }
-        ensures reports { Reports E.Sink at self.old self.new }
+        ensures reports { ReportsProgress E.Sink at self.old self.new }
     {
         self.report(at);
         self.device.read_at(at, into)

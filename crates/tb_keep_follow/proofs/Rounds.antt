@@ -1,5 +1,5 @@
 -- The entries of a log that are written as it grows.
-use Rattle.std.proofs.Common.{◌≡◌, ℕ, Bool, true, false, List, [], ◌++◌, flat_map, Option, Result, Ok, Err, refl, subst, sym, inl, inr, ◌∙◌, append-nil}
+use Rattle.std.proofs.Common.{◌≡◌, ℕ, Bool, true, false, List, [], ◌++◌, flat_map, Result, Ok, Err, refl, subst, sym, inl, inr, ◌∙◌, append-nil}
 use Rattle.tb_records.specs.Transport.{Output, Sent, CutOff}
 use Rattle.tb_machine.specs.Histories.{State, start}
 use Rattle.tb_journal.specs.declared.faults.JournalFault.{JournalFault}
@@ -8,11 +8,10 @@ use Rattle.tb_journal.specs.Growing.{Later}
 use Rattle.tb_journal.specs.Scans.{ScanState}
 use Rattle.tb_journal.proofs.Growths.{later_same, later_then}
 use Rattle.tb_log.specs.Format.{content_of}
-use Rattle.tb_keep.specs.declared.recovering.Rules.{Rules}
 use Rattle.tb_keep.specs.Rounds.{entries_from}
 use Rattle.tb_keep_log.specs.declared.faults.DumpLogFault.TheVariants as dump
 use Rattle.tb_keep_log.specs.declared.faults.LogStartFault.TheVariants as start_faults
-use Rattle.tb_keep_log.specs.Parts.{AreNext, Dumped, DumpsAll, shown}
+use Rattle.tb_keep_log.specs.Parts.{AreNext, Dumped, shown}
 use Rattle.tb_keep_log.proofs.Dumped.{dumped_rest}
 use Rattle.tb_keep_commands.specs.declared.faults.Failed.TheVariants.{Output as OutputFailed}
 use Rattle.tb_keep_commands.specs.declared.faults.KeepCommandFault.TheVariants.{Device, NoMemory}
@@ -21,12 +20,12 @@ use Rattle.tb_keep_commands.specs.Following.{start_of}
 use Rattle.tb_keep_commands.proofs.Rounds.{grows_same, sent_held, then_cut}
 use Rattle.tb_keep_follow.specs.declared.faults.FollowFault.{FollowFault}
 use Rattle.tb_keep_follow.specs.declared.faults.FollowFault.TheVariants.{Kept}
-use Rattle.tb_keep_follow.specs.Parts.{EndsRounds, Grown, GrowsBy, HeadGoes, SendsRound, WritesPart}
+use Rattle.tb_keep_follow.specs.Parts.{DumpsRest, EndsLogRounds, WritesGrownLog, GrowsLogBy, HeadGoes, Selection, SendsLogRound, WritesLogPart, dump_point}
 
-module _ (above : Option ℕ) (rules : Rules) where
+module _ (wanted : Selection) where
   -- one round, of the records behind those that were read
   module _ (read : List (List ℕ)) (file : List ℕ) (scan : ScanState) (S T : State) (a b c : Output) where
-    next_of : (d : Dumped above rules.profile rules.clients_max read file scan S T a b) → AreNext read file d.pairs
+    next_of : (d : Dumped wanted.above wanted.rules.profile wanted.rules.clients_max read file scan S T a b) → AreNext read file d.pairs
     next_of d = record {
       records = d.records;
       rest = [];
@@ -36,7 +35,8 @@ module _ (above : Option ℕ) (rules : Rules) where
     }
 
     -- what was held back went out
-    pub round_done : DumpsAll above (Ok tt) rules.profile rules.clients_max read file scan S T a b → Sent [] b c → SendsRound (Ok tt) above rules read file scan S T a c
+    pub round_done : DumpsRest (Ok tt) wanted read file scan (dump_point S a) (dump_point T b) → Sent [] b c
+        → SendsLogRound (Ok tt) wanted read file scan (dump_point S a) (dump_point T c)
     round_done (d, reads) held = (
       record {
         records = d.records;
@@ -50,8 +50,8 @@ module _ (above : Option ℕ) (rules : Rules) where
     )
 
     -- or it was lost
-    pub round_lost : (fault : FollowFault) → fault ≡ Kept (Device OutputFailed) → DumpsAll above (Ok tt) rules.profile rules.clients_max read file scan S T a b → CutOff [] b c
-        → SendsRound (Err fault) above rules read file scan S T a c
+    pub round_lost : (fault : FollowFault) → fault ≡ Kept (Device OutputFailed) → DumpsRest (Ok tt) wanted read file scan (dump_point S a) (dump_point T b) → CutOff [] b c
+        → SendsLogRound (Err fault) wanted read file scan (dump_point S a) (dump_point T c)
     round_lost fault is (d, reads) held = (
       dump.Writer,
       is,
@@ -60,24 +60,24 @@ module _ (above : Option ℕ) (rules : Rules) where
         (
           d.pairs,
           next_of d,
-          subst (λ (bs : List ℕ). CutOff bs a c) (append-nil (flat_map (shown above) (entries_from S d.pairs)))
-              (then_cut (flat_map (shown above) (entries_from S d.pairs)) [] a b c d.dumps.sent held),
+          subst (λ (bs : List ℕ). CutOff bs a c) (append-nil (flat_map (shown wanted.above) (entries_from S d.pairs)))
+              (then_cut (flat_map (shown wanted.above) (entries_from S d.pairs)) [] a b c d.dumps.sent held),
         ),
       ),
     )
 
   -- behind those that were written
-  module _ (here left : List ℕ → Type 0) (S : State) (file : List ℕ) (scan next : ScanState) (T U : State) (a b c : Output) (g : Grown here above rules S file scan T a b) where
-    pub once_more : (now : List ℕ) (result : Result (Unit {0}) FollowFault) → Later g.later now → left now → SendsRound result above rules g.dumps.0.records now next T U b c
-        → GrowsBy left result above rules S file next U a c
+  module _ (here left : List ℕ → Type 0) (S : State) (file : List ℕ) (scan next : ScanState) (T U : State) (a b c : Output) (g : WritesGrownLog here wanted file scan (dump_point S a) (dump_point T b)) where
+    pub once_more : (now : List ℕ) (result : Result (Unit {0}) FollowFault) → Later g.later now → left now → SendsLogRound result wanted g.dumps.0.records now next (dump_point T b) (dump_point U c)
+        → GrowsLogBy left result wanted file next (dump_point S a) (dump_point U c)
     once_more now (Ok done) since held round = record {
       later = now;
       since = later_then file g.later now g.since since;
       held = held;
-      dumps = dumped_rest above rules.profile rules.clients_max [] g.later now scan next S T U a b c g.dumps.0 (Ok tt) round;
+      dumps = dumped_rest wanted.above wanted.rules.profile wanted.rules.clients_max [] g.later now scan next S T U a b c g.dumps.0 (Ok tt) round;
     }
     once_more now (Err fault) since held (cause, named, ends) =
-        let whole = dumped_rest above rules.profile rules.clients_max [] g.later now scan next S T U a b c g.dumps.0 (Err cause) ends in
+        let whole = dumped_rest wanted.above wanted.rules.profile wanted.rules.clients_max [] g.later now scan next S T U a b c g.dumps.0 (Err cause) ends in
         record {
           later = now;
           since = later_then file g.later now g.since since;
@@ -86,8 +86,8 @@ module _ (above : Option ℕ) (rules : Rules) where
 
   module _ (here : List ℕ → Type 0) (S : State) (file : List ℕ) (scan : ScanState) (T : State) (a b : Output) where
     -- no round more: the file could not be read on
-    pub no_more : (cause : JournalFault) (fault : FollowFault) → fault ≡ Kept (disk_fault cause) → (g : Grown here above rules S file scan T a b)
-        → EndsRounds here (Err fault) true above rules S file a b
+    pub no_more : (cause : JournalFault) (fault : FollowFault) → fault ≡ Kept (disk_fault cause) → (g : WritesGrownLog here wanted file scan (dump_point S a) (dump_point T b))
+        → EndsLogRounds here (Err fault) true wanted file (dump_point S a) b
     no_more cause fault is g = record {
       later = g.later;
       since = g.since;
@@ -100,7 +100,7 @@ module _ (above : Option ℕ) (rules : Rules) where
     }
 
     -- nor is there memory
-    pub no_end : (fault : FollowFault) → fault ≡ Kept NoMemory → (g : Grown here above rules S file scan T a b) → EndsRounds here (Err fault) true above rules S file a b
+    pub no_end : (fault : FollowFault) → fault ≡ Kept NoMemory → (g : WritesGrownLog here wanted file scan (dump_point S a) (dump_point T b)) → EndsLogRounds here (Err fault) true wanted file (dump_point S a) b
     no_end fault is g = record {
       later = g.later;
       since = g.since;
@@ -113,17 +113,17 @@ module _ (above : Option ℕ) (rules : Rules) where
     }
 
     -- nobody waits for more
-    pub reached : Grown here above rules S file scan T a b → EndsRounds here (Ok tt) true above rules S file a b
+    pub reached : WritesGrownLog here wanted file scan (dump_point S a) (dump_point T b) → EndsLogRounds here (Ok tt) true wanted file (dump_point S a) b
     reached g = record { later = g.later; since = g.since; held = g.held; scan = scan; now = T; dumps = g.dumps }
 
     -- the first round, of a file of which nothing was read
-    pub first_round : here file → SendsRound (Ok tt) above rules [] file scan S T a b → Grown here above rules S file scan T a b
+    pub first_round : here file → SendsLogRound (Ok tt) wanted [] file scan (dump_point S a) (dump_point T b) → WritesGrownLog here wanted file scan (dump_point S a) (dump_point T b)
     first_round held round = record { later = file; since = later_same file; held = held; dumps = round }
 
-    pub one_round : here file → SendsRound (Ok tt) above rules [] file scan S T a b → EndsRounds here (Ok tt) false above rules S file a b
+    pub one_round : here file → SendsLogRound (Ok tt) wanted [] file scan (dump_point S a) (dump_point T b) → EndsLogRounds here (Ok tt) false wanted file (dump_point S a) b
     one_round held round = record { later = file; since = refl; held = held; scan = scan; now = T; dumps = round }
 
-    pub first_broken : (follows : Bool) (fault : FollowFault) → SendsRound (Err fault) above rules [] file scan S T a b → EndsRounds here (Err fault) follows above rules S file a b
+    pub first_broken : (follows : Bool) (fault : FollowFault) → SendsLogRound (Err fault) wanted [] file scan (dump_point S a) (dump_point T b) → EndsLogRounds here (Err fault) follows wanted file (dump_point S a) b
     first_broken follows fault (cause, named, ends) = record {
       later = file;
       since = grows_same follows file;
@@ -132,13 +132,13 @@ module _ (above : Option ℕ) (rules : Rules) where
 
   -- behind a head, or nothing
   module _ (here : List ℕ → Type 0) (follows : Bool) (file : List ℕ) (a b c : Output) where
-    pub part_sent : (S : State) (result : Result (Unit {0}) FollowFault) → S ≡ start rules.profile rules.clients_max → Sent (start_of above rules) a b
-        → EndsRounds here result follows above rules S file b c → WritesPart here result follows above rules file a c
+    pub part_sent : (S : State) (result : Result (Unit {0}) FollowFault) → S ≡ start wanted.rules.profile wanted.rules.clients_max → Sent (start_of wanted.above wanted.rules) a b
+        → EndsLogRounds here result follows wanted file (dump_point S b) c → WritesLogPart here result follows wanted file a c
     part_sent S result is head ends = inl (record {
       headed = b;
       head = head;
-      entries = subst (λ (V : State). EndsRounds here result follows above rules V file b c) is ends;
+      entries = subst (λ (V : State). EndsLogRounds here result follows wanted file (dump_point V b) c) is ends;
     })
 
-    pub head_cut : (fault : FollowFault) → HeadGoes (start_of above rules) (Err fault) a b → WritesPart here (Err fault) follows above rules file a b
+    pub head_cut : (fault : FollowFault) → HeadGoes (start_of wanted.above wanted.rules) (Err fault) a b → WritesLogPart here (Err fault) follows wanted file a b
     head_cut fault cut = inr (inr cut)

@@ -11,14 +11,15 @@ use Rattle.tb_keep_log.specs.declared.checking.Reached.{Reached}
 use Rattle.tb_keep_log.specs.declared.faults.LogStartFault.{LogStartFault}
 use Rattle.tb_keep_commands.specs.declared.faults.KeepCommandFault.{KeepCommandFault}
 use Rattle.tb_keep_commands.specs.declared.openers.OpeningFault.{OpeningFault}
+use Rattle.tb_keep_commands.specs.Ends.{FileOutput, outcome_by}
 use Rattle.tb_keep_commands.specs.ExitStatuses.{disk_fault}
 use Rattle.tb_keep_commands.specs.Outcomes as commands
-use Rattle.tb_keep_commands.specs.Outcomes.{IsMeasured, PrintsText}
+use Rattle.tb_keep_commands.specs.Outcomes.{IsMeasured, Opens, PrintsText}
 use Rattle.tb_keep_commands.specs.Summaries.{summary_text}
 use Rattle.tb_keep_follow.specs.declared.checking.LogSummary.{LogSummary}
 use Rattle.tb_keep_follow.specs.declared.faults.FollowFault.TheVariants.{Kept}
 use Rattle.tb_keep_follow.specs.Heads.{FindsRules}
-use Rattle.tb_keep_follow.specs.Outcomes.{IsReadWhole, IsRefused, Opens, Outcome}
+use Rattle.tb_keep_follow.specs.Outcomes.{IsLogReadWhole, IsLogFileRefused, LogOutcome, unopened}
 
 -- what is in a file of so many bytes that was read to its end. Those behind the closed latch are not committed yet, or torn
 abbrev pub log_summary_of : Rules → Reached → ℕ → LogSummary
@@ -31,62 +32,46 @@ log_summary_of rules reached len = record {
 abbrev pub log_summary_text : LogSummary → List ℕ
 log_summary_text s = summary_text s.summary ++ (codes "position " ++ (decimal s.position ++ 10 ∷ []))
 
--- what was printed, or why not
-abbrev pub printed_outcome : commands.Outcome → Outcome
-printed_outcome (Ok done) = Ok tt
-printed_outcome (Err fault) = Err (Kept fault)
-
 -- a text went out whole, or why not
-pub record Reports (text : List ℕ) (outcome : Outcome) (start written : Output) : Type 0 where
-  pub printed : commands.Outcome
+pub record ReportsText (text : List ℕ) (outcome : LogOutcome) (start written : Output) : Type 0 where
+  pub printed : commands.FileOutcome
   pub prints : PrintsText text printed start written
-  pub outcome_is : outcome ≡ printed_outcome printed
+  pub outcome_is : outcome ≡ outcome_by Kept printed
 
 module _ {D : Type 0} (its : devices.Ghosts D) where
   -- a file of so many bytes was read to its end before what is in it was printed. Of one that is refused nothing was
-  pub record ChecksLong (len : ℕ) (outcome : Outcome) (rules : Rules) (device after : D) (start written : Output) : Type 0 where
+  pub record ChecksLongLog (len : ℕ) (outcome : LogOutcome) (rules : Rules) (before after : FileOutput D) : Type 0 where
     pub read : Result Reached LogStartFault
     pub between : D
-    pub whole : IsReadWhole its read rules device between
-    pub checks : MatchResult read (λ it. Reports (log_summary_text (log_summary_of rules it len)) outcome start written × (after ≡ between))
-        (λ fault. IsRefused its fault outcome between after × (written ≡ start))
+    pub whole : IsLogReadWhole its read rules before.file between
+    pub checks : MatchResult read
+        (λ it. ReportsText (log_summary_text (log_summary_of rules it len)) outcome before.sink after.sink × (after.file ≡ between))
+        (λ fault. IsLogFileRefused its fault outcome between after.file × (after.sink ≡ before.sink))
 
   module _ (whole : D → List ℕ → Type 0) where
     -- a file's length was asked for, and then it was checked
-    pub record ChecksFile (outcome : Outcome) (rules : Rules) (device after : D) (start written : Output) : Type 0 where
+    pub record ChecksLogFile (outcome : LogOutcome) (rules : Rules) (before after : FileOutput D) : Type 0 where
       pub len : Result ℕ JournalFault
       pub between : D
-      pub asked : IsMeasured its whole len device between
-      pub checks : MatchResult len (λ n. ChecksLong n outcome rules between after start written)
-          (λ fault. (outcome ≡ Err (Kept (disk_fault fault))) × (after ≡ between) × (written ≡ start))
+      pub asked : IsMeasured its whole len before.file between
+      pub checks : MatchResult len (λ n. ChecksLongLog n outcome rules (record before { file = between }) after)
+          (λ fault. (outcome ≡ Err (Kept (disk_fault fault))) × (after ≡ record before { file = between }))
 
     -- by the rules that its first bytes name; nothing of any other file
-    abbrev pub ChecksNamed : Outcome → Result Rules KeepCommandFault → D → D → Output → Output → Type 0
-    ChecksNamed outcome (Ok rules) device after start written = ChecksFile outcome rules device after start written
-    ChecksNamed outcome (Err fault) device after start written = (outcome ≡ Err (Kept fault)) × (after ≡ device) × (written ≡ start)
+    abbrev pub ChecksNamed : LogOutcome → Result Rules KeepCommandFault → FileOutput D → FileOutput D → Type 0
+    ChecksNamed outcome (Ok rules) before after = ChecksLogFile outcome rules before after
+    ChecksNamed outcome (Err fault) before after = (outcome ≡ Err (Kept fault)) × (after ≡ before)
 
-    pub record ChecksFound (outcome : Outcome) (device after : D) (start written : Output) : Type 0 where
+    pub record ChecksFound (outcome : LogOutcome) (before after : FileOutput D) : Type 0 where
       pub found : Result Rules KeepCommandFault
       pub between : D
-      pub finds : FindsRules its found device between
-      pub checks : ChecksNamed outcome found between after start written
+      pub finds : FindsRules its found before.file between
+      pub checks : ChecksNamed outcome found (record before { file = between }) after
 
-    abbrev pub ChecksOver : {O : Type 0} → (Result D OpeningFault → O → Type 0) → O → Outcome → Output → Output → Type 0
-    ChecksOver may left outcome start written =
-        Opens may left outcome (written ≡ start) (λ device. (after : D) × ChecksFound outcome device after start written)
-
--- what private functions alone cite
-
-module _ {D : Type 0} (its : devices.Ghosts D) {W : Type 0} (output : W → Output) where
-  abbrev pub ChecksLongOn : ℕ → Outcome → Rules → D → D → W → W → Type 0
-  ChecksLongOn len outcome rules device after writer later = ChecksLong its len outcome rules device after (output writer) (output later)
-
-  module _ (whole : D → List ℕ → Type 0) (outcome : Outcome) where
-    abbrev pub ChecksFileOn : Rules → D → D → W → W → Type 0
-    ChecksFileOn rules device after writer later = ChecksFile its whole outcome rules device after (output writer) (output later)
-
-    abbrev pub ChecksFoundOn : D → D → W → W → Type 0
-    ChecksFoundOn device after writer later = ChecksFound its whole outcome device after (output writer) (output later)
+    abbrev pub ChecksLogOver : {O : Type 0} → (Result D OpeningFault → O → Type 0) → O → LogOutcome → Output → Output → Type 0
+    ChecksLogOver may left outcome start written =
+        Opens unopened may left outcome (written ≡ start)
+        (λ device. (after : D) × ChecksFound outcome (record { file = device; sink = start }) (record { file = after; sink = written }))
 
 -- rows
 

@@ -1,5 +1,5 @@
 -- Why a form over a log ends, the exit status of each fault, and its line.
-use Rattle.std.specs.Prelude.{ℕ, ◌≡◌, ◌++◌, List, [], Option, Some, None, codes, refl}
+use Rattle.std.specs.Prelude.{ℕ, ◌≡◌, ◌==◌, ◌++◌, if◌then◌else◌, List, [], Option, Some, None, codes, refl}
 use Rattle.std.specs.Fmt.{decimal, digits}
 use Rattle.std.specs.Str.{chars}
 use Rattle.tb_records.specs.Faults as frames
@@ -9,7 +9,7 @@ use Rattle.tb_journal.specs.declared.reading.Refusal.TheVariants as refusal
 use Rattle.tb_log.specs.Faults as logs
 use Rattle.tb_log.specs.declared.faults.LogFault.{LogFault}
 use Rattle.tb_log.specs.declared.faults.LogFault.TheVariants as log
-use Rattle.tb_keep_log.specs.Faults.{dump_fault_name}
+use Rattle.tb_keep_log.specs.Faults.{log_dump_fault_name}
 use Rattle.tb_keep_log.specs.declared.faults.DumpLogFault.{DumpLogFault}
 use Rattle.tb_keep_log.specs.declared.faults.DumpLogFault.TheVariants as dump
 use Rattle.tb_keep_log.specs.declared.faults.KeepLogFault.{KeepLogFault}
@@ -17,13 +17,13 @@ use Rattle.tb_keep_log.specs.declared.faults.KeepLogFault.TheVariants as keep
 use Rattle.tb_keep_log.specs.declared.faults.LogStartFault.{LogStartFault}
 use Rattle.tb_keep_log.specs.declared.faults.LogStartFault.TheVariants as start
 use Rattle.tb_keep_commands.specs.declared.faults.Damage.{Damage}
-use Rattle.tb_keep_commands.specs.declared.faults.Damage.TheVariants.{Torn}
+use Rattle.tb_keep_commands.specs.declared.faults.Damage.TheVariants.{Block, Torn}
 use Rattle.tb_keep_commands.specs.declared.faults.Failed.{Failed}
 use Rattle.tb_keep_commands.specs.declared.faults.Failed.TheVariants.{Output}
 use Rattle.tb_keep_commands.specs.declared.faults.KeepCommandFault.{KeepCommandFault}
 use Rattle.tb_keep_commands.specs.declared.faults.KeepCommandFault.TheVariants.{Device, NoMemory, NotAJournal, Damaged, Full}
 use Rattle.tb_keep_commands.specs.declared.kinds.Kind.TheVariants as kind
-use Rattle.tb_keep_commands.specs.ExitStatuses.{counted, damage_line, disk_fault, opened_fault, fault_exit_status, fault_line, fault_path, line_of, named}
+use Rattle.tb_keep_commands.specs.ExitStatuses.{counted_text, damage_line, disk_fault, opened_fault, file_exit_status, file_fault_line, fault_path, line_of, named}
 use Rattle.tb_keep_commands.specs.Printable.{printable}
 use Rattle.tb_keep_follow.specs.declared.faults.CommandFault.{CommandFault}
 use Rattle.tb_keep_follow.specs.declared.faults.CommandFault.TheVariants.{Ledger, Log}
@@ -36,15 +36,15 @@ journal_fault (opened.Refused refusal.NotAJournal) = NotAJournal kind.Other
 journal_fault fault = opened_fault fault
 
 -- of a file that is not read or opened as a kept log
-abbrev pub started_fault : LogStartFault → FollowFault
-started_fault (start.Journal fault) = Kept (journal_fault fault)
-started_fault start.Plain = Plain
-started_fault start.OtherRules = OtherRules
-started_fault (start.NoEntry last) = NoEntry last
-started_fault (start.Entry fault) = Entry fault
-started_fault (start.OtherHashes position) = OtherHashes position
-started_fault start.NoMemory = Kept NoMemory
-started_fault (start.TornTooLong at bytes) = Kept (Damaged (Torn at bytes))
+abbrev pub started_log_fault : LogStartFault → FollowFault
+started_log_fault (start.Journal fault) = Kept (journal_fault fault)
+started_log_fault start.Plain = Plain
+started_log_fault start.OtherRules = OtherRules
+started_log_fault (start.NoEntry last) = NoEntry last
+started_log_fault (start.Entry fault) = Entry fault
+started_log_fault (start.OtherHashes position) = OtherHashes position
+started_log_fault start.NoMemory = Kept NoMemory
+started_log_fault (start.TornTooLong at bytes) = Kept (Damaged (Torn at bytes))
 
 -- of an item that is not served, where this pipe failed if one did
 abbrev pub item_fault : Failed → LogFault → FollowFault
@@ -52,19 +52,19 @@ item_fault pipe log.Device = Kept (Device pipe)
 item_fault pipe log.NoMemory = Kept NoMemory
 item_fault pipe fault = Item fault
 
-abbrev pub kept_fault : Failed → KeepLogFault → FollowFault
-kept_fault pipe (keep.Log fault) = item_fault pipe fault
-kept_fault pipe (keep.Journal fault) = Kept (disk_fault fault)
+abbrev pub kept_log_fault : Failed → KeepLogFault → FollowFault
+kept_log_fault pipe (keep.Log fault) = item_fault pipe fault
+kept_log_fault pipe (keep.Journal fault) = Kept (disk_fault fault)
 
-abbrev pub dumped_fault : DumpLogFault → FollowFault
-dumped_fault (dump.Start fault) = started_fault fault
-dumped_fault dump.NoMemory = Kept NoMemory
-dumped_fault dump.Writer = Kept (Device Output)
-dumped_fault fault = Unwritten fault
+abbrev pub dumped_log_fault : DumpLogFault → FollowFault
+dumped_log_fault (dump.Start fault) = started_log_fault fault
+dumped_log_fault dump.NoMemory = Kept NoMemory
+dumped_log_fault dump.Writer = Kept (Device Output)
+dumped_log_fault fault = Unwritten fault
 
 -- the numbers of `tbd`: 2 an item is wrong, 5 a ledger without positions, 6 damaged, 7 other rules
 abbrev pub follow_exit_status : FollowFault → ℕ
-follow_exit_status (Kept fault) = fault_exit_status fault
+follow_exit_status (Kept fault) = file_exit_status fault
 follow_exit_status (Item fault) = 2
 follow_exit_status Plain = 5
 follow_exit_status OtherRules = 7
@@ -82,8 +82,8 @@ text_line first what = first ++ (what ++ codes "\n")
 abbrev pub number_line : List ℕ → ℕ → List ℕ
 number_line first number = (first ++ decimal number) ++ codes "\n"
 
-abbrev pub place_line : List ℕ → ℕ → List ℕ → List ℕ
-place_line first place what = ((first ++ decimal place) ++ (codes ": " ++ what)) ++ codes "\n"
+abbrev pub log_place_line : List ℕ → ℕ → List ℕ → List ℕ
+log_place_line first place what = ((first ++ decimal place) ++ (codes ": " ++ what)) ++ codes "\n"
 
 abbrev pub path_line : List ℕ → List ℕ → List ℕ → List ℕ
 path_line first path last = (first ++ (printable path ++ last)) ++ codes "\n"
@@ -100,39 +100,45 @@ place_of fault = 0
 
 -- an item that is refused: what is wrong with it, and where
 abbrev pub item_line : LogFault → List ℕ
-item_line (log.UnknownKind kind) = number_line (codes "tbd: UnknownKind ") kind
+item_line (log.UnknownKind kind) = log_place_line (codes "tbd: UnknownKind ") kind (codes "standard input goes on with no item; those before it were answered")
+item_line log.Short = text_line (codes "tbd: Short: ") (codes "standard input ends within an item; those before it were answered")
 item_line (log.Gap at) = number_line (codes "tbd: Gap at ") at
 item_line (log.Repeat at) = number_line (codes "tbd: Repeat at ") at
 item_line (log.TooLong at) = number_line (codes "tbd: TooLong at ") at
 item_line (log.Damaged at) = number_line (codes "tbd: Damaged at ") at
 item_line (log.TimeExhausted at) = number_line (codes "tbd: TimeExhausted at ") at
-item_line (log.BadEntry at fault) = place_line (codes "tbd: BadEntry at ") at (frames.fault_name fault)
-item_line fault = text_line (codes "tbd: ") (logs.fault_name fault)
+item_line (log.BadEntry at fault) = log_place_line (codes "tbd: BadEntry at ") at (frames.fault_name fault)
+item_line fault = text_line (codes "tbd: ") (logs.log_fault_name fault)
 
 -- the lines of what is damaged in a file of this path
 abbrev pub next_step : List ℕ
 next_step = codes "; tbd salvage makes a new file of the entries before it"
+
+-- there is no entry before the first one
+abbrev pub next_of_log : Damage → List ℕ
+next_of_log (Block at (Some n)) = if n == 1 then codes "; restore a backup: no entry is before it" else next_step
+next_of_log damage = next_step
 
 abbrev pub damage_in : KeepCommandFault → Option Damage
 damage_in (Damaged damage) = Some damage
 damage_in fault = None
 
 abbrev pub kept_by : Option Damage → KeepCommandFault → List ℕ → List ℕ
-kept_by None fault path = fault_line fault path
-kept_by (Some damage) fault path = damage_line damage path next_step
+kept_by None fault path = file_fault_line fault path
+kept_by (Some damage) fault path = damage_line damage path (next_of_log damage)
 
 abbrev pub kept_line : KeepCommandFault → List ℕ → List ℕ
 kept_line fault path = kept_by (damage_in fault) fault path
 
 abbrev pub damaged_entry_line : List ℕ → List ℕ → ℕ → List ℕ → List ℕ → List ℕ
 damaged_entry_line path before number after name =
-    line_of (named (codes "tbd: Damaged: ") path before ++ (counted number after ++ (name ++ next_step)))
+    line_of (named (codes "tbd: Damaged: ") path before ++ (counted_text number after ++ (name ++ next_step)))
 
 abbrev pub no_entry_line : ℕ → List ℕ → List ℕ
 no_entry_line last path = damaged_entry_line path (codes ": the record behind position ") last (codes " is that of no entry") []
 
 abbrev pub entry_line : LogFault → List ℕ → List ℕ
-entry_line fault path = damaged_entry_line path (codes ": entry ") (place_of fault) (codes " may not come next: ") (logs.fault_name fault)
+entry_line fault path = damaged_entry_line path (codes ": entry ") (place_of fault) (codes " may not come next: ") (logs.log_fault_name fault)
 
 abbrev pub hashes_line : ℕ → List ℕ → List ℕ
 hashes_line position path = damaged_entry_line path (codes ": entry ") position (codes " has another position or other hashes than it leaves") []
@@ -145,13 +151,13 @@ follow_line OtherRules path = path_line (codes "tbd: OtherRules: ") path (codes 
 follow_line (NoEntry last) path = no_entry_line last path
 follow_line (Entry fault) path = entry_line fault path
 follow_line (OtherHashes position) path = hashes_line position path
-follow_line (Unwritten fault) path = text_line (codes "tbd: Damaged: ") (dump_fault_name fault)
+follow_line (Unwritten fault) path = text_line (codes "tbd: Damaged: ") (log_dump_fault_name fault)
 follow_line (Item fault) path = item_line fault
 
 -- of a command, over a ledger or over a log
 
 abbrev pub command_exit_status : CommandFault → ℕ
-command_exit_status (Ledger fault) = fault_exit_status fault
+command_exit_status (Ledger fault) = file_exit_status fault
 command_exit_status (Log fault) = follow_exit_status fault
 
 abbrev pub command_path : CommandFault → List ℕ → List ℕ → List ℕ
@@ -159,7 +165,7 @@ command_path (Ledger fault) file new = fault_path fault file new
 command_path (Log fault) file new = follow_path fault file new
 
 abbrev pub command_line : CommandFault → List ℕ → List ℕ
-command_line (Ledger fault) path = fault_line fault path
+command_line (Ledger fault) path = file_fault_line fault path
 command_line (Log fault) path = follow_line fault path
 
 -- what a start says that serves: the position of the last entry that the file has. The log is wanted behind it

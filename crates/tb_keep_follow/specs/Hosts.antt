@@ -12,10 +12,10 @@ use Rattle.tb_keep_commands.specs.declared.arguments.Form.TheVariants as form
 use Rattle.tb_keep_commands.specs.declared.faults.KeepCommandFault.TheVariants.{NoMemory}
 use Rattle.tb_keep_commands.specs.declared.openers.OpeningFault.{OpeningFault}
 use Rattle.tb_keep_commands.specs.Ends.{KnownFiles}
-use Rattle.tb_keep_commands.specs.ExitStatuses.{SaysLine, fault_line}
+use Rattle.tb_keep_commands.specs.ExitStatuses.{SaysLine, file_fault_line}
 use Rattle.tb_keep_commands.specs.Outlets.{Watched, outgoing}
 use Rattle.tb_keep_follow.specs.declared.executing.Terminals.{Terminals}
-use Rattle.tb_keep_follow.specs.Exits.{Exits}
+use Rattle.tb_keep_follow.specs.Exits.{ExitsWith}
 
 -- the bytes of input that a form holds at a time; the others read none
 abbrev pub input_size : Form → ℕ
@@ -39,7 +39,7 @@ output_of contents w = record { written = writer_contents contents w.inner; fail
 
 -- there is no memory for the buffers: nothing is opened, and that is reported
 abbrev pub WantsMemory : {O : Type 0} → O → O → ℕ → Output → Output → Type 0
-WantsMemory before left exit_status quiet told = (exit_status ≡ 1) × (left ≡ before) × SaysLine (fault_line NoMemory []) quiet told
+WantsMemory before left exit_status quiet told = (exit_status ≡ 1) × (left ≡ before) × SaysLine (file_fault_line NoMemory []) quiet told
 
 module _ {O D E : Type 0} (its : KnownFiles O D E) (looks : O → List ℕ → Result ℕ OpeningFault → List ℕ → O → Type 0) (ends : Terminals) (command : Command)
     (before left : O) {R W : Type 0} (remaining : R → Option (List ℕ)) (contents : W → Option (List ℕ)) where
@@ -47,11 +47,12 @@ module _ {O D E : Type 0} (its : KnownFiles O D E) (looks : O → List ℕ → R
   pub record Hosted (exit_status : ℕ) (input : BufReader R Global) (output : BufWriter W Global) (quiet told : Output) : Type 0 where
     pub last : Watched (BufReader R Global)
     pub final : Watched (BufWriter W Global)
-    pub exits : Exits its looks ends before command.file.now command.new.now left (writer_buffer final.inner ≡ []) command.form exit_status
-        (input_of remaining (outgoing input)) (input_of remaining last) (output_of contents (outgoing output)) (output_of contents final) quiet told
+    pub exits : ExitsWith its looks ends before command.file.now command.new.now left (writer_buffer final.inner ≡ []) command.form exit_status
+        (record { source = input_of remaining (outgoing input); sink = output_of contents (outgoing output); faults = quiet })
+        (record { source = input_of remaining last; sink = output_of contents final; faults = told })
 
   -- over an input and an output, each behind a buffer with nothing in it
-  pub record Serves (exit_status : ℕ) (input : R) (output : W) (quiet told : Output) : Type 0 where
+  pub record ServesStreams (exit_status : ℕ) (input : R) (output : W) (quiet told : Output) : Type 0 where
     pub reader : BufReader R Global
     pub of_input : reader_inner reader ≡ input
     pub read_ahead : reader_buffer reader ≡ []
@@ -65,9 +66,9 @@ module _ {O D E : Type 0} (its : KnownFiles O D E) (looks : O → List ℕ → R
 module _ {O D E : Type 0} (its : KnownFiles O D E) (looks : O → List ℕ → Result ℕ OpeningFault → List ℕ → O → Type 0) (ends : Terminals) (command : Command)
     {R W L : Type 0} (remaining : R → Option (List ℕ)) (contents : W → Option (List ℕ)) (lines : sinks.Ghosts L) where
   -- a command was done over an input and an output; or there is no memory for the buffers
-  abbrev pub ServesOn : O → O → ℕ → R → W → L → L → Type 0
-  ServesOn before left exit_status input output quiet told =
-      Serves its looks ends command before left remaining contents exit_status input output (lines.output quiet) (lines.output told)
+  abbrev pub ServesStreamsOn : O → O → ℕ → R → W → L → L → Type 0
+  ServesStreamsOn before left exit_status input output quiet told =
+      ServesStreams its looks ends command before left remaining contents exit_status input output (lines.output quiet) (lines.output told)
       ⊎ WantsMemory before left exit_status (lines.output quiet) (lines.output told)
 
   -- what private functions alone cite

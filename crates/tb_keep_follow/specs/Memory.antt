@@ -4,30 +4,25 @@ use Rattle.tb_records.specs.declared.limits.Profile.{Profile}
 use Rattle.tb_records.specs.Transport.{Input, Output, Sent, CutOff}
 use Rattle.tb_log.specs.declared.faults.LogFault.{LogFault}
 use Rattle.tb_log.specs.Follows.{Followed}
-use Rattle.tb_keep_commands.specs.declared.faults.Failed.{Failed}
 use Rattle.tb_keep_commands.specs.declared.faults.Failed.TheVariants as failed
 use Rattle.tb_keep_commands.specs.declared.faults.KeepCommandFault.TheVariants.{Device}
+use Rattle.tb_keep_commands.specs.Ends.{outcome_by}
 use Rattle.tb_keep_commands.specs.ExitStatuses.{failed_pipe}
 use Rattle.tb_keep_follow.specs.declared.faults.FollowFault.TheVariants.{Kept}
 use Rattle.tb_keep_follow.specs.Faults.{item_fault}
-use Rattle.tb_keep_follow.specs.Outcomes.{Outcome}
-
--- a log was followed to its end, or why not, where this pipe failed if one did
-abbrev pub memory_outcome : Failed → Result ℕ LogFault → Outcome
-memory_outcome pipe (Ok position) = Ok tt
-memory_outcome pipe (Err fault) = Err (item_fault pipe fault)
+use Rattle.tb_keep_follow.specs.Outcomes.{LogOutcome}
 
 -- before a fault ends it, the replies that are held back go out; where they do not, that is the fault
-abbrev pub SendsReplies : Outcome → Outcome → Output → Output → Type 0
+abbrev pub SendsReplies : LogOutcome → LogOutcome → Output → Output → Type 0
 SendsReplies (Ok done) outcome middle written = (outcome ≡ Ok tt) × (written ≡ middle)
 SendsReplies (Err fault) outcome middle written =
     ((outcome ≡ Err fault) × Sent [] middle written)
     ⊎ ((outcome ≡ Err (Kept (Device failed.Output))) × CutOff [] middle written)
 
 -- a log was followed from its first entry on by a machine in memory, and all that it answered was passed on, or the output failed
-pub record FollowsMemory (outcome : Outcome) (profile : Profile) (clients_max : ℕ) (first last : Input) (start written : Output) : Type 0 where
+pub record FollowsMemory (outcome : LogOutcome) (profile : Profile) (clients_max : ℕ) (first last : Input) (start written : Output) : Type 0 where
   pub result : Result ℕ LogFault
   pub middle : Output
   pub followed : Followed profile clients_max result first last start middle
   pub passed : IfOk result (λ position. middle.held ≡ false)
-  pub sends : SendsReplies (memory_outcome (failed_pipe first.failed last.failed) result) outcome middle written
+  pub sends : SendsReplies (outcome_by (item_fault (failed_pipe first.failed last.failed)) result) outcome middle written

@@ -1,49 +1,73 @@
 -- What is written of the entries of a log above a commit number, or of all, as the file grows.
 use Rattle.std.specs.Prelude.{ℕ, ◌≡◌, ◌⊎◌, Bool, true, List, [], Option, Result, Ok, Err}
+use Rattle.tb_keep_commands.specs.Streams.{Change, new, old}
 use Rattle.tb_records.specs.Transport.{Output, Sent, CutOff}
+use Rattle.tb_records.specs.declared.devices.Sink as sinks
 use Rattle.tb_journal.specs.Growing.{Later}
 use Rattle.tb_journal.specs.Scans.{HasRead, ScanState}
 use Rattle.tb_machine.specs.Histories.{State, start}
 use Rattle.tb_keep.specs.declared.recovering.Rules.{Rules}
 use Rattle.tb_keep_log.specs.declared.faults.DumpLogFault.{DumpLogFault}
 use Rattle.tb_keep_log.specs.Dumping.{StopsDump}
-use Rattle.tb_keep_log.specs.Parts.{AreNext, DumpsAll, Halts}
+use Rattle.tb_keep_log.specs.Parts.{AreNext, DumpsAll, HaltsDump}
 use Rattle.tb_keep_commands.specs.declared.faults.Failed.TheVariants.{Output as OutputFailed}
 use Rattle.tb_keep_commands.specs.declared.faults.KeepCommandFault.TheVariants.{Device}
+use Rattle.tb_keep_commands.specs.Ends.{OnWriter}
 use Rattle.tb_keep_commands.specs.Following.{GrowsTo, start_of}
 use Rattle.tb_keep_follow.specs.declared.faults.FollowFault.{FollowFault}
 use Rattle.tb_keep_follow.specs.declared.faults.FollowFault.TheVariants.{Kept}
 use Rattle.tb_keep_commands.specs.declared.following.Part.{Part}
 use Rattle.tb_keep_follow.specs.declared.parts.Reading.{Reading}
 use Rattle.tb_keep_follow.specs.declared.parts.Wanted.{Wanted}
-use Rattle.tb_keep_follow.specs.Faults.{dumped_fault}
+use Rattle.tb_keep_follow.specs.Faults.{dumped_log_fault}
+
+-- which entries of a log are written: those above a commit number, or all; and the rules of the log
+pub record Selection : Type 0 where
+  pub rules : Rules
+  pub above : Option ℕ
+
+abbrev pub selection : Rules → Option ℕ → Selection
+selection rules above = record { rules = rules; above = above }
+
+-- the state after the entries that were read, and what was written, at one moment
+pub record DumpPoint : Type 0 where
+  pub state : State
+  pub sink : Output
+
+abbrev pub dump_point : State → Output → DumpPoint
+dump_point state sink = record { state = state; sink = sink }
+
+-- the records after those that were read were read, and the wanted entries of their pairs went out; or why not, and what did
+abbrev pub DumpsRest : Result (Unit {0}) DumpLogFault → Selection → List (List ℕ) → List ℕ → ScanState → DumpPoint → DumpPoint → Type 0
+DumpsRest result wanted read file scan before after =
+    DumpsAll wanted.above result wanted.rules.profile wanted.rules.clients_max read file scan before.state after.state before.sink after.sink
 
 -- a fault ended the writing: it is named for its cause, and what went out before is that of the first pairs of the file
-pub record Breaks (fault : FollowFault) (above : Option ℕ) (rules : Rules) (S : State) (file : List ℕ) (before written : Output) : Type 0 where
+pub record BreaksLog (fault : FollowFault) (wanted : Selection) (file : List ℕ) (before : DumpPoint) (written : Output) : Type 0 where
   pub cause : DumpLogFault
-  pub named : fault ≡ dumped_fault cause
-  pub stops : StopsDump cause rules.profile rules.clients_max file
-  pub halts : Halts above (AreNext [] file) cause S before written
+  pub named : fault ≡ dumped_log_fault cause
+  pub stops : StopsDump cause wanted.rules.profile wanted.rules.clients_max file
+  pub halts : HaltsDump wanted.above (AreNext [] file) cause before.state before.sink written
 
 -- all of a file was read, the file itself or, where more was waited for, what it had become: it is the one that the device holds at the
 -- end. The entries of its pairs went out, those that are wanted
-pub record Reaches (holds : List ℕ → Type 0) (follows : Bool) (above : Option ℕ) (rules : Rules) (S : State) (file : List ℕ) (before written : Output) : Type 0 where
+pub record ReachesLogEnd (holds : List ℕ → Type 0) (follows : Bool) (wanted : Selection) (file : List ℕ) (before : DumpPoint) (written : Output) : Type 0 where
   pub later : List ℕ
   pub since : GrowsTo follows file later
   pub held : holds later
   pub scan : ScanState
   pub now : State
-  pub dumps : DumpsAll above (Ok tt) rules.profile rules.clients_max [] later scan S now before written
+  pub dumps : DumpsRest (Ok tt) wanted [] later scan before (dump_point now written)
 
 -- or a fault ended that
-pub record BreaksOff (fault : FollowFault) (follows : Bool) (above : Option ℕ) (rules : Rules) (S : State) (file : List ℕ) (before written : Output) : Type 0 where
+pub record BreaksOffLog (fault : FollowFault) (follows : Bool) (wanted : Selection) (file : List ℕ) (before : DumpPoint) (written : Output) : Type 0 where
   pub later : List ℕ
   pub since : GrowsTo follows file later
-  pub breaks : Breaks fault above rules S later before written
+  pub breaks : BreaksLog fault wanted later before written
 
-abbrev pub EndsRounds : (List ℕ → Type 0) → Result (Unit {0}) FollowFault → Bool → Option ℕ → Rules → State → List ℕ → Output → Output → Type 0
-EndsRounds holds (Ok done) follows above rules S file before written = Reaches holds follows above rules S file before written
-EndsRounds holds (Err fault) follows above rules S file before written = BreaksOff fault follows above rules S file before written
+abbrev pub EndsLogRounds : (List ℕ → Type 0) → Result (Unit {0}) FollowFault → Bool → Selection → List ℕ → DumpPoint → Output → Type 0
+EndsLogRounds holds (Ok done) follows wanted file before written = ReachesLogEnd holds follows wanted file before written
+EndsLogRounds holds (Err fault) follows wanted file before written = BreaksOffLog fault follows wanted file before written
 
 -- a dump's head, or nothing, went out; or the output failed
 abbrev pub HeadGoes : List ℕ → Result (Unit {0}) FollowFault → Output → Output → Type 0
@@ -51,77 +75,85 @@ HeadGoes head (Ok done) before written = Sent head before written
 HeadGoes head (Err fault) before written = (fault ≡ Kept (Device OutputFailed)) × CutOff head before written
 
 -- a head went out where all entries are written, and then the entries
-pub record WritesEntries (holds : List ℕ → Type 0) (result : Result (Unit {0}) FollowFault) (follows : Bool) (above : Option ℕ) (rules : Rules) (file : List ℕ) (before written : Output) : Type 0 where
+pub record WritesLogEntries (holds : List ℕ → Type 0) (result : Result (Unit {0}) FollowFault) (follows : Bool) (wanted : Selection) (file : List ℕ) (before written : Output) : Type 0 where
   pub headed : Output
-  pub head : Sent (start_of above rules) before headed
-  pub entries : EndsRounds holds result follows above rules (start rules.profile rules.clients_max) file headed written
+  pub head : Sent (start_of wanted.above wanted.rules) before headed
+  pub entries : EndsLogRounds holds result follows wanted file (dump_point (start wanted.rules.profile wanted.rules.clients_max) headed) written
 
 -- or no entry was, by a fault
-abbrev pub WritesNone : Result (Unit {0}) FollowFault → Option ℕ → Rules → Output → Output → Type 0
-WritesNone (Ok done) above rules before written = ⊥
-WritesNone (Err fault) above rules before written = (written ≡ before) ⊎ HeadGoes (start_of above rules) (Err fault) before written
+abbrev pub WritesNone : Result (Unit {0}) FollowFault → Selection → Output → Output → Type 0
+WritesNone (Ok done) wanted before written = ⊥
+WritesNone (Err fault) wanted before written = (written ≡ before) ⊎ HeadGoes (start_of wanted.above wanted.rules) (Err fault) before written
 
-abbrev pub WritesPart : (List ℕ → Type 0) → Result (Unit {0}) FollowFault → Bool → Option ℕ → Rules → List ℕ → Output → Output → Type 0
-WritesPart holds result follows above rules file before written =
-    WritesEntries holds result follows above rules file before written ⊎ WritesNone result above rules before written
+abbrev pub WritesLogPart : (List ℕ → Type 0) → Result (Unit {0}) FollowFault → Bool → Selection → List ℕ → Output → Output → Type 0
+WritesLogPart holds result follows wanted file before written =
+    WritesLogEntries holds result follows wanted file before written ⊎ WritesNone result wanted before written
 
 -- what private functions alone cite
 
 -- a file that has grown meanwhile was read to its end, and the wanted entries of its pairs were written
-pub record Grown (holds : List ℕ → Type 0) (above : Option ℕ) (rules : Rules) (S : State) (file : List ℕ) (scan : ScanState) (now : State) (before written : Output) : Type 0 where
+pub record WritesGrownLog (holds : List ℕ → Type 0) (wanted : Selection) (file : List ℕ) (scan : ScanState) (before after : DumpPoint) : Type 0 where
   pub later : List ℕ
   pub since : Later file later
   pub held : holds later
-  pub dumps : DumpsAll above (Ok tt) rules.profile rules.clients_max [] later scan S now before written
+  pub dumps : DumpsRest (Ok tt) wanted [] later scan before after
 
 -- one more round
-abbrev pub GrowsBy : (List ℕ → Type 0) → Result (Unit {0}) FollowFault → Option ℕ → Rules → State → List ℕ → ScanState → State → Output → Output → Type 0
-GrowsBy holds (Ok done) above rules S file scan now before written = Grown holds above rules S file scan now before written
-GrowsBy holds (Err fault) above rules S file scan now before written = BreaksOff fault true above rules S file before written
+abbrev pub GrowsLogBy : (List ℕ → Type 0) → Result (Unit {0}) FollowFault → Selection → List ℕ → ScanState → DumpPoint → DumpPoint → Type 0
+GrowsLogBy holds (Ok done) wanted file scan before after = WritesGrownLog holds wanted file scan before after
+GrowsLogBy holds (Err fault) wanted file scan before after = BreaksOffLog fault true wanted file before after.sink
 
 -- the records behind those that were read were read, and the wanted entries of their pairs written; or a fault ended that
-abbrev pub SendsRound : Result (Unit {0}) FollowFault → Option ℕ → Rules → List (List ℕ) → List ℕ → ScanState → State → State → Output → Output → Type 0
-SendsRound (Ok done) above rules read file scan S T before written = DumpsAll above (Ok tt) rules.profile rules.clients_max read file scan S T before written
-SendsRound (Err fault) above rules read file scan S T before written =
-    (cause : DumpLogFault) × (fault ≡ dumped_fault cause) × DumpsAll above (Err cause) rules.profile rules.clients_max read file scan S T before written
+abbrev pub SendsLogRound : Result (Unit {0}) FollowFault → Selection → List (List ℕ) → List ℕ → ScanState → DumpPoint → DumpPoint → Type 0
+SendsLogRound (Ok done) wanted read file scan before after = DumpsRest (Ok tt) wanted read file scan before after
+SendsLogRound (Err fault) wanted read file scan before after =
+    (cause : DumpLogFault) × (fault ≡ dumped_log_fault cause) × DumpsRest (Err cause) wanted read file scan before after
 
-module _ {D W : Type 0} (holds : D → List ℕ → Type 0) (output : W → Output) where
-  module _ (wanted : Wanted) where
+abbrev pub selected : Wanted → Selection
+selected wanted = selection wanted.rules wanted.above
+
+-- how far a log was read, and what was written
+abbrev pub point_at : {W : Type 0} → sinks.Ghosts W → Reading → W → DumpPoint
+point_at sink reading writer = dump_point reading.machine (sink.output writer)
+
+module _ {D W : Type 0} (holds : D → List ℕ → Type 0) (sink : sinks.Ghosts W) where
+  module _ (wanted : Wanted) (result : Result (Unit {0}) FollowFault) where
     -- of whatever file a device holds, and of which some records were read
-    abbrev pub SendsRest : Result (Unit {0}) FollowFault → Reading → Reading → D → W → W → Type 0
-    SendsRest result reading later device writer after =
-        (file : List ℕ) (read : List (List ℕ)) → holds device file → HasRead read file reading.scan
-        → SendsRound result wanted.above wanted.rules read file later.scan reading.machine later.machine (output writer) (output after)
+    abbrev pub SendsRestOfLog : Change Reading → Change D → Change W → Type 0
+    SendsRestOfLog reading device writer =
+        (file : List ℕ) (read : List (List ℕ)) → holds (old device) file → HasRead read file (old reading).scan
+        → SendsLogRound result (selected wanted) read file (new reading).scan (point_at sink (old reading) (old writer)) (point_at sink (new reading) (new writer))
 
     -- one more round, behind those that wrote what went out so far
-    abbrev pub SendsMore : Result (Unit {0}) FollowFault → Reading → Reading → D → D → W → W → Type 0
-    SendsMore result reading later device left writer after =
-        (S : State) (file : List ℕ) (before : Output)
-        → Grown (holds device) wanted.above wanted.rules S file reading.scan reading.machine before (output writer)
-        → GrowsBy (holds left) result wanted.above wanted.rules S file later.scan later.machine before (output after)
+    abbrev pub SendsMoreOfLog : Change Reading → Change D → Change W → Type 0
+    SendsMoreOfLog reading device writer =
+        (file : List ℕ) (before : DumpPoint)
+        → WritesGrownLog (holds (old device)) (selected wanted) file (old reading).scan before (point_at sink (old reading) (old writer))
+        → GrowsLogBy (holds (new device)) result (selected wanted) file (new reading).scan before (point_at sink (new reading) (new writer))
 
     -- all that are left
-    abbrev pub SendsOn : Result (Unit {0}) FollowFault → Reading → D → D → W → W → Type 0
-    SendsOn result reading device left writer after =
-        (S : State) (file : List ℕ) (before : Output)
-        → Grown (holds device) wanted.above wanted.rules S file reading.scan reading.machine before (output writer)
-        → EndsRounds (holds left) result true wanted.above wanted.rules S file before (output after)
+    abbrev pub SendsOnLog : Change Reading → Change D → Change W → Type 0
+    SendsOnLog reading device writer =
+        (file : List ℕ) (before : DumpPoint)
+        → WritesGrownLog (holds (old device)) (selected wanted) file (old reading).scan before (point_at sink (old reading) (old writer))
+        → EndsLogRounds (holds (new device)) result true (selected wanted) file before (sink.output (new writer))
 
     -- of which nothing was read
-    abbrev pub SendsUnread : Bool → Result (Unit {0}) FollowFault → Reading → D → D → W → W → Type 0
-    SendsUnread follows result reading device left writer after =
-        (file : List ℕ) → holds device file → HasRead [] file reading.scan
-        → EndsRounds (holds left) result follows wanted.above wanted.rules reading.machine file (output writer) (output after)
+    abbrev pub SendsUnreadLog : Bool → Change Reading → Change D → Change W → Type 0
+    SendsUnreadLog follows reading device writer =
+        (file : List ℕ) → holds (old device) file → HasRead [] file (old reading).scan
+        → EndsLogRounds (holds (new device)) result follows (selected wanted) file (point_at sink (old reading) (old writer)) (sink.output (new writer))
 
   module _ (rules : Rules) (part : Part) (result : Result (Unit {0}) FollowFault) where
-    abbrev pub WritesUnread : Reading → D → D → W → W → Type 0
-    WritesUnread reading device left writer after =
-        (file : List ℕ) → holds device file → HasRead [] file reading.scan → reading.machine ≡ start rules.profile rules.clients_max
-        → WritesPart (holds left) result part.follows part.after rules file (output writer) (output after)
+    abbrev pub WritesUnreadLog : Change Reading → Change D → Change W → Type 0
+    WritesUnreadLog reading device writer =
+        (file : List ℕ) → holds (old device) file → HasRead [] file (old reading).scan → (old reading).machine ≡ start rules.profile rules.clients_max
+        → OnWriter sink (WritesLogPart (holds (new device)) result part.follows (selection rules part.after) file) writer
 
-    abbrev pub WritesHeld : D → D → W → W → Type 0
-    WritesHeld device left writer after =
-        (file : List ℕ) → holds device file → WritesPart (holds left) result part.follows part.after rules file (output writer) (output after)
+    abbrev pub WritesHeldLog : Change D → Change W → Type 0
+    WritesHeldLog device writer =
+        (file : List ℕ) → holds (old device) file
+        → OnWriter sink (WritesLogPart (holds (new device)) result part.follows (selection rules part.after) file) writer
 
 -- a reading of which nothing was read, of the file of a device
 pub record IsUnread {D : Type 0} (holds : D → List ℕ → Type 0) (rules : Rules) (device : D) (reading : Reading) : Type 0 where

@@ -1,7 +1,8 @@
 //! What is in a log's file.
 ghost use Rattle.std.specs.Prelude.{◌≡◌};
+ghost use Rattle.tb_keep_commands.specs.Ends.{OnDevice, outcome_by};
 ghost use Rattle.tb_keep_commands.specs.Outcomes.{PrintsText};
-ghost use Rattle.tb_keep_follow.specs.Checks.{ChecksFileOn, ChecksFoundOn, ChecksLongOn, log_summary_of, log_summary_text, printed_outcome};
+ghost use Rattle.tb_keep_follow.specs.Checks.{ChecksLogFile, ChecksFound, ChecksLongLog, log_summary_of, log_summary_text};
 
 use crate::faults::FollowFault;
 use crate::heads::find_rules;
@@ -72,7 +73,7 @@ fn report<W: Sink>(
 
 /// What becomes of a check.
 pub(crate) fn printed_outcome(printed: Result<(), KeepCommandFault>) -> Result<(), FollowFault>
-    ensures { result ≡ printed_outcome printed }
+    ensures { result ≡ outcome_by FollowFault.Kept printed }
 {
     match printed {
         Ok(()) => Ok(()),
@@ -83,17 +84,16 @@ pub(crate) fn printed_outcome(printed: Result<(), KeepCommandFault>) -> Result<(
 /// Reads a whole log's file of so many bytes, and writes what is in it.
 fn check_long<D: Device, W: Sink>(
     alloc: Global,
-    rules: Rules,
+    rules: &Rules,
     device: &mut D,
     len: usize,
     writer: &mut W,
 ) -> Result<(), FollowFault>
-    ensures { ChecksLongOn D.Device W.output len result rules device.old device.new writer.old writer.new }
+    ensures { OnDevice W.Sink (ChecksLongLog D.Device len result rules.now) device writer }
 {
-    let same = rules;
-    match check_log(alloc, same, device) {
+    match check_log(alloc, rules, device) {
         Ok(reached) => {
-            printed_outcome(report(alloc, LogSummary::of(rules, reached, len), writer))
+            printed_outcome(report(alloc, LogSummary::of(*rules, reached, len), writer))
         }
         Err(fault) => Err(named(alloc, device, fault)),
     }
@@ -102,11 +102,11 @@ fn check_long<D: Device, W: Sink>(
 /// Reads a whole log's file, and writes what is in it, and how many bytes are behind that in the file by now.
 fn check_file<D: Live, W: Sink>(
     alloc: Global,
-    rules: Rules,
+    rules: &Rules,
     device: &mut D,
     writer: &mut W,
 ) -> Result<(), FollowFault>
-    ensures { ChecksFileOn D.Device W.output D.whole result rules device.old device.new writer.old writer.new }
+    ensures { OnDevice W.Sink (ChecksLogFile D.Device D.whole result rules.now) device writer }
 {
     match device.file_len() {
         Ok(len) => check_long(alloc, rules, device, len, writer),
@@ -120,10 +120,10 @@ pub(crate) fn check_found<D: Live, W: Sink>(
     device: &mut D,
     writer: &mut W,
 ) -> Result<(), FollowFault>
-    ensures { ChecksFoundOn D.Device W.output D.whole result device.old device.new writer.old writer.new }
+    ensures { OnDevice W.Sink (ChecksFound D.Device D.whole result) device writer }
 {
     match find_rules(device) {
-        Ok(rules) => check_file(alloc, rules, device, writer),
+        Ok(rules) => check_file(alloc, &rules, device, writer),
         Err(fault) => Err(FollowFault::Kept(fault)),
     }
 }

@@ -1,8 +1,10 @@
 //! The forms over a log, over what opens devices, any reader and any writer.
 ghost use Rattle.std.specs.Prelude.{◌≡◌};
-ghost use Rattle.tb_keep_follow.specs.Checks.{ChecksOver};
-ghost use Rattle.tb_keep_follow.specs.Copies.{CopiesOver};
-ghost use Rattle.tb_keep_follow.specs.Outcomes.{DumpsOver, FollowsOn, FollowsOpenedOn, named_by};
+ghost use Rattle.tb_keep_commands.specs.Ends.{kept_file};
+ghost use Rattle.tb_keep_commands.specs.Outcomes.{named_by};
+ghost use Rattle.tb_keep_follow.specs.Checks.{ChecksLogOver};
+ghost use Rattle.tb_keep_follow.specs.Copies.{CopiesLogOver};
+ghost use Rattle.tb_keep_follow.specs.Outcomes.{DumpsLogOver, FollowsOn, FollowsOpenedOn};
 
 use crate::checking::check_found;
 use crate::copying::copy_found;
@@ -18,7 +20,7 @@ use tb_records::{Sink, Source};
 
 /// The outcome of following, of which a fault has the name of the reason, where one is known.
 fn named_by(reason: Option<Reason>, followed: Result<(), FollowFault>) -> Result<(), FollowFault>
-    ensures { result ≡ named_by reason followed }
+    ensures { result ≡ named_by FollowFault.Kept reason followed }
 {
     match (reason, followed) {
         (Some(reason), Err(_)) => Err(FollowFault::Kept(reason_fault(reason))),
@@ -37,8 +39,7 @@ fn follow_opened<O: Opener, R: Source, W: Outlet, E: Sink>(
     writer: &mut W,
     faults: &mut E,
 ) -> Result<(), FollowFault>
-    ensures { FollowsOpenedOn ⟦<O as Ends<R, W, E>>⟧.its existing rules path.now opener.old opener.new result
-        reader.old reader.new writer.old writer.new faults.old faults.new }
+    ensures { FollowsOpenedOn ⟦<O as Ends<R, W, E>>⟧.its (kept_file path.now existing rules) result opener reader writer faults }
 {
     match made_by(opener, path, existing) {
         Ok(device) => follow(alloc, rules, device, path, existing, reader, writer, faults),
@@ -57,8 +58,7 @@ pub(crate) fn follow_over<O: Opener, R: Source, W: Outlet, E: Sink>(
     writer: &mut W,
     faults: &mut E,
 ) -> Result<(), FollowFault>
-    ensures { FollowsOn ⟦<O as Ends<R, W, E>>⟧.its existing rules path.now opener.old opener.new result
-        reader.old reader.new writer.old writer.new faults.old faults.new }
+    ensures { FollowsOn ⟦<O as Ends<R, W, E>>⟧.its (kept_file path.now existing rules) result opener reader writer faults }
 {
     let followed = follow_opened(alloc, opener, rules, path, existing, reader, writer, faults);
     let reason = opener.reason();
@@ -73,7 +73,7 @@ pub(crate) fn dump_over<O: Opener, W: Outlet>(
     writer: &mut W,
     part: Part,
 ) -> Result<(), FollowFault>
-    ensures { DumpsOver O.Reading.Device (O.opens opener.old path.now) opener.new (O.ended opener.new) part.after part.follows result
+    ensures { DumpsLogOver O.Reading.Device (O.opens opener.old path.now) opener.new (O.ended opener.new) part.after part.follows result
         (W.output writer.old) (W.output writer.new) }
 {
     let opened = opener.open(path);
@@ -95,7 +95,7 @@ pub(crate) fn check_over<O: Opener, W: Outlet>(
     path: &str,
     writer: &mut W,
 ) -> Result<(), FollowFault>
-    ensures { ChecksOver O.Reading.Device O.Reading.whole (O.opens opener.old path.now) opener.new result (W.output writer.old) (W.output writer.new) }
+    ensures { ChecksLogOver O.Reading.Device O.Reading.whole (O.opens opener.old path.now) opener.new result (W.output writer.old) (W.output writer.new) }
 {
     let found = opener.open(path);
     match found {
@@ -118,7 +118,7 @@ pub(crate) fn copy_over<O: Opener, W: Outlet>(
     whole: bool,
     writer: &mut W,
 ) -> Result<(), FollowFault>
-    ensures { CopiesOver ⟦<O as Files>⟧.its new.now whole path.now result opener.old opener.new (W.output writer.old) (W.output writer.new) }
+    ensures { CopiesLogOver ⟦<O as Files>⟧.its new.now whole path.now result opener.old opener.new (W.output writer.old) (W.output writer.new) }
 {
     let read = opener.open(path);
     match read {

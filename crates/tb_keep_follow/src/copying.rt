@@ -1,8 +1,11 @@
 //! A log's file copied into a new one: what can be read of it, or where it is whole.
 ghost use Rattle.std.specs.Prelude.{◌≡◌, true};
+ghost use Rattle.tb_journal.specs.Ready.{IsReady};
+ghost use Rattle.tb_keep_log.specs.Copying.{reads_on};
+ghost use Rattle.tb_keep_commands.specs.Copies.{refused_by};
+ghost use Rattle.tb_keep_commands.specs.Ends.{OnDevice, OnWriter, known_reading};
 ghost use Rattle.tb_keep_commands.specs.Outcomes.{PrintsText};
-ghost use Rattle.tb_keep_follow.specs.Checks.{printed_outcome};
-ghost use Rattle.tb_keep_follow.specs.Copies.{CopiesBegunOn, CopiesFileOn, CopiesFoundOn, CopiesLongOn, CopiesMendedOn, CopiesRefusedOn, EndsCopyOn, IsBegun, MakesCopyOn, NotesMendedOn, is_mended, log_copied_of, log_copied_text, log_damage_of, refused_by, uncopied_fault};
+ghost use Rattle.tb_keep_follow.specs.Copies.{CopiesBegunOn, CopiesLog, CopiesFoundOn, CopiesLongLog, CopiesMendedLogOn, CopiesRefusedLogOn, EndsLog, EndsTaken, IsBegun, MakesLogCopyOn, NotesMendedLog, RescuesLog, is_log_mended, log_copied_of, log_copied_text, log_damage_of, log_rescued_of, log_rescued_text, uncopied_fault};
 
 use crate::checking::printed_outcome;
 use crate::faults::{FollowFault, journal_fault, started_fault};
@@ -13,10 +16,13 @@ use std::{fmt, format};
 use tb_journal::{Device, OpenFault, Refusal, Scan};
 use tb_keep::Rules;
 use tb_keep_commands::{
-    Copied, Damage, Failed, Files, KeepCommandFault, Live, Mended, Opener, disk_fault, new_fault,
-    opened_fault, print_mended,
+    Copied, Damage, Failed, Files, KeepCommandFault, Live, Mended, Opener, Rescued, disk_fault,
+    new_fault, opened_fault, print_mended,
 };
-use tb_keep_log::{CopiedLog, CopyLogFault, LogStartFault, NotCopiedLog, copy_log};
+use tb_keep_log::{
+    CopiedLog, CopyLogFault, LogReadOn, LogStartFault, NotCopiedLog, copy_log, read_log_on,
+    reads_on,
+};
 use tb_records::{Sink, put_all};
 
 /// What was copied of a log's file.
@@ -72,6 +78,50 @@ impl fmt::Display for LogCopied {
     }
 }
 
+/// What was copied of a log's file, and read on behind its damage.
+#[derive(Clone, Copy)]
+pub struct LogRescued {
+    /// What there is to say of each file.
+    pub rescued: Rescued,
+    /// The position of the last entry.
+    pub position: u64,
+}
+
+impl LogRescued {
+    /// What is reported where so much was read on behind what was copied.
+    fn of(it: LogCopied, on: LogReadOn) -> LogRescued
+        ensures { result ≡ log_rescued_of it on }
+    {
+        let LogReadOn { reached, on } = on;
+        let copied = it.copied;
+        LogRescued {
+            rescued: Rescued {
+                copied: Copied {
+                    entries: reached.commit,
+                    time: reached.time,
+                    end: copied.end,
+                    behind: copied.behind.saturating_sub(on.bytes),
+                    damage: copied.damage,
+                },
+                more: reached.commit.saturating_sub(copied.entries),
+                first: on.first,
+            },
+            position: reached.position,
+        }
+    }
+}
+
+impl fmt::Display for LogRescued {
+    ghost use Rattle.std.specs.Prelude.{Some};
+    ghost use Rattle.tb_keep_follow.specs.Copies.{log_rescued_text};
+
+    ghost output = { λ rescued. Some (log_rescued_text rescued) };
+
+    fn fmt<W: fmt::Write>(&self, f: &mut fmt::Formatter<W>) -> fmt::Result {
+        write!(f, "{}position {}\n", self.rescued, self.position)
+    }
+}
+
 /// Writes what was copied.
 fn report<W: Sink>(alloc: Global, copied: LogCopied, writer: &mut W) -> Result<(), KeepCommandFault>
     ensures { PrintsText (log_copied_text copied) result (W.output writer.old) (W.output writer.new) }
@@ -101,7 +151,7 @@ fn end_copy<D: Device, N: Device + Drop, W: Sink>(
     whole: bool,
     writer: &mut W,
 ) -> Result<(), FollowFault>
-    ensures { EndsCopyOn D.Device W.output len whole copied result from.old from.new writer.old writer.new }
+    ensures { OnDevice W.Sink (EndsTaken D.Device len whole copied result) from writer }
 {
     let it = LogCopied::of(&copied, len);
     let stop = copied.stop;
@@ -122,8 +172,78 @@ fn uncopied_fault(fault: CopyLogFault) -> FollowFault
     }
 }
 
+/// Writes what was copied, and read on behind the damage.
+fn report_rescued<W: Sink>(
+    alloc: Global,
+    rescued: LogRescued,
+    writer: &mut W,
+) -> Result<(), KeepCommandFault>
+    ensures { PrintsText (log_rescued_text rescued) result (W.output writer.old) (W.output writer.new) }
+{
+    match format!(in alloc; "{rescued}") {
+        Ok(text) => match put_all(writer, text.as_bytes()) {
+            Ok(()) => Ok(()),
+            Err(_) => Err(KeepCommandFault::Device(Failed::Output)),
+        },
+        Err(_) => Err(KeepCommandFault::NoMemory),
+    }
+}
+
+/// Reads a log's file of so many bytes on behind what was copied of it, and writes what was taken over.
+fn rescue<D: Live, N: Device + Drop, W: Sink>(
+    alloc: Global,
+    rules: &Rules,
+    from: &mut D,
+    copied: CopiedLog<N>,
+    len: usize,
+    writer: &mut W,
+) -> Result<(), FollowFault>
+    requires usable { copied.journal.usable ≡ true }
+    requires ready { N.tells → IsReady N.disk copied.journal }
+    ensures { OnDevice W.Sink (RescuesLog D.Device D.whole N.Device len rules.now copied result) from writer }
+{
+    let it = LogCopied::of(&copied, len);
+    let mut copied = copied;
+    from.look_behind();
+    let extent = copied.reached.extent;
+    let (follower, journal) = (&mut copied.follower, &mut copied.journal);
+    match read_log_on(alloc, rules, follower, journal, from, extent) {
+        Ok(on) => {
+            drop(copied);
+            printed_outcome(report_rescued(alloc, LogRescued::of(it, on), writer))
+        }
+        Err(fault) => {
+            drop(copied);
+            Err(uncopied_fault(fault))
+        }
+    }
+}
+
+/// Ends the copy of a file that is to be whole, and reads any other on, if its follower can go on.
+fn end_by<D: Live, N: Device + Drop, W: Sink>(
+    alloc: Global,
+    rules: &Rules,
+    from: &mut D,
+    copied: CopiedLog<N>,
+    len: usize,
+    whole: bool,
+    writer: &mut W,
+) -> Result<(), FollowFault>
+    requires usable { copied.journal.usable ≡ true }
+    requires ready { N.tells → IsReady N.disk copied.journal }
+    ensures { OnDevice W.Sink (EndsLog D.Device D.whole N.Device whole (reads_on copied.stop) len rules.now copied result) from writer }
+{
+    if whole {
+        return end_copy(alloc, from, copied, len, true, writer);
+    }
+    if reads_on(copied.stop) {
+        return rescue(alloc, rules, from, copied, len, writer);
+    }
+    end_copy(alloc, from, copied, len, false, writer)
+}
+
 /// Copies a log's file of so many bytes into a new one.
-fn copy_long<D: Device, N: Device + Drop, W: Sink>(
+fn copy_long<D: Live, N: Device + Drop, W: Sink>(
     alloc: Global,
     rules: Rules,
     from: &mut D,
@@ -133,10 +253,10 @@ fn copy_long<D: Device, N: Device + Drop, W: Sink>(
     writer: &mut W,
 ) -> Result<(), FollowFault>
     requires { N.tells → (N.disk into).sound ≡ true }
-    ensures { CopiesLongOn D.Device N.Device W.output len whole result rules into from.old from.new writer.old writer.new }
+    ensures { OnDevice W.Sink (CopiesLongLog D.Device D.whole N.Device len whole result rules into) from writer }
 {
-    match copy_log(alloc, rules, from, into) {
-        Ok(copied) => end_copy(alloc, from, copied, len, whole, writer),
+    match copy_log(alloc, &rules, from, into) {
+        Ok(copied) => end_by(alloc, &rules, from, copied, len, whole, writer),
         Err(failed) => {
             let NotCopiedLog { device, fault } = failed;
             drop(device);
@@ -145,8 +265,8 @@ fn copy_long<D: Device, N: Device + Drop, W: Sink>(
     }
 }
 
-/// Copies a log's file into a new one, and writes what was copied. One that is to be whole is refused where it is damaged: the new one then
-/// has what is before that.
+/// Copies a log's file into a new one, up to its first damage and then each next entry behind it, and writes what was copied. One that is to
+/// be whole is refused where it is damaged: the new one then has what is before that.
 fn copy_file<D: Live, N: Device + Drop, W: Sink>(
     alloc: Global,
     rules: Rules,
@@ -156,7 +276,7 @@ fn copy_file<D: Live, N: Device + Drop, W: Sink>(
     writer: &mut W,
 ) -> Result<(), FollowFault>
     requires { N.tells → (N.disk into).sound ≡ true }
-    ensures { CopiesFileOn D.Device D.whole N.Device W.output whole result rules into from.old from.new writer.old writer.new }
+    ensures { OnDevice W.Sink (CopiesLog D.Device D.whole N.Device whole result rules into) from writer }
 {
     match from.file_len() {
         Ok(len) => copy_long(alloc, rules, from, len, into, whole, writer),
@@ -177,7 +297,7 @@ fn copy_made<O: Opener, D: Live, W: Sink>(
     whole: bool,
     writer: &mut W,
 ) -> Result<(), FollowFault>
-    ensures { MakesCopyOn ⟦<O as Files>⟧.its D.Device D.whole W.output new.now whole rules result opener.old opener.new from.old from.new writer.old writer.new }
+    ensures { MakesLogCopyOn ⟦<O as Files>⟧.its new.now W.Sink (known_reading D.Device D.whole) whole rules result opener from writer }
 {
     let made = opener.make_new(new);
     match made {
@@ -201,7 +321,7 @@ fn begun<D: Device>(alloc: Global, device: &mut D) -> Result<(), OpenFault>
 
 /// Says whether a file that does not begin as a journal is read as one whatever its first bytes are.
 fn is_mended(whole: bool, fault: OpenFault) -> bool
-    ensures { result ≡ is_mended whole fault }
+    ensures { result ≡ is_log_mended whole fault }
 {
     match fault {
         OpenFault::Refused(Refusal::NotAJournal) => !whole,
@@ -211,7 +331,7 @@ fn is_mended(whole: bool, fault: OpenFault) -> bool
 
 /// Reports of a file that was copied that its first bytes are not a journal's.
 fn note_mended<W: Sink>(copied: Result<(), FollowFault>, writer: &mut W) -> Result<(), FollowFault>
-    ensures { NotesMendedOn W.output copied result writer.old writer.new }
+    ensures { OnWriter W.Sink (NotesMendedLog copied result) writer }
 {
     match copied {
         Ok(()) => printed_outcome(print_mended(writer)),
@@ -228,7 +348,7 @@ fn copy_mended<O: Opener, W: Sink>(
     new: &str,
     writer: &mut W,
 ) -> Result<(), FollowFault>
-    ensures { CopiesMendedOn ⟦<O as Files>⟧.its W.output new.now rules result opener.old opener.new from writer.old writer.new }
+    ensures { CopiesMendedLogOn ⟦<O as Files>⟧.its new.now W.Sink rules result opener from writer }
 {
     let mut from = from;
     from.look_behind();
@@ -249,7 +369,7 @@ fn copy_refused<O: Opener, W: Sink>(
     whole: bool,
     writer: &mut W,
 ) -> Result<(), FollowFault>
-    ensures { CopiesRefusedOn ⟦<O as Files>⟧.its W.output new.now whole fault rules result opener.old opener.new from writer.old writer.new }
+    ensures { CopiesRefusedLogOn ⟦<O as Files>⟧.its new.now W.Sink whole fault rules result opener from writer }
 {
     if is_mended(whole, fault) {
         return copy_mended(alloc, opener, rules, from, new, writer);
@@ -268,7 +388,7 @@ fn copy_begun<O: Opener, W: Sink>(
     whole: bool,
     writer: &mut W,
 ) -> Result<(), FollowFault>
-    ensures { CopiesBegunOn ⟦<O as Files>⟧.its W.output new.now whole rules result opener.old opener.new from writer.old writer.new }
+    ensures { CopiesBegunOn ⟦<O as Files>⟧.its new.now W.Sink whole rules result opener from writer }
 {
     let mut from = from;
     match begun(alloc, &mut from) {
@@ -290,7 +410,7 @@ pub(crate) fn copy_found<O: Opener, W: Sink>(
     whole: bool,
     writer: &mut W,
 ) -> Result<(), FollowFault>
-    ensures { CopiesFoundOn ⟦<O as Files>⟧.its W.output new.now whole result opener.old opener.new from writer.old writer.new }
+    ensures { CopiesFoundOn ⟦<O as Files>⟧.its new.now W.Sink whole result opener from writer }
 {
     let mut from = from;
     match find_rules(&mut from) {

@@ -1,6 +1,8 @@
 //! The history of a log as a dump.
 ghost use Rattle.std.specs.Prelude.{◌≡◌};
-ghost use Rattle.tb_keep_follow.specs.Outcomes.{DumpsReadOn, DumpsFileOn, DumpsLaterOn, DumpsPartOn, DumpsFoundOn, dumped_outcome};
+ghost use Rattle.tb_keep_commands.specs.Ends.{OnDevice, outcome_by};
+ghost use Rattle.tb_keep_follow.specs.Faults.{dumped_log_fault};
+ghost use Rattle.tb_keep_follow.specs.Outcomes.{DumpsRead, DumpsLogFile, DumpsLaterOf, DumpsPartOf, DumpsFoundOf};
 
 use crate::faults::{FollowFault, dumped_fault};
 use crate::heads::find_rules;
@@ -15,7 +17,7 @@ use tb_records::Sink;
 
 /// What becomes of a dump.
 fn dumped_outcome(dumped: Result<(), DumpLogFault>) -> Result<(), FollowFault>
-    ensures { result ≡ dumped_outcome dumped }
+    ensures { result ≡ outcome_by dumped_log_fault dumped }
 {
     match dumped {
         Ok(()) => Ok(()),
@@ -26,11 +28,11 @@ fn dumped_outcome(dumped: Result<(), DumpLogFault>) -> Result<(), FollowFault>
 /// Writes the dump of a file that was read.
 fn dump_read<D: Device, W: Sink>(
     alloc: Global,
-    rules: Rules,
+    rules: &Rules,
     device: &mut D,
     writer: &mut W,
 ) -> Result<(), FollowFault>
-    ensures { DumpsReadOn D.Device W.output result rules device.old device.new writer.old writer.new }
+    ensures { OnDevice W.Sink (DumpsRead D.Device result rules.now) device writer }
 {
     dumped_outcome(write_log_dump(alloc, device, rules, writer))
 }
@@ -38,14 +40,13 @@ fn dump_read<D: Device, W: Sink>(
 /// Writes the history of a log as a dump, without positions. The file is read twice: before anything is written all of it was read.
 fn dump<D: Device, W: Sink>(
     alloc: Global,
-    rules: Rules,
+    rules: &Rules,
     device: &mut D,
     writer: &mut W,
 ) -> Result<(), FollowFault>
-    ensures { DumpsFileOn D.Device W.output result rules device.old device.new writer.old writer.new }
+    ensures { OnDevice W.Sink (DumpsLogFile D.Device result rules.now) device writer }
 {
-    let same = rules;
-    match check_log(alloc, same, device) {
+    match check_log(alloc, rules, device) {
         Ok(_reached) => dump_read(alloc, rules, device, writer),
         Err(fault) => Err(named(alloc, device, fault)),
     }
@@ -55,15 +56,14 @@ fn dump<D: Device, W: Sink>(
 fn dump_later<O: Opener, W: Outlet>(
     alloc: Global,
     opener: &O,
-    rules: Rules,
+    rules: &Rules,
     device: &mut O::Reading,
     writer: &mut W,
     part: Part,
 ) -> Result<(), FollowFault>
-    ensures { DumpsLaterOn O.Reading.Device W.output (O.ended opener.now) part result rules device.old device.new writer.old writer.new }
+    ensures { OnDevice W.Sink (DumpsLaterOf O.Reading.Device (O.ended opener.now) part result rules.now) device writer }
 {
-    let same = rules;
-    match check_log(alloc, same, device) {
+    match check_log(alloc, rules, device) {
         Ok(_reached) => write_part(alloc, opener, rules, device, writer, part),
         Err(why) => Err(named(alloc, device, why)),
     }
@@ -73,12 +73,12 @@ fn dump_later<O: Opener, W: Outlet>(
 fn dump_part<O: Opener, W: Outlet>(
     alloc: Global,
     opener: &O,
-    rules: Rules,
+    rules: &Rules,
     device: &mut O::Reading,
     writer: &mut W,
     part: Part,
 ) -> Result<(), FollowFault>
-    ensures { DumpsPartOn O.Reading.Device W.output (O.ended opener.now) part result rules device.old device.new writer.old writer.new }
+    ensures { OnDevice W.Sink (DumpsPartOf O.Reading.Device (O.ended opener.now) part result rules.now) device writer }
 {
     match (part.after, part.follows) {
         (None, false) => dump(alloc, rules, device, writer),
@@ -94,10 +94,10 @@ pub(crate) fn dump_found<O: Opener, W: Outlet>(
     writer: &mut W,
     part: Part,
 ) -> Result<(), FollowFault>
-    ensures { DumpsFoundOn O.Reading.Device W.output (O.ended opener.now) part result device.old device.new writer.old writer.new }
+    ensures { OnDevice W.Sink (DumpsFoundOf O.Reading.Device (O.ended opener.now) part result) device writer }
 {
     match find_rules(device) {
-        Ok(rules) => dump_part(alloc, opener, rules, device, writer, part),
+        Ok(rules) => dump_part(alloc, opener, &rules, device, writer, part),
         Err(fault) => Err(FollowFault::Kept(fault)),
     }
 }

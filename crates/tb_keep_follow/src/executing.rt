@@ -1,7 +1,7 @@
 //! Each form, over what opens devices, any reader and any writer, and the exit status of each outcome.
 ghost use Rattle.std.specs.Prelude.{◌≡◌, ◌||◌};
 ghost use Rattle.tb_keep.specs.Reading.{rules_of};
-ghost use Rattle.tb_keep_follow.specs.Exits.{ExitsOn, Finishes, PerformsOn};
+ghost use Rattle.tb_keep_follow.specs.Exits.{ExitsOn, FinishesOutput, PerformsFormOn};
 
 use crate::by_file::{check, copy, dump, over_ledger, over_log};
 use crate::commands::follow_over;
@@ -59,8 +59,7 @@ fn perform<O: Looker, R: Source, W: Outlet, E: Sink>(
     writer: &mut W,
     faults: &mut E,
 ) -> Result<(), CommandFault>
-    ensures { PerformsOn ⟦<O as Ends<R, W, E>>⟧.its O.looks ends command.now opener.old opener.new result
-        reader.old reader.new writer.old writer.new faults.old faults.new }
+    ensures { PerformsFormOn ⟦<O as Ends<R, W, E>>⟧.its O.looks ends command.now result opener reader writer faults }
 {
     let (path, new) = (command.file, command.new);
     match command.form {
@@ -94,7 +93,7 @@ fn perform<O: Looker, R: Source, W: Outlet, E: Sink>(
 
 /// Sends what a writer holds back where all was done.
 fn finish<W: Outlet>(done: Result<(), CommandFault>, writer: &mut W) -> Result<(), CommandFault>
-    ensures { Finishes (W.gone writer.new) done result (W.output writer.old) (W.output writer.new) }
+    ensures { FinishesOutput (W.gone writer.new) done result (W.output writer.old) (W.output writer.new) }
 {
     match done {
         Ok(()) => match writer.finish() {
@@ -116,8 +115,7 @@ pub fn execute<O: Looker, R: Source, W: Outlet, E: Sink>(
     writer: &mut W,
     faults: &mut E,
 ) -> u8
-    ensures { ExitsOn ⟦<O as Ends<R, W, E>>⟧.its O.looks ends command.now opener.old opener.new result
-        reader.old reader.new writer.old writer.new faults.old faults.new }
+    ensures { ExitsOn ⟦<O as Ends<R, W, E>>⟧.its O.looks ends command.now result opener reader writer faults }
 {
     let done = perform(alloc, opener, command, ends, reader, writer, faults);
     match finish(done, writer) {

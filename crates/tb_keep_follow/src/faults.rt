@@ -1,6 +1,6 @@
 //! Why a command ends with an exit status other than 0.
 ghost use Rattle.std.specs.Prelude.{◌≡◌, ◌<◌};
-ghost use Rattle.tb_keep_follow.specs.Faults.{command_exit_status, command_path, journal_fault, started_fault, item_fault, kept_fault, dumped_fault, follow_exit_status, follow_path};
+ghost use Rattle.tb_keep_follow.specs.Faults.{command_exit_status, command_path, journal_fault, started_log_fault, item_fault, kept_log_fault, dumped_log_fault, follow_exit_status, follow_path};
 
 use tb_journal::{OpenFault, Refusal};
 use tb_keep_commands::{Damage, Failed, KeepCommandFault, Kind, disk_fault, opened_fault};
@@ -40,7 +40,7 @@ pub(crate) fn journal_fault(fault: OpenFault) -> KeepCommandFault
 
 /// The fault of a file that is not read or opened as a kept log.
 pub(crate) fn started_fault(fault: LogStartFault) -> FollowFault
-    ensures { result ≡ started_fault fault }
+    ensures { result ≡ started_log_fault fault }
 {
     match fault {
         LogStartFault::Journal(fault) => FollowFault::Kept(journal_fault(fault)),
@@ -69,7 +69,7 @@ pub(crate) fn item_fault(fault: LogFault, pipe: Failed) -> FollowFault
 
 /// The fault that a log ends with, where this pipe failed if one did.
 pub(crate) fn kept_fault(fault: KeepLogFault, pipe: Failed) -> FollowFault
-    ensures { result ≡ kept_fault pipe fault }
+    ensures { result ≡ kept_log_fault pipe fault }
 {
     match fault {
         KeepLogFault::Log(fault) => item_fault(fault, pipe),
@@ -79,7 +79,7 @@ pub(crate) fn kept_fault(fault: KeepLogFault, pipe: Failed) -> FollowFault
 
 /// The fault of a dump that is not written.
 pub(crate) fn dumped_fault(fault: DumpLogFault) -> FollowFault
-    ensures { result ≡ dumped_fault fault }
+    ensures { result ≡ dumped_log_fault fault }
 {
     match fault {
         DumpLogFault::Start(fault) => started_fault(fault),

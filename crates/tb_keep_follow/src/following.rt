@@ -1,9 +1,11 @@
 //! A log followed over a device.
 ghost use Rattle.std.specs.Prelude.{◌≡◌, true, IfOk};
 ghost use Rattle.tb_journal.specs.Ready.{IsReady};
-ghost use Rattle.tb_keep_log.specs.Keeping.{IsUsable};
-ghost use Rattle.tb_keep_commands.specs.Ends.{On};
-ghost use Rattle.tb_keep_follow.specs.Outcomes.{FollowsKept, FollowsLong, FollowsFile, StartsBy, HandsBy, IsAside, kept_outcome};
+ghost use Rattle.tb_keep_log.specs.Keeping.{IsUsableLog};
+ghost use Rattle.tb_keep_commands.specs.Streams.{OnStreams};
+ghost use Rattle.tb_keep_commands.specs.Ends.{kept_file, outcome_by};
+ghost use Rattle.tb_keep_follow.specs.Faults.{kept_log_fault};
+ghost use Rattle.tb_keep_follow.specs.Outcomes.{FollowsKept, FollowsLong, FollowsFile, StartsLogBy, HandsLogBy, IsLogAside};
 
 use crate::faults::{FollowFault, kept_fault};
 use crate::lines::print_wanted;
@@ -18,7 +20,7 @@ use tb_records::{Sink, Source};
 
 /// What is reported of a log that ended so.
 fn kept_outcome(kept: Result<u64, KeepLogFault>, pipe: Failed) -> Result<(), FollowFault>
-    ensures { result ≡ kept_outcome pipe kept }
+    ensures { result ≡ outcome_by (kept_log_fault pipe) kept }
 {
     match kept {
         Ok(_) => Ok(()),
@@ -37,10 +39,9 @@ fn keep<D: Device + Drop, A: Allocator + Clone, R: Source, W: Sink, E: Sink>(
     writer: &mut W,
     faults: &mut E,
 ) -> Result<(), FollowFault>
-    requires usable { IsUsable keeper }
+    requires usable { IsUsableLog keeper }
     requires ready { D.tells → IsReady D.disk keeper.journal }
-    ensures { On R.Source W.Sink E.Sink (FollowsKept D.Device result keeper path.now len)
-        reader.old reader.new writer.old writer.new faults.old faults.new }
+    ensures { OnStreams R.Source W.Sink E.Sink (FollowsKept D.Device result keeper path.now len) reader writer faults }
 {
     let mut keeper = keeper;
     let cut = keeper.cut_bytes();
@@ -62,10 +63,10 @@ fn started<D: Device, A: Allocator + Copy>(
     rules: Rules,
     existing: bool,
 ) -> Result<LogKeeper<D, A>, NotStarted<D>>
-    ensures starts { D.tells → StartsBy D.Device existing result rules device }
-    ensures handed { HandsBy D.Device existing result rules device }
-    ensures aside { IsAside D.Device result device }
-    ensures usable { IfOk result IsUsable }
+    ensures starts { D.tells → StartsLogBy D.Device existing result rules device }
+    ensures handed { HandsLogBy D.Device existing result rules device }
+    ensures aside { IsLogAside D.Device result device }
+    ensures usable { IfOk result IsUsableLog }
     ensures ready { D.tells → (D.disk device).sound ≡ true → IfOk result (λ keeper. IsReady D.disk keeper.journal) }
 {
     if existing {
@@ -89,8 +90,8 @@ fn start<D: Device + Drop, A: Allocator + Copy, R: Source, W: Sink, E: Sink>(
     faults: &mut E,
 ) -> Result<(), FollowFault>
     requires { D.tells → (D.disk device).sound ≡ true }
-    ensures { On R.Source W.Sink E.Sink (FollowsLong D.Device result rules path.now existing len device)
-        reader.old reader.new writer.old writer.new faults.old faults.new }
+    ensures { OnStreams R.Source W.Sink E.Sink (FollowsLong D.Device result (kept_file path.now existing rules) len device)
+        reader writer faults }
 {
     match started(alloc, pool, device, rules, existing) {
         Ok(keeper) => keep(alloc, keeper, path, len, reader, writer, faults),
@@ -116,8 +117,8 @@ pub(crate) fn follow<D: Device + Drop, R: Source, W: Sink, E: Sink>(
     faults: &mut E,
 ) -> Result<(), FollowFault>
     requires { D.tells → (D.disk device).sound ≡ true }
-    ensures { On R.Source W.Sink E.Sink (FollowsFile D.Device result rules path.now existing device)
-        reader.old reader.new writer.old writer.new faults.old faults.new }
+    ensures { OnStreams R.Source W.Sink E.Sink (FollowsFile D.Device result (kept_file path.now existing rules) device)
+        reader writer faults }
 {
     let mut device = device;
     match device.len() {

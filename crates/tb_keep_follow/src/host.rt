@@ -1,6 +1,6 @@
 //! The way from a program's input and output to a command.
 ghost use Rattle.std.specs.Prelude.{◌≡◌};
-ghost use Rattle.tb_keep_follow.specs.Hosts.{input_size, output_size, HostedOn, ServesOn};
+ghost use Rattle.tb_keep_follow.specs.Hosts.{input_size, output_size, HostedOn, ServesStreamsOn};
 
 use crate::executing::{Terminals, execute};
 use crate::heads::Looker;
@@ -65,7 +65,7 @@ pub fn serve<O: Looker, R: Read + Drop, W: Write + Drop, E: Sink>(
     output: W,
     faults: &mut E,
 ) -> u8
-    ensures { ServesOn ⟦<O as Files>⟧.its O.looks ends command.now R.remaining W.contents E.Sink
+    ensures { ServesStreamsOn ⟦<O as Files>⟧.its O.looks ends command.now R.remaining W.contents E.Sink
         opener.old opener.new result input output faults.old faults.new }
 {
     let (held_in, held_out) = capacities(command.form);

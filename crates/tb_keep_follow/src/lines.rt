@@ -1,7 +1,7 @@
 //! The lines of standard error.
 ghost use Rattle.std.specs.Prelude.{◌≡◌};
 ghost use Rattle.tb_keep_commands.specs.ExitStatuses.{SaysLine};
-ghost use Rattle.tb_keep_follow.specs.Faults.{command_line, damage_in, kept_line, entry_line, hashes_line, no_entry_line, place_of, item_line, follow_line, wanted_line};
+ghost use Rattle.tb_keep_follow.specs.Faults.{command_line, damage_in, next_of_log, kept_line, entry_line, hashes_line, no_entry_line, place_of, item_line, follow_line, wanted_line};
 
 use crate::faults::{CommandFault, FollowFault};
 use tb_keep_commands::{
@@ -26,12 +26,20 @@ fn place_of(fault: LogFault) -> u64
     }
 }
 
+/// What is reported of an item that ends before its last byte.
+const CUT_ITEM: &str = "standard input ends within an item; those before it were answered";
+
+/// What is reported of bytes of standard input that are no item.
+const NO_ITEM: &str = "standard input goes on with no item; those before it were answered";
+
 /// Reports what is wrong with an item, and where.
 fn print_item<E: Sink>(fault: LogFault, faults: &mut E)
     ensures { SaysLine (item_line fault) (E.output faults.old) (E.output faults.new) }
 {
     match fault {
-        LogFault::UnknownKind(kind) => print_number("tbd: UnknownKind ", kind as u64, faults),
+        LogFault::UnknownKind(kind) => {
+            print_place("tbd: UnknownKind ", kind as u64, NO_ITEM, faults)
+        }
         LogFault::Gap(at) => print_number("tbd: Gap at ", at, faults),
         LogFault::Repeat(at) => print_number("tbd: Repeat at ", at, faults),
         LogFault::TooLong(at) => print_number("tbd: TooLong at ", at, faults),
@@ -40,7 +48,7 @@ fn print_item<E: Sink>(fault: LogFault, faults: &mut E)
         LogFault::BadEntry(at, fault) => {
             print_place("tbd: BadEntry at ", at, fault.name(), faults)
         }
-        LogFault::Short => print_text("tbd: ", "Short", faults),
+        LogFault::Short => print_text("tbd: Short: ", CUT_ITEM, faults),
         LogFault::TooMany => print_text("tbd: ", "TooMany", faults),
         LogFault::Device => print_text("tbd: ", "Device", faults),
         LogFault::NoMemory => print_text("tbd: ", "NoMemory", faults),
@@ -55,6 +63,27 @@ const OTHER: &str = " was made with another profile or number of clients";
 
 /// What is to be done about damage.
 const NEXT_STEP: &str = "; tbd salvage makes a new file of the entries before it";
+
+/// What is to be done about damage of a log's first entry.
+const RESTORE: &str = "; restore a backup: no entry is before it";
+
+/// What is to be done about damage of a log's file.
+fn next_of_log(damage: Damage) -> &'static str
+    ensures { result.now ≡ next_of_log damage }
+{
+    match damage {
+        Damage::Block {
+            entry: Some(entry),
+            ..
+        } => {
+            if entry == 1 {
+                return RESTORE;
+            }
+            NEXT_STEP
+        }
+        _ => NEXT_STEP,
+    }
+}
 
 /// What is damaged, if that is the fault.
 fn damage_in(fault: KeepCommandFault) -> Option<Damage>
@@ -71,7 +100,7 @@ fn print_kept<E: Sink>(fault: KeepCommandFault, path: &str, faults: &mut E)
     ensures { SaysLine (kept_line fault path.now) (E.output faults.old) (E.output faults.new) }
 {
     match damage_in(fault) {
-        Some(damage) => print_damage(damage, path, NEXT_STEP, faults),
+        Some(damage) => print_damage(damage, path, next_of_log(damage), faults),
         None => tb_keep_commands::print_fault(fault, path, faults),
     }
 }

@@ -1,6 +1,8 @@
 //! A log followed with the ledger in memory.
 ghost use Rattle.std.specs.Prelude.{◌≡◌};
-ghost use Rattle.tb_keep_follow.specs.Memory.{FollowsMemory, SendsReplies, memory_outcome};
+ghost use Rattle.tb_keep_commands.specs.Ends.{outcome_by};
+ghost use Rattle.tb_keep_follow.specs.Faults.{item_fault};
+ghost use Rattle.tb_keep_follow.specs.Memory.{FollowsMemory, SendsReplies};
 
 use crate::faults::{FollowFault, item_fault};
 use std::alloc::Global;
@@ -11,7 +13,7 @@ use tb_records::{Sink, Source};
 
 /// How a log ended, where this pipe failed if one did.
 fn memory_outcome(followed: Result<u64, LogFault>, pipe: Failed) -> Result<(), FollowFault>
-    ensures { result ≡ memory_outcome pipe followed }
+    ensures { result ≡ outcome_by (item_fault pipe) followed }
 {
     match followed {
         Ok(_) => Ok(()),

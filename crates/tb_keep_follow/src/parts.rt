@@ -1,7 +1,7 @@
 //! The entries of a log above a commit number, or all, written as the file grows.
 ghost use Rattle.std.specs.Prelude.{◌≡◌, true, ℕ, List, IfOk, OnOk};
 ghost use Rattle.tb_keep_commands.specs.Following.{start_of};
-ghost use Rattle.tb_keep_follow.specs.Parts.{HeadGoes, SendsMore, SendsOn, SendsRest, SendsUnread, IsUnread, WritesHeld, WritesUnread};
+ghost use Rattle.tb_keep_follow.specs.Parts.{HeadGoes, SendsMoreOfLog, SendsOnLog, SendsRestOfLog, SendsUnreadLog, IsUnread, WritesHeldLog, WritesUnreadLog};
 
 use crate::faults::{FollowFault, dumped_fault};
 use std::alloc::Global;
@@ -42,11 +42,11 @@ fn send_round<D: Device, W: Outlet>(
     device: &mut D,
     writer: &mut W,
 ) -> Result<(), FollowFault>
-    ensures sends { SendsRest D.holds W.output wanted.now result reading.old reading.new device.old writer.old writer.new }
+    ensures sends { SendsRestOfLog D.holds W.Sink wanted.now result reading device writer }
     ensures gone { IfOk result (λ _. W.gone writer.new) }
     ensures same { (file : List ℕ) → D.holds device.old file → D.holds device.new file }
 {
-    let (rules, above) = (wanted.rules, wanted.above);
+    let (rules, above) = (&wanted.rules, wanted.above);
     let machine = &mut reading.machine;
     let scan = &mut reading.scan;
     match write_log_entries(global, rules, machine, above, scan, device, writer) {
@@ -66,7 +66,7 @@ fn send_more<D: Live, W: Outlet>(
     device: &mut D,
     writer: &mut W,
 ) -> Result<(), FollowFault>
-    ensures sends { SendsMore D.holds W.output wanted.now result reading.old reading.new device.old device.new writer.old writer.new }
+    ensures sends { SendsMoreOfLog D.holds W.Sink wanted.now result reading device writer }
     ensures gone { IfOk result (λ _. W.gone writer.new) }
 {
     match device.refresh() {
@@ -87,7 +87,7 @@ fn send_on<O: Opener, W: Outlet>(
     device: &mut O::Reading,
     writer: &mut W,
 ) -> Result<(), FollowFault>
-    ensures sends { SendsOn O.Reading.holds W.output wanted.now result reading.old device.old device.new writer.old writer.new }
+    ensures sends { SendsOnLog O.Reading.holds W.Sink wanted.now result reading device writer }
     ensures ends { OnOk result (O.ended opener.now) }
 {
     for _ in 0..u64::MAX {
@@ -113,7 +113,7 @@ fn send_entries<O: Opener, W: Outlet>(
     writer: &mut W,
     follows: bool,
 ) -> Result<(), FollowFault>
-    ensures sends { SendsUnread O.Reading.holds W.output wanted.now follows result reading.old device.old device.new writer.old writer.new }
+    ensures sends { SendsUnreadLog O.Reading.holds W.Sink wanted.now result follows reading device writer }
     ensures ends { follows ≡ true → OnOk result (O.ended opener.now) }
 {
     match send_round(global, wanted, reading, device, writer) {
@@ -129,8 +129,8 @@ fn send_entries<O: Opener, W: Outlet>(
 }
 
 /// Writes the head of a dump of these rules, where all entries are written.
-fn send_start<W: Sink>(writer: &mut W, rules: Rules, after: Option<u64>) -> Result<(), FollowFault>
-    ensures { HeadGoes (start_of after rules) result (W.output writer.old) (W.output writer.new) }
+fn send_start<W: Sink>(writer: &mut W, rules: &Rules, after: Option<u64>) -> Result<(), FollowFault>
+    ensures { HeadGoes (start_of after rules.now) result (W.output writer.old) (W.output writer.new) }
 {
     if after.is_some() {
         return Ok(());
@@ -149,20 +149,19 @@ fn send_start<W: Sink>(writer: &mut W, rules: Rules, after: Option<u64>) -> Resu
 fn send_part<O: Opener, W: Outlet>(
     global: Global,
     opener: &O,
-    rules: Rules,
+    rules: &Rules,
     reading: &mut Reading,
     device: &mut O::Reading,
     writer: &mut W,
     part: Part,
 ) -> Result<(), FollowFault>
-    ensures writes { WritesUnread O.Reading.holds W.output rules part result reading.old device.old device.new writer.old writer.new }
+    ensures writes { WritesUnreadLog O.Reading.holds W.Sink rules.now part result reading device writer }
     ensures ends { part.follows ≡ true → OnOk result (O.ended opener.now) }
 {
-    let same = rules;
-    match send_start(writer, same, part.after) {
+    match send_start(writer, rules, part.after) {
         Ok(()) => {
             let wanted = Wanted {
-                rules,
+                rules: *rules,
                 above: part.after,
             };
             send_entries(
@@ -180,11 +179,10 @@ fn send_part<O: Opener, W: Outlet>(
 }
 
 /// A reading of a log of these rules, of which nothing was read.
-fn unread<D: Device>(global: Global, rules: Rules, device: &mut D) -> Result<Reading, FollowFault>
-    ensures state { IfOk result (IsUnread D.holds rules device.old) }
+fn unread<D: Device>(global: Global, rules: &Rules, device: &mut D) -> Result<Reading, FollowFault>
+    ensures state { IfOk result (IsUnread D.holds rules.now device.old) }
     ensures same { (file : List ℕ) → D.holds device.old file → D.holds device.new file }
 {
-    let _clients = rules.clients_max.get();
     let Ok(machine) = Machine::new_in(global, global, rules.profile, rules.clients_max) else {
         return Err(dumped_fault(DumpLogFault::NoMemory));
     };
@@ -201,16 +199,15 @@ fn unread<D: Device>(global: Global, rules: Rules, device: &mut D) -> Result<Rea
 pub(crate) fn write_part<O: Opener, W: Outlet>(
     global: Global,
     opener: &O,
-    rules: Rules,
+    rules: &Rules,
     device: &mut O::Reading,
     writer: &mut W,
     part: Part,
 ) -> Result<(), FollowFault>
-    ensures writes { WritesHeld O.Reading.holds W.output rules part result device.old device.new writer.old writer.new }
+    ensures writes { WritesHeldLog O.Reading.holds W.Sink rules.now part result device writer }
     ensures ends { part.follows ≡ true → OnOk result (O.ended opener.now) }
 {
-    let same = rules;
-    match unread(global, same, device) {
+    match unread(global, rules, device) {
         Ok(reading) => {
             let mut reading = reading;
             let written = send_part(global, opener, rules, &mut reading, device, writer, part);

@@ -12,19 +12,19 @@ use Rattle.tb_keep.specs.Recovering.{torn_bytes}
 use Rattle.tb_keep_log.specs.declared.checking.Reached.{Reached}
 use Rattle.tb_keep_log.specs.declared.faults.LogStartFault.{LogStartFault}
 use Rattle.tb_keep_log.specs.declared.faults.LogStartFault.TheVariants as start
-use Rattle.tb_keep_log.specs.Checking.{ChecksLog, IsTornStop, reached_by}
-use Rattle.tb_keep_log.specs.Rereading.{HasLogCause, IsRestored, IsTornTooLong}
+use Rattle.tb_keep_log.specs.Checking.{ChecksLog, IsTornLogStop, reached_by}
+use Rattle.tb_keep_log.specs.Rereading.{HasLogCause, IsFollowerRestored, IsLogTornTooLong}
 use Rattle.tb_keep_log.specs.private.CopySteps.{EndsShort, IsOfTorn, ended}
-use Rattle.tb_keep_log.specs.private.Steps.{IsOfDevice}
+use Rattle.tb_keep_log.specs.private.Steps.{IsOfLogDevice}
 
 -- too many torn bytes
-pub torn_told : (file : List ℕ) (extent : Extent) (torn : ℕ) → extent_of (contents file) ≡ Ok extent → torn ≡ torn_bytes file → 2 ^ 24 + 11 < torn → IsTornTooLong extent.end torn file
+pub torn_told : (file : List ℕ) (extent : Extent) (torn : ℕ) → extent_of (contents file) ≡ Ok extent → torn ≡ torn_bytes file → 2 ^ 24 + 11 < torn → IsLogTornTooLong extent.end torn file
 torn_told file extent torn found is many =
     let told = is_told (contents file) extent found in
     record { reads = told.reads; place = told.end; torn = is; many = many }
 
 -- a file that ends there is refused for nothing else
-pub torn_end : (stop : LogStartFault) (reached : Reached) (file : List ℕ) → IsTornStop (Some stop) file → EndsShort (Err stop) reached file
+pub torn_end : (stop : LogStartFault) (reached : Reached) (file : List ℕ) → IsTornLogStop (Some stop) file → EndsShort (Err stop) reached file
 torn_end (start.TornTooLong at bytes) reached file torn = torn
 torn_end (start.Journal fault) reached file torn = absurd torn
 torn_end start.Plain reached file torn = absurd torn
@@ -34,7 +34,7 @@ torn_end (start.Entry fault) reached file torn = absurd torn
 torn_end (start.OtherHashes position) reached file torn = absurd torn
 torn_end start.NoMemory reached file torn = absurd torn
 
-pub device_end : (fault : LogStartFault) (reached : Reached) (file : List ℕ) → IsOfDevice fault → EndsShort (Err fault) reached file
+pub device_end : (fault : LogStartFault) (reached : Reached) (file : List ℕ) → IsOfLogDevice fault → EndsShort (Err fault) reached file
 device_end (start.Journal (open_faults.Device fault)) reached file is = tt
 device_end (start.Journal (open_faults.Refused why)) reached file is = absurd is
 device_end start.Plain reached file is = absurd is
@@ -45,7 +45,7 @@ device_end (start.OtherHashes position) reached file is = absurd is
 device_end start.NoMemory reached file is = absurd is
 device_end (start.TornTooLong at bytes) reached file is = absurd is
 
-pub short_end : (stop : Option LogStartFault) (reached : Reached) (file : List ℕ) → IsTornStop stop file → EndsShort (ended stop reached) reached file
+pub short_end : (stop : Option LogStartFault) (reached : Reached) (file : List ℕ) → IsTornLogStop stop file → EndsShort (ended stop reached) reached file
 short_end None reached file torn = (refl, torn)
 short_end (Some stop) reached file torn = torn_end stop reached file torn
 
@@ -60,7 +60,7 @@ ended_cause (Some (start.Entry fault)) reached before after is none = absurd is
 ended_cause (Some (start.OtherHashes position)) reached before after is none = absurd is
 ended_cause (Some start.NoMemory) reached before after is none = absurd is
 
-module _ (profile : Profile) (clients_max : ℕ) (file : List ℕ) (F : Following) (extent : Extent) (restored : IsRestored profile clients_max file F extent) where
+module _ (profile : Profile) (clients_max : ℕ) (file : List ℕ) (F : Following) (extent : Extent) (restored : IsFollowerRestored profile clients_max file F extent) where
   -- what was read is what is in it, or a start refuses it
   pub checks_end : (result : Result Reached LogStartFault) → EndsShort result (reached_by F extent) file → ChecksLog result profile clients_max file
   checks_end (Ok found) (is, few) = rw is record { last = F; restored = restored; reached_is = refl; few = few }

@@ -9,7 +9,7 @@ use Rattle.tb_journal.specs.declared.reading.Refusal.TheVariants as refusals
 use Rattle.tb_journal.specs.Device.{Disk, FailsNone}
 use Rattle.tb_journal.specs.Contents.{Records, contents}
 use Rattle.tb_journal.specs.Ready.{Kept, IsReady}
-use Rattle.tb_journal.specs.Scans.{BeginsWith, HasRead, ScanState, ReadsNext, IsAt}
+use Rattle.tb_journal.specs.Scans.{BeginsWith, HasRead, ScanState, ReadsNextRecord, IsAt}
 use Rattle.tb_journal.proofs.Causes.{none_since}
 use Rattle.tb_log.specs.Following.{Following, Item, Entry, Question, with_item, after_items, AllAnswered}
 use Rattle.tb_log.specs.Follows.{ItemFits}
@@ -21,18 +21,18 @@ use Rattle.tb_keep_log.specs.declared.faults.CopyLogFault.{CopyLogFault}
 use Rattle.tb_keep_log.specs.declared.faults.CopyLogFault.TheVariants.{Old, New}
 use Rattle.tb_keep_log.specs.declared.faults.LogStartFault.{LogStartFault}
 use Rattle.tb_keep_log.specs.declared.faults.LogStartFault.TheVariants as start
-use Rattle.tb_keep_log.specs.Checking.{IsTornStop}
-use Rattle.tb_keep_log.specs.Copying.{StopsBehind, IsUncopied, old_part}
-use Rattle.tb_keep_log.specs.Keeping.{Leads, records_from}
-use Rattle.tb_keep_log.specs.Rereading.{HasLogCause, IsLogCause, StopsAt}
-use Rattle.tb_keep_log.specs.private.CopySteps.{stop_of, of_old, StopsAfter, StopsBy, TakesRecord, Taken, HaltsCopy, TakesNext, TakesAll, TakesWhole, IsUntaken, TakesPart}
+use Rattle.tb_keep_log.specs.Checking.{IsTornLogStop}
+use Rattle.tb_keep_log.specs.Copying.{StopsCopyBehind, IsUncopied, old_log_part, reads_on}
+use Rattle.tb_keep_log.specs.Keeping.{Leads, item_records}
+use Rattle.tb_keep_log.specs.Rereading.{HasLogCause, IsLogCause, StopsFollowerAt}
+use Rattle.tb_keep_log.specs.private.CopySteps.{log_stop_of, of_old_log, StaysUnread, EndsUnread, StopsAfterRecords, StopsCopyBy, CopiesRecord, TakenOver, HaltsCopy, CopiesNext, CopiesAllRecords, TakesWhole, IsRecordUntaken, TakesPart}
 use Rattle.tb_keep_log.proofs.Entering.{has_log_then, record_cause}
 use Rattle.tb_keep_log.proofs.Leading.{leads_none, leads_one, leads_then}
 
 -- some first records lead to a place too
 
 module _ (profile : Profile) (clients_max : ℕ) where
-  first_by : (items : List Item) (F T : Following) (some rest : List (List ℕ)) → Each ItemFits items → AllAnswered F items → some ++ rest ≡ records_from profile clients_max F items
+  first_by : (items : List Item) (F T : Following) (some rest : List (List ℕ)) → Each ItemFits items → AllAnswered F items → some ++ rest ≡ item_records profile clients_max F items
       → T ≡ after_items F items → (U : Following) × Leads profile clients_max F some U
   first_by items F T [] rest fit answered spelled now = (F, leads_none profile clients_max F)
   first_by [] F T (x ∷ xs) rest fit answered spelled now = absurd (cc)
@@ -60,7 +60,7 @@ module _ (profile : Profile) (clients_max : ℕ) where
 
 module _ (tells : Type 0) {N : Type 0} (disk : N → Disk) (profile : Profile) (clients_max : ℕ) (holds : List ℕ → Type 0) where
   pub taken_none : (place : ScanState) (F : Following) (journal : Kept N) → (tells → Latest (disk journal.device)) → journal.usable ≡ true → (tells → IsReady disk journal)
-      → Taken tells disk profile clients_max holds [] place place F F journal journal
+      → TakenOver tells disk profile clients_max holds [] place place F F journal journal
   taken_none place F journal now usable ready = record {
     leads = leads_none profile clients_max F;
     usable = usable;
@@ -68,8 +68,8 @@ module _ (tells : Type 0) {N : Type 0} (disk : N → Disk) (profile : Profile) (
     read = λ file read of has. subst (λ (r : List (List ℕ)). HasRead r file place) (sym (append-nil read)) has;
   }
 
-  pub taken_then : (xs ys : List (List ℕ)) (p q r : ScanState) (F G H : Following) (a b c : Kept N) → Taken tells disk profile clients_max holds xs p q F G a b
-      → Taken tells disk profile clients_max holds ys q r G H b c → Taken tells disk profile clients_max holds (xs ++ ys) p r F H a c
+  pub taken_then : (xs ys : List (List ℕ)) (p q r : ScanState) (F G H : Following) (a b c : Kept N) → TakenOver tells disk profile clients_max holds xs p q F G a b
+      → TakenOver tells disk profile clients_max holds ys q r G H b c → TakenOver tells disk profile clients_max holds (xs ++ ys) p r F H a c
   taken_then xs ys p q r F G H a b c one two = record {
     leads = leads_then profile clients_max F G H xs ys one.leads two.leads;
     usable = two.usable;
@@ -80,8 +80,8 @@ module _ (tells : Type 0) {N : Type 0} (disk : N → Disk) (profile : Profile) (
 -- one record
 
 module _ (profile : Profile) (clients_max : ℕ) where
-  stops_after : (fault : LogStartFault) (read : List (List ℕ)) (F : Following) (file bytes : List ℕ) → BeginsWith (read ++ bytes ∷ []) file → StopsAt fault profile clients_max F bytes
-      → StopsAfter fault profile clients_max read F file
+  stops_after : (fault : LogStartFault) (read : List (List ℕ)) (F : Following) (file bytes : List ℕ) → BeginsWith (read ++ bytes ∷ []) file → StopsFollowerAt fault profile clients_max F bytes
+      → StopsAfterRecords fault profile clients_max read F file
   stops_after (start.Journal f) read F file bytes begins stops = absurd stops
   stops_after start.Plain read F file bytes begins stops = (bytes, begins, stops)
   stops_after start.OtherRules read F file bytes begins stops = (bytes, begins, stops)
@@ -91,45 +91,56 @@ module _ (profile : Profile) (clients_max : ℕ) where
   stops_after start.NoMemory read F file bytes begins stops = tt
   stops_after (start.TornTooLong at n) read F file bytes begins stops = absurd stops
 
-  damage_after : (fault : OpenFault) (read : List (List ℕ)) (F : Following) (file : List ℕ) (old new : ScanState) → HasRead read file old → IsAt old.end fault → ReadsNext (Err fault) read file new
-      → StopsAfter (start.Journal fault) profile clients_max read F file
+  damage_after : (fault : OpenFault) (read : List (List ℕ)) (F : Following) (file : List ℕ) (old new : ScanState) → HasRead read file old → IsAt old.end fault → ReadsNextRecord (Err fault) read file new
+      → StopsAfterRecords (start.Journal fault) profile clients_max read F file
   damage_after (open_faults.Device f) read F file old new has place reads = tt
   damage_after (open_faults.Refused (refusals.Damaged at)) read F file old new has place reads = (reads, place ∙ has.end)
   damage_after (open_faults.Refused refusals.NotAJournal) read F file old new has place reads = absurd place
 
   module _ (tells : Type 0) {N : Type 0} (disk : N → Disk) where
-    pub record_fault : (fault : CopyLogFault) (bytes : List ℕ) (F G : Following) (before after : Kept N) (first last : Disk) → TakesRecord tells disk profile clients_max (Err fault) bytes F G before after
-        → FailsNone first last → HasLogCause (old_part fault) first last
+    pub record_fault : (fault : CopyLogFault) (bytes : List ℕ) (F G : Following) (before after : Kept N) (first last : Disk) → CopiesRecord tells disk profile clients_max (Err fault) bytes F G before after
+        → FailsNone first last → HasLogCause (old_log_part fault) first last
     record_fault (Old fault) bytes F G before after first last takes none = record { ok = tt; cause = record_cause first last fault profile clients_max F bytes takes.0 none }
     record_fault (New fault) bytes F G before after first last takes none = record { ok = none; cause = tt }
 
     module _ (holds : List ℕ → Type 0) (first last : ScanState) (F G : Following) (before after : Kept N) where
-      pub takes_one : (bytes : List ℕ) → TakesRecord tells disk profile clients_max (Ok tt) bytes F G before after
+      pub takes_one : (bytes : List ℕ) → CopiesRecord tells disk profile clients_max (Ok tt) bytes F G before after
           → ((file : List ℕ) (read : List (List ℕ)) → holds file → HasRead read file first → HasRead (read ++ bytes ∷ []) file last)
-          → TakesNext tells disk profile clients_max holds (Ok true) first last F G before after
+          → CopiesNext tells disk profile clients_max holds (Ok true) first last F G before after
       takes_one bytes takes read = (
         bytes,
         record { leads = leads_one profile clients_max bytes F G takes.0; usable = takes.1; queues = takes.2; read = read },
       )
 
-      pub takes_refused : (fault : CopyLogFault) (bytes : List ℕ) → TakesRecord tells disk profile clients_max (Err fault) bytes F G before after
+      pub takes_refused : (fault : CopyLogFault) (bytes : List ℕ) → CopiesRecord tells disk profile clients_max (Err fault) bytes F G before after
           → ((file : List ℕ) (read : List (List ℕ)) → holds file → HasRead read file first → BeginsWith (read ++ bytes ∷ []) file)
-          → TakesNext tells disk profile clients_max holds (Err fault) first last F G before after
+          → CopiesNext tells disk profile clients_max holds (Err fault) first last F G before after
       takes_refused (Old fault) bytes takes begins = (takes.1, λ file read of has. stops_after fault read F file bytes (begins file read of has) takes.0)
       takes_refused (New fault) bytes takes begins = takes
 
+      pub refused_unread : (fault : CopyLogFault) (bytes : List ℕ) → CopiesRecord tells disk profile clients_max (Err fault) bytes F G before after → StaysUnread (Err fault) F G
+      refused_unread (Old (start.Journal f)) bytes takes = absurd takes.0
+      refused_unread (Old start.Plain) bytes takes = tt
+      refused_unread (Old start.OtherRules) bytes takes = tt
+      refused_unread (Old (start.NoEntry last)) bytes takes = tt
+      refused_unread (Old (start.Entry f)) bytes takes = tt
+      refused_unread (Old (start.OtherHashes position)) bytes takes = tt
+      refused_unread (Old start.NoMemory) bytes takes = tt
+      refused_unread (Old (start.TornTooLong at n)) bytes takes = tt
+      refused_unread (New f) bytes takes = tt
+
       pub takes_damage : (fault : OpenFault) (new : ScanState) → after ≡ before → IsAt first.end fault
-          → ((file : List ℕ) (read : List (List ℕ)) → holds file → HasRead read file first → ReadsNext (Err fault) read file new)
-          → TakesNext tells disk profile clients_max holds (Err (Old (start.Journal fault))) first last F G before after
+          → ((file : List ℕ) (read : List (List ℕ)) → holds file → HasRead read file first → ReadsNextRecord (Err fault) read file new)
+          → CopiesNext tells disk profile clients_max holds (Err (Old (start.Journal fault))) first last F G before after
       takes_damage fault new same place reads =
           (same, λ file read of has. damage_after fault read F file first new has place (reads file read of has))
 
 -- one record more, by a device that is still the same
 
 module _ (tells : Type 0) {N : Type 0} (disk : N → Disk) (profile : Profile) (clients_max : ℕ) (holds later : List ℕ → Type 0) (same : (file : List ℕ) → holds file → later file) where
-  pub taken_on : (records : List (List ℕ)) (first here last : ScanState) (F G H : Following) (before mid after : Kept N) → Taken tells disk profile clients_max holds records first here F G before mid
-      → TakesNext tells disk profile clients_max later (Ok true) here last G H mid after
-      → (all : List (List ℕ)) × Taken tells disk profile clients_max holds all first last F H before after
+  pub taken_on : (records : List (List ℕ)) (first here last : ScanState) (F G H : Following) (before mid after : Kept N) → TakenOver tells disk profile clients_max holds records first here F G before mid
+      → CopiesNext tells disk profile clients_max later (Ok true) here last G H mid after
+      → (all : List (List ℕ)) × TakenOver tells disk profile clients_max holds all first last F H before after
   taken_on records first here last F G H before mid after so_far (bytes, next) = (
     records ++ bytes ∷ [],
     taken_then tells disk profile clients_max holds records (bytes ∷ []) first here last F G H before mid after so_far (record {
@@ -149,7 +160,7 @@ module _ (tells : Type 0) {N : Type 0} (disk : N → Disk) (profile : Profile) (
 -- why no more were taken
 
 module _ (profile : Profile) (clients_max : ℕ) (records : List (List ℕ)) (F : Following) (file : List ℕ) where
-  torn_behind : (stop : Option LogStartFault) → contents file ≡ Records records → IsTornStop stop file → StopsBehind stop profile clients_max records F file
+  torn_behind : (stop : Option LogStartFault) → contents file ≡ Records records → IsTornLogStop stop file → StopsCopyBehind stop profile clients_max records F file
   torn_behind None reads torn = (reads, torn)
   torn_behind (Some (start.TornTooLong at bytes)) reads torn = (reads, torn)
   torn_behind (Some (start.Journal f)) reads torn = absurd torn
@@ -160,10 +171,10 @@ module _ (profile : Profile) (clients_max : ℕ) (records : List (List ℕ)) (F 
   torn_behind (Some (start.OtherHashes position)) reads torn = absurd torn
   torn_behind (Some start.NoMemory) reads torn = absurd torn
 
-  behind_as : (fault stop : LogStartFault) → fault ≡ stop → StopsBehind (Some fault) profile clients_max records F file → StopsBehind (Some stop) profile clients_max records F file
-  behind_as fault stop is stops = subst (λ (f : LogStartFault). StopsBehind (Some f) profile clients_max records F file) is stops
+  behind_as : (fault stop : LogStartFault) → fault ≡ stop → StopsCopyBehind (Some fault) profile clients_max records F file → StopsCopyBehind (Some stop) profile clients_max records F file
+  behind_as fault stop is stops = subst (λ (f : LogStartFault). StopsCopyBehind (Some f) profile clients_max records F file) is stops
 
-  own_behind : (fault stop : LogStartFault) → stop_of (Old fault) ≡ Some stop → StopsAfter fault profile clients_max records F file → StopsBehind (Some stop) profile clients_max records F file
+  own_behind : (fault stop : LogStartFault) → log_stop_of (Old fault) ≡ Some stop → StopsAfterRecords fault profile clients_max records F file → StopsCopyBehind (Some stop) profile clients_max records F file
   own_behind (start.Journal (open_faults.Refused why)) stop is stops = behind_as (start.Journal (open_faults.Refused why)) stop (cc) stops
   own_behind start.Plain stop is stops = behind_as start.Plain stop (cc) stops
   own_behind start.OtherRules stop is stops = behind_as start.OtherRules stop (cc) stops
@@ -174,7 +185,7 @@ module _ (profile : Profile) (clients_max : ℕ) (records : List (List ℕ)) (F 
   own_behind start.NoMemory stop is stops = absurd (cc)
   own_behind (start.TornTooLong at bytes) stop is stops = absurd (cc)
 
-  other_behind : (fault : LogStartFault) → stop_of (Old fault) ≡ None → StopsAfter fault profile clients_max records F file → IsUncopied (Old fault) file
+  other_behind : (fault : LogStartFault) → log_stop_of (Old fault) ≡ None → StopsAfterRecords fault profile clients_max records F file → IsUncopied (Old fault) file
   other_behind (start.Journal (open_faults.Device f)) is stops = tt
   other_behind start.NoMemory is stops = tt
   other_behind (start.TornTooLong at bytes) is stops = absurd stops
@@ -187,7 +198,7 @@ module _ (profile : Profile) (clients_max : ℕ) (records : List (List ℕ)) (F 
 
 -- the cause, where it is the file's own
 
-own_none : (before after : Disk) (fault stop : LogStartFault) → stop_of (Old fault) ≡ Some stop → IsLogCause before after fault → FailsNone before after
+own_none : (before after : Disk) (fault stop : LogStartFault) → log_stop_of (Old fault) ≡ Some stop → IsLogCause before after fault → FailsNone before after
 own_none before after (start.Journal (open_faults.Refused why)) stop is cause = cause.1
 own_none before after (start.Journal (open_faults.Device f)) stop is cause = absurd (cc)
 own_none before after start.Plain stop is cause = cause
@@ -199,12 +210,30 @@ own_none before after start.NoMemory stop is cause = cause
 own_none before after (start.TornTooLong at bytes) stop is cause = cause
 
 module _ (tells : Type 0) {N : Type 0} (disk : N → Disk) (profile : Profile) (clients_max : ℕ) (holds later : List ℕ → Type 0) (same : (file : List ℕ) → holds file → later file)
-    (reached : Reached) (first : ScanState) (F : Following) (before mid : Kept N) where
+    (reached : Reached) (first : ScanState) (F G : Following) (before mid : Kept N) where
   abbrev All : Result (Unit {0}) CopyLogFault → Type 0
-  All taken = TakesAll tells disk profile clients_max holds reached taken first F before mid
+  All taken = CopiesAllRecords tells disk profile clients_max holds reached taken first F G before mid
 
-  committed : (records : List (List ℕ)) (here : ScanState) (last : Following) (middle after : Kept N) → Taken tells disk profile clients_max holds records first here F last before middle
-      → mid ≡ middle → Puts disk tells (Ok tt) [] mid after → Taken tells disk profile clients_max holds records first here F last before after
+  unread_by : (fault stop : LogStartFault) (last : Following) → log_stop_of (Old fault) ≡ Some stop → StaysUnread (Err (Old fault)) last G → reads_on (Some stop) ≡ true → G ≡ last
+  unread_by (start.Journal (open_faults.Refused why)) stop last is unread on = unread
+  unread_by (start.Journal (open_faults.Device f)) stop last is unread on = absurd (cc)
+  unread_by start.Plain stop last is unread on = absurd (cc (subst (λ (s : Option LogStartFault). reads_on s ≡ true) (sym is) on))
+  unread_by start.OtherRules stop last is unread on = absurd (cc (subst (λ (s : Option LogStartFault). reads_on s ≡ true) (sym is) on))
+  unread_by (start.NoEntry at) stop last is unread on = absurd (cc (subst (λ (s : Option LogStartFault). reads_on s ≡ true) (sym is) on))
+  unread_by (start.Entry f) stop last is unread on = absurd (cc (subst (λ (s : Option LogStartFault). reads_on s ≡ true) (sym is) on))
+  unread_by (start.OtherHashes position) stop last is unread on = absurd (cc (subst (λ (s : Option LogStartFault). reads_on s ≡ true) (sym is) on))
+  unread_by start.NoMemory stop last is unread on = absurd (cc)
+  unread_by (start.TornTooLong at bytes) stop last is unread on = absurd (cc)
+
+  last_by : (taken : Result (Unit {0}) CopyLogFault) (stop : Option LogStartFault) (last : Following) → EndsUnread taken last G → StopsCopyBy (Ok stop) taken later reached.extent → reads_on stop ≡ true → G ≡ last
+  last_by (Ok done) stop last unread by on = unread
+  last_by (Err (Old fault)) None last unread by on = absurd by
+  last_by (Err (Old fault)) (Some stop) last unread by on = unread_by fault stop last by unread on
+  last_by (Err (New fault)) None last unread by on = absurd by
+  last_by (Err (New fault)) (Some stop) last unread by on = absurd (cc)
+
+  committed : (records : List (List ℕ)) (here : ScanState) (last : Following) (middle after : Kept N) → TakenOver tells disk profile clients_max holds records first here F last before middle
+      → mid ≡ middle → Puts disk tells (Ok tt) [] mid after → TakenOver tells disk profile clients_max holds records first here F last before after
   committed records here last middle after taken is puts = record {
     leads = taken.leads;
     usable = puts.0;
@@ -215,25 +244,26 @@ module _ (tells : Type 0) {N : Type 0} (disk : N → Disk) (profile : Profile) (
   }
 
   module _ (after : Kept N) (puts : Puts disk tells (Ok tt) [] mid after) (none : after.waiting ≡ []) where
-    whole_by : (taken : Result (Unit {0}) CopyLogFault) (stop : Option LogStartFault) (all : All taken) → mid ≡ all.middle
-        → ((file : List ℕ) (read : List (List ℕ)) → holds file → HasRead read file first → StopsBehind stop profile clients_max (read ++ all.records) all.last file)
-        → TakesWhole tells disk profile clients_max holds reached stop first F before after
-    whole_by taken stop all is stops = record {
+    whole_by : (taken : Result (Unit {0}) CopyLogFault) (stop : Option LogStartFault) (all : All taken) → mid ≡ all.middle → StopsCopyBy (Ok stop) taken later reached.extent
+        → ((file : List ℕ) (read : List (List ℕ)) → holds file → HasRead read file first → StopsCopyBehind stop profile clients_max (read ++ all.records) all.last file)
+        → TakesWhole tells disk profile clients_max holds reached stop first F G before after
+    whole_by taken stop all is by stops = record {
       records = all.records;
       here = all.here;
       last = all.last;
       taken = committed all.records all.here all.last all.middle after all.taken is puts;
       none_waits = none;
+      at_last = last_by taken stop all.last all.unread by;
       reached_is = all.reached_is;
       end = all.end;
       count = all.count;
       stops = stops;
     }
 
-    pub behind_done : (taken : Result (Unit {0}) CopyLogFault) (stop : Option LogStartFault) → All taken → StopsBy (Ok stop) taken later reached.extent
-        → TakesWhole tells disk profile clients_max holds reached stop first F before after
+    pub behind_done : (taken : Result (Unit {0}) CopyLogFault) (stop : Option LogStartFault) → All taken → StopsCopyBy (Ok stop) taken later reached.extent
+        → TakesWhole tells disk profile clients_max holds reached stop first F G before after
     behind_done (Ok done) stop all by =
-        whole_by (Ok done) stop all all.ends.0
+        whole_by (Ok done) stop all all.ends.0 by
         (λ file read of has.
         let at = all.taken.read file read of has in
         let reads = all.ends.1 file (read ++ all.records) of at in
@@ -241,27 +271,27 @@ module _ (tells : Type 0) {N : Type 0} (disk : N → Disk) (profile : Profile) (
         (by file (same file of) (extent_found file (read ++ all.records) all.here reached.extent reads at all.end all.count)))
     behind_done (Err (Old fault)) None all by = absurd by
     behind_done (Err (Old fault)) (Some stop) all by =
-        whole_by (Err (Old fault)) (Some stop) all all.ends.0
+        whole_by (Err (Old fault)) (Some stop) all all.ends.0 by
         (λ file read of has.
         own_behind profile clients_max (read ++ all.records) all.last file fault stop by (all.ends.1 file (read ++ all.records) of (all.taken.read file read of has)))
     behind_done (Err (New fault)) None all by = absurd by
     behind_done (Err (New fault)) (Some stop) all by = absurd (cc)
 
   -- the commit failed
-  journal_at : (taken : Result (Unit {0}) CopyLogFault) (stop : Option LogStartFault) (all : All taken) → StopsBy (Ok stop) taken later reached.extent → mid ≡ all.middle
+  journal_at : (taken : Result (Unit {0}) CopyLogFault) (stop : Option LogStartFault) (all : All taken) → StopsCopyBy (Ok stop) taken later reached.extent → mid ≡ all.middle
   journal_at (Ok done) stop all by = all.ends.0
   journal_at (Err (Old fault)) stop all by = all.ends.0
   journal_at (Err (New fault)) None all by = absurd by
   journal_at (Err (New fault)) (Some stop) all by = absurd (cc)
 
-  pub usable_at : (taken : Result (Unit {0}) CopyLogFault) (stop : Option LogStartFault) → All taken → StopsBy (Ok stop) taken later reached.extent → mid.usable ≡ true
+  pub usable_at : (taken : Result (Unit {0}) CopyLogFault) (stop : Option LogStartFault) → All taken → StopsCopyBy (Ok stop) taken later reached.extent → mid.usable ≡ true
   usable_at taken stop all by = ap (λ (j : Kept N). j.usable) (journal_at taken stop all by) ∙ all.taken.usable
 
-  pub ready_at : (taken : Result (Unit {0}) CopyLogFault) (stop : Option LogStartFault) → All taken → StopsBy (Ok stop) taken later reached.extent → tells → IsReady disk mid
+  pub ready_at : (taken : Result (Unit {0}) CopyLogFault) (stop : Option LogStartFault) → All taken → StopsCopyBy (Ok stop) taken later reached.extent → tells → IsReady disk mid
   ready_at taken stop all by t = subst (λ (j : Kept N). IsReady disk j) (sym (journal_at taken stop all by)) (all.taken.queues t).ready
 
   pub behind_uncommitted : (taken : Result (Unit {0}) CopyLogFault) (stop : Option LogStartFault) (f : JournalFault) (fault : CopyLogFault) (after : Kept N) → All taken
-      → StopsBy (Ok stop) taken later reached.extent → fault ≡ New (open_faults.Device f) → Puts disk tells (Err f) [] mid after
+      → StopsCopyBy (Ok stop) taken later reached.extent → fault ≡ New (open_faults.Device f) → Puts disk tells (Err f) [] mid after
       → TakesPart tells disk profile clients_max holds fault first F before after
   behind_uncommitted taken stop f fault after all by named breaks =
       let is = journal_at taken stop all by in
@@ -275,7 +305,7 @@ module _ (tells : Type 0) {N : Type 0} (disk : N → Disk) (profile : Profile) (
         uncopied = λ file read of has. tt;
       })
 
-  part_by : (taken : Result (Unit {0}) CopyLogFault) (fault : CopyLogFault) (all : All taken) → IsUntaken tells disk profile clients_max holds fault all.middle mid
+  part_by : (taken : Result (Unit {0}) CopyLogFault) (fault : CopyLogFault) (all : All taken) → IsRecordUntaken tells disk profile clients_max holds fault all.middle mid
       → ((file : List ℕ) (read : List (List ℕ)) → holds file → HasRead read file first → IsUncopied fault file)
       → TakesPart tells disk profile clients_max holds fault first F before mid
   part_by taken fault all untaken uncopied = record {
@@ -289,7 +319,7 @@ module _ (tells : Type 0) {N : Type 0} (disk : N → Disk) (profile : Profile) (
   }
 
   -- the old file is not read on, or the new one was not written to
-  pub behind_not : (taken : Result (Unit {0}) CopyLogFault) (fault : CopyLogFault) → All taken → StopsBy (Err fault) taken later reached.extent
+  pub behind_not : (taken : Result (Unit {0}) CopyLogFault) (fault : CopyLogFault) → All taken → StopsCopyBy (Err fault) taken later reached.extent
       → TakesPart tells disk profile clients_max holds fault first F before mid
   behind_not (Ok done) (Old (start.Journal (open_faults.Device f))) all by = part_by (Ok done) (Old (start.Journal (open_faults.Device f))) all all.ends.0 (λ file read of has. tt)
   behind_not (Ok done) (Old (start.Journal (open_faults.Refused why))) all by = absurd by
@@ -313,7 +343,7 @@ module _ (tells : Type 0) {N : Type 0} (disk : N → Disk) (profile : Profile) (
 -- and the cause, by the old file's device before, behind the records, and behind the question for its length
 
 module _ {D : Type 0} (disk : D → Disk) (old mid last : D) (seen : (disk mid).seen ≡ (disk old).seen) (later : List ℕ → Type 0) (reached : Reached) where
-  pub none_behind : (taken : Result (Unit {0}) CopyLogFault) (stop : Option LogStartFault) → HasLogCause (of_old taken) (disk old) (disk mid) → StopsBy (Ok stop) taken later reached.extent
+  pub none_behind : (taken : Result (Unit {0}) CopyLogFault) (stop : Option LogStartFault) → HasLogCause (of_old_log taken) (disk old) (disk mid) → StopsCopyBy (Ok stop) taken later reached.extent
       → OnOk taken (HasLogCause {T = Unit {0}} (Ok tt) (disk mid) (disk last)) → OnErr taken (last ≡ mid) → FailsNone (disk old) (disk last)
   none_behind (Ok done) stop cause by one same = none_since (disk old) (disk mid) (disk last) cause.ok one.ok
   none_behind (Err (Old fault)) None cause by one same = absurd by
@@ -322,12 +352,12 @@ module _ {D : Type 0} (disk : D → Disk) (old mid last : D) (seen : (disk mid).
   none_behind (Err (New fault)) None cause by one same = absurd by
   none_behind (Err (New fault)) (Some stop) cause by one same = absurd (cc)
 
-  pub cause_behind_not : (taken : Result (Unit {0}) CopyLogFault) (fault : CopyLogFault) → HasLogCause (of_old taken) (disk old) (disk mid) → StopsBy (Err fault) taken later reached.extent
-      → OnOk taken (HasLogCause (old_part fault) (disk mid) (disk last)) → OnErr taken (last ≡ mid) → HasLogCause (old_part fault) (disk old) (disk last)
-  cause_behind_not (Ok done) fault cause by one same = has_log_then (disk old) (disk mid) (disk last) cause.ok seen (old_part fault) one
+  pub cause_behind_not : (taken : Result (Unit {0}) CopyLogFault) (fault : CopyLogFault) → HasLogCause (of_old_log taken) (disk old) (disk mid) → StopsCopyBy (Err fault) taken later reached.extent
+      → OnOk taken (HasLogCause (old_log_part fault) (disk mid) (disk last)) → OnErr taken (last ≡ mid) → HasLogCause (old_log_part fault) (disk old) (disk last)
+  cause_behind_not (Ok done) fault cause by one same = has_log_then (disk old) (disk mid) (disk last) cause.ok seen (old_log_part fault) one
   cause_behind_not (Err other) fault cause by one same =
-      subst (λ (f : CopyLogFault). HasLogCause (old_part f) (disk old) (disk last)) (sym by.0)
-      (subst (λ (d : D). HasLogCause (old_part other) (disk old) (disk d)) (sym same) cause)
+      subst (λ (f : CopyLogFault). HasLogCause (old_log_part f) (disk old) (disk last)) (sym by.0)
+      (subst (λ (d : D). HasLogCause (old_log_part other) (disk old) (disk d)) (sym same) cause)
 
-pub cause_uncommitted : (f : JournalFault) (fault : CopyLogFault) (old last : Disk) → fault ≡ New (open_faults.Device f) → FailsNone old last → HasLogCause (old_part fault) old last
-cause_uncommitted f fault old last named none = subst (λ (g : CopyLogFault). HasLogCause (old_part g) old last) (sym named) (record { ok = none; cause = tt })
+pub cause_uncommitted : (f : JournalFault) (fault : CopyLogFault) (old last : Disk) → fault ≡ New (open_faults.Device f) → FailsNone old last → HasLogCause (old_log_part fault) old last
+cause_uncommitted f fault old last named none = subst (λ (g : CopyLogFault). HasLogCause (old_log_part g) old last) (sym named) (record { ok = none; cause = tt })

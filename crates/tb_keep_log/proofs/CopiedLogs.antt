@@ -8,10 +8,10 @@ use Rattle.tb_journal.specs.Device.{Disk, LeavesOnly, FailsNone}
 use Rattle.tb_journal.specs.Contents.{recorded}
 use Rattle.tb_journal.specs.Creating.{is_blank, MayBeCreated}
 use Rattle.tb_journal.specs.Ready.{Kept}
-use Rattle.tb_journal.specs.Scans.{BeginsWith, ScanState, Starts, IsOfStart}
+use Rattle.tb_journal.specs.Scans.{BeginsWith, ScanState, BeginsScan, IsOfStart}
 use Rattle.tb_journal.proofs.Moments.{started, then, weaker}
 use Rattle.tb_journal.proofs.BlockWalks.{begins_shorter}
-use Rattle.tb_log.specs.Following.{Following, begun}
+use Rattle.tb_log.specs.Following.{Following, begun_following}
 use Rattle.tb_keep.specs.private.Taking.{HoldsRead, IsBetween, line}
 use Rattle.tb_keep.proofs.Entered.{Latest}
 use Rattle.tb_keep.proofs.Taking.{breaks_then, write_cause_since}
@@ -22,14 +22,14 @@ use Rattle.tb_keep_log.specs.declared.faults.CopyLogFault.{CopyLogFault}
 use Rattle.tb_keep_log.specs.declared.faults.CopyLogFault.TheVariants.{Old, New}
 use Rattle.tb_keep_log.specs.declared.faults.LogStartFault.{LogStartFault}
 use Rattle.tb_keep_log.specs.declared.faults.LogStartFault.TheVariants as start
-use Rattle.tb_keep_log.specs.Copying.{IsCopied, IsUncopied, HasSomeFirst, MayBeCopied, new_part}
+use Rattle.tb_keep_log.specs.Copying.{IsCopied, IsUncopied, HasSomeFirst, MayBeCopied, new_log_part}
 use Rattle.tb_keep_log.specs.Keeping.{Leads}
-use Rattle.tb_keep_log.specs.private.CopySteps.{IsNewJournal, HasWriteCause, Taken, TakesWhole, TakesPart}
+use Rattle.tb_keep_log.specs.private.CopySteps.{IsNewJournal, HasWriteCause, TakenOver, TakesWhole, TakesPart}
 use Rattle.tb_keep_log.proofs.Copied.{leads_first}
 
 -- behind a journal without records
 
-module _ (tells : Type 0) {N : Type 0} (disk : N → Disk) (profile : Profile) (clients_max : ℕ) (holds : List ℕ → Type 0) (first : ScanState) (F : Following) (is_begun : F ≡ begun profile clients_max)
+module _ (tells : Type 0) {N : Type 0} (disk : N → Disk) (profile : Profile) (clients_max : ℕ) (holds : List ℕ → Type 0) (first : ScanState) (F : Following) (is_begun : F ≡ begun_following profile clients_max)
     (created last : Kept N) (new : IsNewJournal tells disk created) where
   abbrev reads : List ℕ → Type 0
   reads = HoldsRead holds [] first
@@ -39,8 +39,8 @@ module _ (tells : Type 0) {N : Type 0} (disk : N → Disk) (profile : Profile) (
       ap (λ (l : List (List ℕ)). (l ++ created.waiting) ++ records) (new.no_records t)
       ∙ ap (λ (l : List (List ℕ)). l ++ records) new.none_waits
 
-  module _ (records : List (List ℕ)) (here : ScanState) (G : Following) (after : Kept N) (taken : Taken tells disk profile clients_max holds records first here F G created after) where
-    leading : Leads profile clients_max (begun profile clients_max) records G
+  module _ (records : List (List ℕ)) (here : ScanState) (G : Following) (after : Kept N) (taken : TakenOver tells disk profile clients_max holds records first here F G created after) where
+    leading : Leads profile clients_max (begun_following profile clients_max) records G
     leading = subst (λ (K : Following). Leads profile clients_max K records G) is_begun taken.leads
 
     begins : (file : List ℕ) → reads file → BeginsWith records file
@@ -48,7 +48,7 @@ module _ (tells : Type 0) {N : Type 0} (disk : N → Disk) (profile : Profile) (
 
     some_first : (c : List ℕ) → IsBetween [] records c → HasSomeFirst reads profile clients_max c
     some_first c (some, rest, are, is) =
-        let (U, kept) = leads_first profile clients_max (begun profile clients_max) G some rest (subst (λ (r : List (List ℕ)). Leads profile clients_max (begun profile clients_max) r G) is leading) in
+        let (U, kept) = leads_first profile clients_max (begun_following profile clients_max) G some rest (subst (λ (r : List (List ℕ)). Leads profile clients_max (begun_following profile clients_max) r G) is leading) in
         record {
           records = some;
           last = U;
@@ -64,9 +64,9 @@ module _ (tells : Type 0) {N : Type 0} (disk : N → Disk) (profile : Profile) (
         (subst (λ (l : List (List ℕ)). LeavesOnly (disk created.device) to (IsBetween [] l)) (lines records t)
         (subst (λ (r : List (List ℕ)). LeavesOnly (disk created.device) to (IsBetween r (line disk created ++ records))) (new.no_records t) leaves))
 
-  pub copied_all : (reached : Reached) (stop : Option LogStartFault) → TakesWhole tells disk profile clients_max holds reached stop first F created last
-      → IsCopied tells disk reads profile clients_max (record { journal = last; reached = reached; stop = stop })
-  copied_all reached stop takes = record {
+  pub copied_all : (reached : Reached) (stop : Option LogStartFault) (G : Following) → TakesWhole tells disk profile clients_max holds reached stop first F G created last
+      → IsCopied tells disk reads profile clients_max (record { journal = last; follower = G; reached = reached; stop = stop })
+  copied_all reached stop G takes = record {
     records = takes.records;
     last = takes.last;
     kept = leading takes.records takes.here takes.last last takes.taken;
@@ -77,15 +77,17 @@ module _ (tells : Type 0) {N : Type 0} (disk : N → Disk) (profile : Profile) (
         ∙ (takes.taken.queues t).line_is
         ∙ lines takes.records t;
     none_waits = takes.none_waits;
+    usable = takes.taken.usable;
+    at_last = takes.at_last;
     reached_is = takes.reached_is;
     taken = λ file of.
         let at = takes.taken.read file [] of.0 of.1 in
         record { begins = at.begins; end_is = takes.end ∙ at.end; count_is = takes.count ∙ at.count; stops = takes.stops file [] of.0 of.1 };
   }
 
-  pub moments_whole : (reached : Reached) (stop : Option LogStartFault) → TakesWhole tells disk profile clients_max holds reached stop first F created last
+  pub moments_whole : (reached : Reached) (stop : Option LogStartFault) (G : Following) → TakesWhole tells disk profile clients_max holds reached stop first F G created last
       → tells → LeavesOnly (disk created.device) (disk last.device) (HasSomeFirst reads profile clients_max)
-  moments_whole reached stop takes t = all_moments takes.records takes.here takes.last last takes.taken t (disk last.device) (takes.taken.queues t).any_moment
+  moments_whole reached stop G takes t = all_moments takes.records takes.here takes.last last takes.taken t (disk last.device) (takes.taken.queues t).any_moment
 
   pub uncopied_part : (fault : CopyLogFault) → TakesPart tells disk profile clients_max holds fault first F created last → (file : List ℕ) → reads file → IsUncopied fault file
   uncopied_part fault takes file of = takes.uncopied file [] of.0 of.1
@@ -101,7 +103,7 @@ module _ (tells : Type 0) {N : Type 0} (disk : N → Disk) (profile : Profile) (
       (append-nil takes.records) (breaks_then disk created takes.middle last takes.records [] (takes.taken.queues t) takes.untaken.own (takes.untaken.breaks t)).any_moment)
 
   pub cause_part : (fault : CopyLogFault) → TakesPart tells disk profile clients_max holds fault first F created last → tells
-      → HasWriteCause (new_part fault) (disk created.device) (disk last.device)
+      → HasWriteCause (new_log_part fault) (disk created.device) (disk last.device)
   cause_part (Old fault) takes t = record {
     ok = subst (λ (j : Kept N). FailsNone (disk created.device) (disk j.device)) (sym takes.untaken) (takes.taken.queues t).none;
     cause = tt;
@@ -134,7 +136,7 @@ module _ (before mid after : Disk) where
 pub none_made : (disk : Disk) (holds : List ℕ → Type 0) (profile : Profile) (clients_max : ℕ) → Latest disk → LeavesOnly disk disk (MayBeCopied holds disk profile clients_max)
 none_made disk holds profile clients_max now = started disk (MayBeCopied holds disk profile clients_max) (λ c left. inl (inl (inl (now c left))))
 
-pub start_uncopied : (fault : OpenFault) (file : List ℕ) → Starts (Err fault) file → IsOfStart fault → IsUncopied (Old (start.Journal fault)) file
+pub start_uncopied : (fault : OpenFault) (file : List ℕ) → BeginsScan (Err fault) file → IsOfStart fault → IsUncopied (Old (start.Journal fault)) file
 start_uncopied (open_faults.Device f) file starts refused = tt
 start_uncopied (open_faults.Refused refusals.NotAJournal) file starts refused = starts
 start_uncopied (open_faults.Refused (refusals.Damaged at)) file starts refused = absurd refused
@@ -151,6 +153,8 @@ module _ (holds less : List ℕ → Type 0) (so : (file : List ℕ) → less fil
     ready = is.ready;
     file = is.file;
     none_waits = is.none_waits;
+    usable = is.usable;
+    at_last = is.at_last;
     reached_is = is.reached_is;
     taken = λ file of. is.taken file (so file of);
   }

@@ -12,13 +12,13 @@ use Rattle.tb_machine.proofs.CodesFit.{each_append}
 use Rattle.tb_machine.proofs.Legal.{fold_append}
 use Rattle.tb_machine.proofs.Running.{sends_none, sends_then}
 use Rattle.tb_keep.specs.Again.{IsAmid}
-use Rattle.tb_log.specs.Following.{Following, begun, Item, with_item, after_items, bytes_of, item_bytes, given, given_to, AllAnswered}
+use Rattle.tb_log.specs.Following.{Following, begun_following, Item, with_item, after_items, bytes_of, item_bytes, given, given_to, AllAnswered}
 use Rattle.tb_log.specs.Follows.{ItemFits}
 use Rattle.tb_keep_log.specs.declared.faults.KeepLogFault.{KeepLogFault}
 use Rattle.tb_keep_log.specs.declared.faults.KeepLogFault.TheVariants as keep
-use Rattle.tb_keep_log.specs.Keeping.{record_of, records_from, IsKept}
-use Rattle.tb_keep_log.specs.Items.{Point, point, Turns, IsUncommitted, Halts, AreTooMany, Served}
-use Rattle.tb_keep_log.specs.Laws.{FollowsFurther, OpenedGoesOn, HasFirst, AfterKill, AnyCrash, WhileCommitting, RepliesToTheDone, WhileReplying}
+use Rattle.tb_keep_log.specs.Keeping.{record_of, item_records, IsKept}
+use Rattle.tb_keep_log.specs.Items.{Point, point, Turns, IsItemUncommitted, HaltsServing, AreTooMany, ServesSomeItems}
+use Rattle.tb_keep_log.specs.Laws.{FollowsFurther, OpenedGoesOn, HasFirstItems, LogAfterKill, AnyLogCrash, LogWhileCommitting, AnswersToTheDone, LogWhileReplying}
 use Rattle.tb_keep_log.proofs.Leading.{records_join, answered_join, leads_then}
 
 -- going on
@@ -40,10 +40,10 @@ goes_on F read more = (bytes_join F read more, given_join F read more, fold_appe
 
 pub opened_goes_on : OpenedGoesOn
 opened_goes_on profile clients_max records F more kept = (
-  bytes_join (begun profile clients_max) kept.items more
-      ∙ ap (λ (K : Following). bytes_of (begun profile clients_max) kept.items ++ bytes_of K more) (sym kept.now),
-  given_join (begun profile clients_max) kept.items more
-      ∙ ap (λ (K : Following). given (begun profile clients_max) kept.items ++ given K more) (sym kept.now),
+  bytes_join (begun_following profile clients_max) kept.items more
+      ∙ ap (λ (K : Following). bytes_of (begun_following profile clients_max) kept.items ++ bytes_of K more) (sym kept.now),
+  given_join (begun_following profile clients_max) kept.items more
+      ∙ ap (λ (K : Following). given (begun_following profile clients_max) kept.items ++ given K more) (sym kept.now),
 )
 
 -- some first items
@@ -80,13 +80,13 @@ module _ (tells : Type 0) {D : Type 0} (disk : D → Disk) (profile : Profile) (
       subst (λ (bs : List ℕ). Sent bs a.output b.output) (ap (λ (K : Following). given_to a.now item ++ given K items) turns.1.now)
       (sends_then (given_to a.now item) (given turns.0.now items) a.output turns.0.output b.output turns.1.told (replied_behind items turns.0 b turns.2))
 
-  records_behind : tells → (items : List Item) (a b : Point D) → Turns tells disk profile clients_max items a b → seen_of b ≡ seen_of a ++ records_from profile clients_max a.now items
+  records_behind : tells → (items : List Item) (a b : Point D) → Turns tells disk profile clients_max items a b → seen_of b ≡ seen_of a ++ item_records profile clients_max a.now items
   records_behind t [] a b turns = ap seen_of turns ∙ sym (append-nil (seen_of a))
   records_behind t (item ∷ items) a b turns =
       records_behind t items turns.0 b turns.2
-      ∙ ap (λ (rs : List (List ℕ)). rs ++ records_from profile clients_max turns.0.now items) (turns.1.commits t).grown
-      ∙ append_assoc (seen_of a) (record_of profile clients_max a.now item) (records_from profile clients_max turns.0.now items)
-      ∙ ap (λ (K : Following). seen_of a ++ (record_of profile clients_max a.now item ++ records_from profile clients_max K items)) turns.1.now
+      ∙ ap (λ (rs : List (List ℕ)). rs ++ item_records profile clients_max turns.0.now items) (turns.1.commits t).grown
+      ∙ append_assoc (seen_of a) (record_of profile clients_max a.now item) (item_records profile clients_max turns.0.now items)
+      ∙ ap (λ (K : Following). seen_of a ++ (record_of profile clients_max a.now item ++ item_records profile clients_max K items)) turns.1.now
 
   rest_behind : tells → (items : List Item) (a b : Point D) → IsAtRest (disk a.journal.device) → Turns tells disk profile clients_max items a b → IsAtRest (disk b.journal.device)
   rest_behind t [] a b rest turns = subst (λ (p : Point D). IsAtRest (disk p.journal.device)) (sym turns) rest
@@ -97,7 +97,7 @@ module _ (tells : Type 0) {D : Type 0} (disk : D → Disk) (profile : Profile) (
     items : List Item
     others : List Item
     all_are : all ≡ items ++ others
-    reads : contents file ≡ Records (base ++ records_from profile clients_max F items)
+    reads : contents file ≡ Records (base ++ item_records profile clients_max F items)
 
   none_of : (base : List (List ℕ)) (F : Following) (all : List Item) (file : List ℕ) → contents file ≡ Records base → Front base F all file
   none_of base F all file is = record { items = []; others = all; all_are = refl; reads = is ∙ ap Records (sym (append-nil base)) }
@@ -118,9 +118,9 @@ module _ (tells : Type 0) {D : Type 0} (disk : D → Disk) (profile : Profile) (
     others = front.others;
     all_are = ap (λ (l : List Item). item ∷ l) front.all_are;
     reads = front.reads
-        ∙ ap (λ (rs : List (List ℕ)). Records (rs ++ records_from profile clients_max G front.items)) grows
-        ∙ ap Records (append_assoc base (record_of profile clients_max F item) (records_from profile clients_max G front.items))
-        ∙ ap (λ (K : Following). Records (base ++ (record_of profile clients_max F item ++ records_from profile clients_max K front.items))) now;
+        ∙ ap (λ (rs : List (List ℕ)). Records (rs ++ item_records profile clients_max G front.items)) grows
+        ∙ ap Records (append_assoc base (record_of profile clients_max F item) (item_records profile clients_max G front.items))
+        ∙ ap (λ (K : Following). Records (base ++ (record_of profile clients_max F item ++ item_records profile clients_max K front.items))) now;
   }
 
   module _ (t : tells) (only : (d : D) (c : List ℕ) → (disk d).left_since (disk d).moment c → (disk d).may_leave c) where
@@ -160,17 +160,17 @@ module _ (tells : Type 0) {D : Type 0} (disk : D → Disk) (profile : Profile) (
             (λ c is. of_one (seen_of middle) middle.now item [] c is) leaves;
       }
 
-      ends : (result : Result ℕ KeepLogFault) → Halts tells disk profile clients_max result middle last → Behind middle last
+      ends : (result : Result ℕ KeepLogFault) → HaltsServing tells disk profile clients_max result middle last → Behind middle last
       ends (Ok position) halts = stays halts.4.same
       ends (Err (keep.Journal fault)) lost = by lost.why
         where
-          by : IsUncommitted tells disk profile clients_max fault lost.item middle last → Behind middle last
+          by : IsItemUncommitted tells disk profile clients_max fault lost.item middle last → Behind middle last
           by (inl same) = stays same.0
           by (inr fails) = one_more lost.item lost.read.fit (lost.read.answered, tt) (fails t).1
       ends (Err (keep.Log fault)) (inl (refuses, quits)) = stays quits.same
       ends (Err (keep.Log fault)) (inr (is, off)) = one_more off.item off.read.fit (off.read.answered, tt) (off.commits t).any_moment
 
-      ended : (result : Result ℕ KeepLogFault) (count : ℕ) → Halts tells disk profile clients_max result middle last ⊎ AreTooMany tells disk profile clients_max result count middle last → Behind middle last
+      ended : (result : Result ℕ KeepLogFault) (count : ℕ) → HaltsServing tells disk profile clients_max result middle last ⊎ AreTooMany tells disk profile clients_max result count middle last → Behind middle last
       ended result count (inl halts) = ends result halts
       ended result count (inr (is, many, same)) = stays (ap (λ (p : Point D). p.journal) same)
 
@@ -191,13 +191,13 @@ module _ (tells : Type 0) {D : Type 0} (disk : D → Disk) (profile : Profile) (
         (all_leave items here middle last next turns.2 leaves))
 
     has_first : (records : List (List ℕ)) (F : Following) (all : List Item) (base : List (List ℕ)) (file : List ℕ) → base ≡ records → IsKept profile clients_max records F → Each ItemFits all → AllAnswered F all
-        → Front base F all file → HasFirst profile clients_max records F all file
+        → Front base F all file → HasFirstItems profile clients_max records F all file
     has_first records F all base file is kept fit answered front = record {
       items = front.items;
       others = front.others;
       all_are = front.all_are;
-      reads = front.reads ∙ ap (λ (rs : List (List ℕ)). Records (rs ++ records_from profile clients_max F front.items)) is;
-      kept = leads_then profile clients_max (begun profile clients_max) F (after_items F front.items) records (records_from profile clients_max F front.items) kept (record {
+      reads = front.reads ∙ ap (λ (rs : List (List ℕ)). Records (rs ++ item_records profile clients_max F front.items)) is;
+      kept = leads_then profile clients_max (begun_following profile clients_max) F (after_items F front.items) records (item_records profile clients_max F front.items) kept (record {
         items = front.items;
         fit = each_front ItemFits front.items front.others (subst (λ (l : List Item). Each ItemFits l) front.all_are fit);
         answered = answered_front F front.items front.others (subst (λ (l : List Item). AllAnswered F l) front.all_are answered);
@@ -207,7 +207,7 @@ module _ (tells : Type 0) {D : Type 0} (disk : D → Disk) (profile : Profile) (
     }
 
     module _ (records : List (List ℕ)) (result : Result ℕ KeepLogFault) (first last : Point D) (rest : IsAtRest (disk first.journal.device)) (is : seen_of first ≡ records)
-        (kept : IsKept profile clients_max records first.now) (served : Served tells disk profile clients_max result first last) where
+        (kept : IsKept profile clients_max records first.now) (served : ServesSomeItems tells disk profile clients_max result first last) where
       behind : Behind served.middle last
       behind = ended served.middle last (rest_behind t served.items first served.middle rest served.turns) result (length served.items) served.ended
 
@@ -215,7 +215,7 @@ module _ (tells : Type 0) {D : Type 0} (disk : D → Disk) (profile : Profile) (
       leaves = all_leave served.items first served.middle last behind.next served.turns behind.leaves
 
       left_first : (file : List ℕ) → (disk last.journal.device).left_since (disk first.journal.device).moment file
-          → (next : List Item) × (length next ≤ 1) × HasFirst profile clients_max records first.now (served.items ++ next) file
+          → (next : List Item) × (length next ≤ 1) × HasFirstItems profile clients_max records first.now (served.items ++ next) file
       left_first file left =
           let fit = each_append ItemFits served.items behind.next (fit_turns served.items first served.middle served.turns) behind.fit in
           let answered = answered_join first.now served.items behind.next (answered_turns served.items first served.middle served.turns)
@@ -224,12 +224,12 @@ module _ (tells : Type 0) {D : Type 0} (disk : D → Disk) (profile : Profile) (
 
 module _ (tells : Type 0) {D : Type 0} (disk : D → Disk) where
   module _ (only : (d : D) (c : List ℕ) → (disk d).left_since (disk d).moment c → (disk d).may_leave c) where
-    pub any_crash : AnyCrash tells disk
+    pub any_crash : AnyLogCrash tells disk
     any_crash records result keeper after first last start written file t keeps served left =
         left_first tells disk keeper.rules.profile keeper.rules.clients_max t only records result (point keeper.now keeper.journal first start) (point after.now after.journal last written)
         keeps.ready.at_rest keeps.file keeps.kept served file left
 
-    pub after_kill : ((d : D) (t : ℕ) (c : List ℕ) → t ≤ (disk d).moment → (disk d).may_leave c → (disk d).left_since t c) → ((d : D) → tells → (disk d).may_leave (disk d).seen) → AfterKill tells disk
+    pub after_kill : ((d : D) (t : ℕ) (c : List ℕ) → t ≤ (disk d).moment → (disk d).may_leave c → (disk d).left_since t c) → ((d : D) → tells → (disk d).may_leave (disk d).seen) → LogAfterKill tells disk
     after_kill counts stays records result keeper after first last start written amid t keeps served where_amid =
         left_first tells disk keeper.rules.profile keeper.rules.clients_max t only records result (point keeper.now keeper.journal first start) (point after.now after.journal last written)
         keeps.ready.at_rest keeps.file keeps.kept served (disk amid).seen (by where_amid)
@@ -242,26 +242,26 @@ module _ (tells : Type 0) {D : Type 0} (disk : D → Disk) where
             keeps.ready.at_rest keeps.file keeps.kept served).later (stays after.journal.device t))
         by (inr during) = during (disk amid).seen (stays amid t)
 
-  pub replies_to_the_done : RepliesToTheDone tells disk
+  pub replies_to_the_done : AnswersToTheDone tells disk
   replies_to_the_done profile clients_max done first before turns = replied_behind tells disk profile clients_max done first before turns
 
-  pub while_committing : WhileCommitting tells disk
+  pub while_committing : LogWhileCommitting tells disk
   while_committing profile clients_max done item first before after file t turns leaves left =
       subst (λ (rs : List (List ℕ)). IsBeforeOrAfter rs (record_of profile clients_max before.now item) file) (records_behind tells disk profile clients_max t done first before turns)
       (leaves.each file left)
 
-  pub while_replying : WhileReplying tells disk
+  pub while_replying : LogWhileReplying tells disk
   while_replying profile clients_max done item first before after file t turns commits left =
       let base = recorded (disk first.journal.device).seen in
       ap contents (commits.at_rest.kept file left) ∙ commits.at_rest.reads
       ∙ ap Records (commits.grown
       ∙ ap (λ (rs : List (List ℕ)). rs ++ record_of profile clients_max before.now item) (records_behind tells disk profile clients_max t done first before turns)
-      ∙ append_assoc base (records_from profile clients_max first.now done) (record_of profile clients_max before.now item)
+      ∙ append_assoc base (item_records profile clients_max first.now done) (record_of profile clients_max before.now item)
       ∙ ap (λ (rs : List (List ℕ)). base ++ rs) (last done item first before turns))
     where
       last : (done : List Item) (item : Item) (first before : Point D) → Turns tells disk profile clients_max done first before
-          → records_from profile clients_max first.now done ++ record_of profile clients_max before.now item ≡ records_from profile clients_max first.now (done ++ item ∷ [])
+          → item_records profile clients_max first.now done ++ record_of profile clients_max before.now item ≡ item_records profile clients_max first.now (done ++ item ∷ [])
       last done item first before turns =
-          ap (λ (K : Following). records_from profile clients_max first.now done ++ record_of profile clients_max K item) (now_behind tells disk profile clients_max done first before turns)
-          ∙ ap (λ (rs : List (List ℕ)). records_from profile clients_max first.now done ++ rs) (sym (append-nil (record_of profile clients_max (after_items first.now done) item)))
+          ap (λ (K : Following). item_records profile clients_max first.now done ++ record_of profile clients_max K item) (now_behind tells disk profile clients_max done first before turns)
+          ∙ ap (λ (rs : List (List ℕ)). item_records profile clients_max first.now done ++ rs) (sym (append-nil (record_of profile clients_max (after_items first.now done) item)))
           ∙ sym (records_join profile clients_max first.now done (item ∷ []))

@@ -13,21 +13,22 @@ use Rattle.tb_journal.specs.Device.{Disk, FailsNone}
 use Rattle.tb_journal.specs.Scans.{BeginsWith as BeginsFile, HasRead, ScanState}
 use Rattle.tb_journal.proofs.Causes.{none_since}
 use Rattle.tb_machine.specs.Histories.{State, start}
+use Rattle.tb_machine.specs.Runs.{IsUntimely}
 use Rattle.tb_machine.specs.Scripts.{Pair, after_pair}
 use Rattle.tb_machine.proofs.CodesFit.{each_append}
 use Rattle.tb_machine.proofs.Running.{sends_none, sends_then}
-use Rattle.tb_log.specs.Entries.{BeginsWith}
+use Rattle.tb_log.specs.Entries.{BeginsWithPairs}
 use Rattle.tb_log.specs.Format.{content_of}
 use Rattle.tb_log.proofs.Pairs.{begins_on, begins_few}
-use Rattle.tb_keep.specs.Rounds.{entered, entries_from, state_from, IsUntimely}
+use Rattle.tb_keep.specs.Rounds.{entered, entries_from, state_from}
 use Rattle.tb_keep_log.specs.Rereading.{fixed_bytes, HasMark, RefusesMark}
 use Rattle.tb_keep_log.specs.declared.faults.DumpLogFault.{DumpLogFault}
 use Rattle.tb_keep_log.specs.declared.faults.DumpLogFault.TheVariants as dump
 use Rattle.tb_keep_log.specs.declared.faults.LogStartFault.{LogStartFault}
 use Rattle.tb_keep_log.specs.declared.faults.LogStartFault.TheVariants as start_faults
-use Rattle.tb_keep_log.specs.Dumping.{AreFirst, AreTimely, DumpsFirst, DumpsLog, HasDumpCause, IsDumpCause, StopsBehind, StopsDump, StopsRecord, dump_of_pairs, no_pair}
-use Rattle.tb_keep_log.specs.Parts.{AreNext, DumpsPairs, Dumped, DumpsAll, Halts, shown}
-use Rattle.tb_keep_log.specs.private.DumpSteps.{AreFront, DumpsPair, DumpsContent, DumpsNext, DumpsRecord}
+use Rattle.tb_keep_log.specs.Dumping.{AreFirst, AreTimely, DumpsFirst, DumpsLog, HasLogDumpCause, IsLogDumpCause, StopsDumpBehind, StopsDump, StopsRecord, dump_of_pairs, no_pair}
+use Rattle.tb_keep_log.specs.Parts.{AreNext, DumpsPairs, Dumped, DumpsAll, HaltsDump, shown}
+use Rattle.tb_keep_log.specs.private.DumpSteps.{AreFront, DumpsWantedPair, DumpsContent, DumpsNextRecord, DumpsRecord}
 use Rattle.tb_keep_log.proofs.Entering.{has_log_then}
 
 state_join : (S : State) (ps qs : List Pair) → state_from S (ps ++ qs) ≡ state_from (state_from S ps) qs
@@ -74,7 +75,7 @@ module _ (above : Option ℕ) where
         (sends_then (flat_map (shown above) (entries_from S ps)) (flat_map (shown above) (entries_from T qs)) a b c one.sent two.sent);
   }
 
-  dumps_one : (p : Pair) (S T : State) (a b : Output) → IsTimed p → DumpsPair above (Ok tt) S T p a b → DumpsPairs above (p ∷ []) S T a b
+  dumps_one : (p : Pair) (S T : State) (a b : Output) → IsTimed p → DumpsWantedPair above (Ok tt) S T p a b → DumpsPairs above (p ∷ []) S T a b
   dumps_one p S T a b fit one = record {
     fit = (fit, tt);
     timely = (one.0, tt);
@@ -86,7 +87,7 @@ module _ (above : Option ℕ) where
 
   -- what a fault leaves behind pairs that went out is what it leaves from their beginning on
   pub halts_then : (P Q : List Pair → Type 0) (qs : List Pair) (S T : State) (a b c : Output) → DumpsPairs above qs S T a b → ((ps : List Pair) → P ps → Q (qs ++ ps))
-      → (fault : DumpLogFault) → Halts above P fault T b c → Halts above Q fault S a c
+      → (fault : DumpLogFault) → HaltsDump above P fault T b c → HaltsDump above Q fault S a c
   halts_then P Q qs S T a b c one on fault = by fault
     where
       joined : (ps : List Pair) → flat_map (shown above) (entries_from S qs) ++ flat_map (shown above) (entries_from T ps) ≡ flat_map (shown above) (entries_from S (qs ++ ps))
@@ -99,7 +100,7 @@ module _ (above : Option ℕ) where
       some ps cut =
           (sent_rest (flat_map (shown above) (entries_from S qs)) (flat_map (shown above) (entries_from T ps)) a b c (flat_map (shown above) (entries_from S (qs ++ ps))) (joined ps) one.sent (Err frame.Device) (refl, cut)).1
 
-      by : (fault : DumpLogFault) → Halts above P fault T b c → Halts above Q fault S a c
+      by : (fault : DumpLogFault) → HaltsDump above P fault T b c → HaltsDump above Q fault S a c
       by dump.TimeExhausted (ps, p, first, untimely, sent) = (
         qs ++ ps,
         p,
@@ -117,13 +118,13 @@ module _ (above : Option ℕ) where
   pub record Dumping (k : ℕ) (S T : State) (content left : List ℕ) (a b : Output) : Type 0 where
     pub pairs : List Pair
     pub count : length pairs ≡ k
-    pub front : BeginsWith pairs content left
+    pub front : BeginsWithPairs pairs content left
     pub dumps : DumpsPairs above pairs S T a b
 
   pub dumping_none : (S : State) (content : List ℕ) (o : Output) → Dumping 0 S S content content o o
   dumping_none S content o = record { pairs = []; count = refl; front = record { spelled = refl; fit = tt }; dumps = dumps_none S o }
 
-  pub dumping_on : (k : ℕ) (S T U : State) (p : Pair) (content left rest : List ℕ) (a b c : Output) → Dumping k S T content left a b → TimedAnswered (Ok (Some p)) left rest → DumpsPair above (Ok tt) T U p b c
+  pub dumping_on : (k : ℕ) (S T U : State) (p : Pair) (content left rest : List ℕ) (a b c : Output) → Dumping k S T content left a b → TimedAnswered (Ok (Some p)) left rest → DumpsWantedPair above (Ok tt) T U p b c
       → Dumping (k + 1) S U content rest a c
   dumping_on k S T U p content left rest a b c so_far read one = record {
     pairs = so_far.pairs ++ p ∷ [];
@@ -142,7 +143,7 @@ module _ (above : Option ℕ) where
     so_far.dumps,
   )
 
-  front_of : (ps : List Pair) (content left : List ℕ) → BeginsWith ps content left → AreFront content ps
+  front_of : (ps : List Pair) (content left : List ℕ) → BeginsWithPairs ps content left → AreFront content ps
   front_of ps content left front = record { left = left; spelled = front.spelled; fit = front.fit }
 
   -- behind pairs that went out no more is read
@@ -179,7 +180,7 @@ module _ (above : Option ℕ) where
         (sent_rest (flat_map (shown above) (entries_from S so_far.pairs)) (flat_map (shown above) (entered T p)) a b c (flat_map (shown above) (entries_from S (so_far.pairs ++ p ∷ []))) whole so_far.dumps.sent
         (Err frame.Device) (refl, cut)).1
 
-    pub dumping_halts : (fault : DumpLogFault) → DumpsPair above (Err fault) T U p b c → DumpsContent above (Err fault) S U content a c
+    pub dumping_halts : (fault : DumpLogFault) → DumpsWantedPair above (Err fault) T U p b c → DumpsContent above (Err fault) S U content a c
     dumping_halts (dump.Start fault) none = absurd none
     dumping_halts dump.NoPairs none = absurd none
     dumping_halts dump.TimeExhausted (untimely, same) = (tt, (so_far.pairs, p, with_one, subst (λ (W : State). IsUntimely W p) so_far.dumps.state untimely, none_more same))
@@ -203,7 +204,7 @@ module _ (above : Option ℕ) where
   record_halts profile clients_max last S T bytes a b dump.Writer marked halts = halts
 
   module _ (profile : Profile) (clients_max : ℕ) (records : List (List ℕ)) (bytes file : List ℕ) (begins : BeginsFile (records ++ bytes ∷ []) file) where
-    behind : (fault : DumpLogFault) → StopsRecord fault profile clients_max (length records) bytes → StopsBehind fault profile clients_max file
+    behind : (fault : DumpLogFault) → StopsRecord fault profile clients_max (length records) bytes → StopsDumpBehind fault profile clients_max file
     behind fault refused = record { records = records; bytes = bytes; begins = begins; refused = refused }
 
     pub stops_dump : (fault : DumpLogFault) → StopsRecord fault profile clients_max (length records) bytes → StopsDump fault profile clients_max file
@@ -224,7 +225,7 @@ module _ (above : Option ℕ) where
     next_of ps front = record { records = bytes ∷ []; rest = front.left; begins = begins; spelled = append-nil (drop fixed_bytes bytes) ∙ front.spelled; fit = front.fit }
 
     pub next_halts : (fault : DumpLogFault) (last : ℕ) (scan : ScanState) (S T : State) (a b : Output) → last ≡ length records → DumpsRecord above (Err fault) profile clients_max last S T bytes a b
-        → DumpsNext above (Err fault) profile clients_max records file scan S T a b
+        → DumpsNextRecord above (Err fault) profile clients_max records file scan S T a b
     next_halts fault last scan S T a b is halts = (
       stops_dump fault (subst (λ (n : ℕ). StopsRecord fault profile clients_max n bytes) is halts.0),
       halts_then (AreFront (drop fixed_bytes bytes)) (AreNext records file) [] S S a a b (dumps_none S a) next_of fault halts.1,
@@ -253,7 +254,7 @@ module _ (above : Option ℕ) where
       ∙ ap (λ (bs : List ℕ). bs ++ rest) (sym (flat_map-append timed_bytes so_far.pairs ps))
 
   module _ (profile : Profile) (clients_max : ℕ) (read : List (List ℕ)) (earlier file : List ℕ) (scan next : ScanState) (S T U : State) (a b c : Output) (so_far : Dumped above profile clients_max read earlier scan S T a b) where
-    pub dumped_more : DumpsNext above (Ok true) profile clients_max (read ++ so_far.records) file next T U b c → Dumped above profile clients_max read file next S U a c
+    pub dumped_more : DumpsNextRecord above (Ok true) profile clients_max (read ++ so_far.records) file next T U b c → Dumped above profile clients_max read file next S U a c
     dumped_more (bytes, has, (marked, (ps, spelled, dumps))) = record {
       records = so_far.records ++ bytes ∷ [];
       pairs = so_far.pairs ++ ps;
@@ -264,7 +265,7 @@ module _ (above : Option ℕ) where
       dumps = dumps_then so_far.pairs ps S T U a b c so_far.dumps dumps;
     }
 
-    pub dumped_all : DumpsNext above (Ok false) profile clients_max (read ++ so_far.records) file next T U b c → DumpsAll above (Ok tt) profile clients_max read file next S U a c
+    pub dumped_all : DumpsNextRecord above (Ok false) profile clients_max (read ++ so_far.records) file next T U b c → DumpsAll above (Ok tt) profile clients_max read file next S U a c
     dumped_all (reads, has, same, silent) =
         subst (λ (V : State). DumpsAll above (Ok tt) profile clients_max read file next S V a c) (sym same)
         (subst (λ (o : Output). DumpsAll above (Ok tt) profile clients_max read file next S T a o) (sym silent) (
@@ -281,7 +282,7 @@ module _ (above : Option ℕ) where
       fit = each_append IsTimed so_far.pairs ps so_far.dumps.fit next.fit;
     }
 
-    pub dumped_not : (fault : DumpLogFault) → DumpsNext above (Err fault) profile clients_max (read ++ so_far.records) file next T U b c → DumpsAll above (Err fault) profile clients_max read file next S U a c
+    pub dumped_not : (fault : DumpLogFault) → DumpsNextRecord above (Err fault) profile clients_max (read ++ so_far.records) file next T U b c → DumpsAll above (Err fault) profile clients_max read file next S U a c
     dumped_not fault (stops, halts) = (stops, halts_then (AreNext (read ++ so_far.records) file) (AreNext read file) so_far.pairs S T a b c so_far.dumps next_from fault halts)
 
     -- all that were left of a later file
@@ -305,7 +306,7 @@ module _ (above : Option ℕ) where
 
 -- the cause of a record's fault is not the device
 pub dump_cause : (before after : Disk) (fault : DumpLogFault) (profile : Profile) (clients_max last : ℕ) (bytes : List ℕ) → StopsRecord fault profile clients_max last bytes → FailsNone before after
-    → IsDumpCause before after fault
+    → IsLogDumpCause before after fault
 dump_cause before after (dump.Start (start_faults.Journal fault)) profile clients_max last bytes refused none = absurd refused
 dump_cause before after (dump.Start start_faults.Plain) profile clients_max last bytes refused none = none
 dump_cause before after (dump.Start start_faults.OtherRules) profile clients_max last bytes refused none = none
@@ -321,14 +322,14 @@ dump_cause before after dump.Writer profile clients_max last bytes refused none 
 
 -- behind calls of which none failed
 module _ (before mid after : Disk) (first : FailsNone before mid) (seen : mid.seen ≡ before.seen) where
-  dump_cause_then : (fault : DumpLogFault) → IsDumpCause mid after fault → IsDumpCause before after fault
+  dump_cause_then : (fault : DumpLogFault) → IsLogDumpCause mid after fault → IsLogDumpCause before after fault
   dump_cause_then (dump.Start fault) cause = (has_log_then before mid after first seen {T = Unit {0}} (Err fault) (record { ok = tt; cause = cause })).cause
   dump_cause_then dump.NoPairs none = none_since before mid after first none
   dump_cause_then dump.TimeExhausted none = none_since before mid after first none
   dump_cause_then dump.NoMemory none = none_since before mid after first none
   dump_cause_then dump.Writer none = none_since before mid after first none
 
-  pub has_dump_then : {T : Type 0} (result : Result T DumpLogFault) → HasDumpCause result mid after → HasDumpCause result before after
+  pub has_dump_then : {T : Type 0} (result : Result T DumpLogFault) → HasLogDumpCause result mid after → HasLogDumpCause result before after
   has_dump_then {T} (Ok value) has = record { ok = none_since before mid after first has.ok; cause = tt }
   has_dump_then {T} (Err fault) has = record { ok = tt; cause = dump_cause_then fault has.cause }
 
@@ -350,7 +351,7 @@ module _ (profile : Profile) (clients_max : ℕ) (file : List ℕ) where
   )
 
   module _ (S : State) (a b c : Output) (empty : S ≡ start profile clients_max) (head : Sent (head_bytes profile clients_max) a b) where
-    dumps_first : (fault : DumpLogFault) → Halts None (AreNext [] file) fault S b c → DumpsFirst fault profile clients_max file a c
+    dumps_first : (fault : DumpLogFault) → HaltsDump None (AreNext [] file) fault S b c → DumpsFirst fault profile clients_max file a c
     dumps_first fault = by fault
       where
         whole : (ps : List Pair) → head_bytes profile clients_max ++ flat_map (shown None) (entries_from S ps) ≡ dump_of_pairs profile clients_max ps
@@ -359,7 +360,7 @@ module _ (profile : Profile) (clients_max : ℕ) (file : List ℕ) where
         all : (ps : List Pair) → Sent (flat_map (shown None) (entries_from S ps)) b c → Sent (dump_of_pairs profile clients_max ps) a c
         all ps sent = subst (λ (bs : List ℕ). Sent bs a c) (whole ps) (sends_then (head_bytes profile clients_max) (flat_map (shown None) (entries_from S ps)) a b c head sent)
 
-        by : (fault : DumpLogFault) → Halts None (AreNext [] file) fault S b c → DumpsFirst fault profile clients_max file a c
+        by : (fault : DumpLogFault) → HaltsDump None (AreNext [] file) fault S b c → DumpsFirst fault profile clients_max file a c
         by dump.TimeExhausted (ps, p, next, untimely, sent) =
             (ps, p, first_of (ps ++ p ∷ []) next, subst (λ (V : State). IsUntimely (state_from V ps) p) empty untimely, all ps sent)
         by dump.Writer (ps, next, cut) =

@@ -4,17 +4,17 @@ use Rattle.tb_records.specs.declared.limits.Profile.{Profile}
 use Rattle.tb_journal.specs.declared.opening.OpenFault.{OpenFault}
 use Rattle.tb_journal.specs.declared.reading.Extent.{Extent}
 use Rattle.tb_journal.specs.Device.{Disk, FailsNone}
-use Rattle.tb_journal.specs.Contents.{records_of}
+use Rattle.tb_journal.specs.Contents.{content_records}
 use Rattle.tb_journal.specs.Opening.{IsOpenCause}
 use Rattle.tb_journal.specs.Scans.{BeginsWith, HasRead, ScanState}
 use Rattle.tb_journal.proofs.Causes.{none_since, has_open_cause_since}
-use Rattle.tb_log.specs.Following.{Following, begun}
+use Rattle.tb_log.specs.Following.{Following, begun_following}
 use Rattle.tb_keep.proofs.Entered.{extent_found}
 use Rattle.tb_keep_log.specs.declared.faults.LogStartFault.{LogStartFault}
 use Rattle.tb_keep_log.specs.declared.faults.LogStartFault.TheVariants as start
 use Rattle.tb_keep_log.specs.Keeping.{Leads}
-use Rattle.tb_keep_log.specs.Rereading.{HasLogCause, IsLogCause, IsRestored, StopsAt, StopsBeginning, StopsReading}
-use Rattle.tb_keep_log.specs.private.Steps.{Entered, EntersAll, EntersNext, EntersSome}
+use Rattle.tb_keep_log.specs.Rereading.{HasLogCause, IsLogCause, IsFollowerRestored, StopsFollowerAt, StopsLogBeginning, StopsLogReading}
+use Rattle.tb_keep_log.specs.private.Steps.{Entered, FollowsAllRecords, FollowsNextRecord, EntersSome}
 use Rattle.tb_keep_log.proofs.Leading.{leads_none, leads_more}
 
 -- behind calls of which none failed
@@ -38,7 +38,7 @@ module _ (before mid after : Disk) (first : FailsNone before mid) (seen : mid.se
   has_log_then {T} (Err fault) has = record { ok = tt; cause = log_cause_then fault has.cause }
 
 -- a record that is refused is not the journal's fault
-pub record_cause : (before after : Disk) (fault : LogStartFault) (profile : Profile) (clients_max : ℕ) (F : Following) (bytes : List ℕ) → StopsAt fault profile clients_max F bytes → FailsNone before after
+pub record_cause : (before after : Disk) (fault : LogStartFault) (profile : Profile) (clients_max : ℕ) (F : Following) (bytes : List ℕ) → StopsFollowerAt fault profile clients_max F bytes → FailsNone before after
     → IsLogCause before after fault
 record_cause before after (start.Journal fault) profile clients_max F bytes stops none = absurd stops
 record_cause before after start.Plain profile clients_max F bytes stops none = none
@@ -50,8 +50,8 @@ record_cause before after start.NoMemory profile clients_max F bytes stops none 
 record_cause before after (start.TornTooLong at torn) profile clients_max F bytes stops none = none
 
 module _ (profile : Profile) (clients_max : ℕ) where
-  pub enters_not : (fault : LogStartFault) (read : List (List ℕ)) (file bytes : List ℕ) (after : ScanState) (F G : Following) → BeginsWith (read ++ bytes ∷ []) file → StopsAt fault profile clients_max F bytes
-      → EntersNext (Err fault) profile clients_max read file after F G
+  pub enters_not : (fault : LogStartFault) (read : List (List ℕ)) (file bytes : List ℕ) (after : ScanState) (F G : Following) → BeginsWith (read ++ bytes ∷ []) file → StopsFollowerAt fault profile clients_max F bytes
+      → FollowsNextRecord (Err fault) profile clients_max read file after F G
   enters_not (start.Journal fault) read file bytes after F G begins stops = absurd stops
   enters_not start.Plain read file bytes after F G begins stops = (bytes, begins, stops)
   enters_not start.OtherRules read file bytes after F G begins stops = (bytes, begins, stops)
@@ -69,24 +69,24 @@ module _ (profile : Profile) (clients_max : ℕ) where
   }
 
   module _ (read : List (List ℕ)) (file : List ℕ) (scan next : ScanState) (F G H : Following) (so_far : Entered profile clients_max read file scan F G) where
-    pub entered_more : EntersNext (Ok true) profile clients_max (read ++ so_far.records) file next G H → Entered profile clients_max read file next F H
+    pub entered_more : FollowsNextRecord (Ok true) profile clients_max (read ++ so_far.records) file next G H → Entered profile clients_max read file next F H
     entered_more (bytes, at, enters) = record {
       records = so_far.records ++ bytes ∷ [];
       has = subst (λ (r : List (List ℕ)). HasRead r file next) (append_assoc read so_far.records (bytes ∷ [])) at;
       leads = leads_more profile clients_max F G H so_far.records bytes so_far.leads enters;
     }
 
-    pub entered_all : EntersNext (Ok false) profile clients_max (read ++ so_far.records) file next G H → EntersAll (Ok tt) profile clients_max read file next F H
+    pub entered_all : FollowsNextRecord (Ok false) profile clients_max (read ++ so_far.records) file next G H → FollowsAllRecords (Ok tt) profile clients_max read file next F H
     entered_all (reads, has, same) = (
       record { records = so_far.records; has = has; leads = subst (λ (K : Following). Leads profile clients_max F so_far.records K) (sym same) so_far.leads },
       reads,
     )
 
-    some : (fault : LogStartFault) → (bytes : List ℕ) × BeginsWith ((read ++ so_far.records) ++ bytes ∷ []) file × StopsAt fault profile clients_max G bytes
+    some : (fault : LogStartFault) → (bytes : List ℕ) × BeginsWith ((read ++ so_far.records) ++ bytes ∷ []) file × StopsFollowerAt fault profile clients_max G bytes
         → EntersSome fault profile clients_max read file F
     some fault (bytes, begins, stops) = record { records = so_far.records; bytes = bytes; here = G; begins = begins; leads = so_far.leads; stops = stops }
 
-    pub entered_not : (fault : LogStartFault) → EntersNext (Err fault) profile clients_max (read ++ so_far.records) file next G H → EntersAll (Err fault) profile clients_max read file next F H
+    pub entered_not : (fault : LogStartFault) → FollowsNextRecord (Err fault) profile clients_max (read ++ so_far.records) file next G H → FollowsAllRecords (Err fault) profile clients_max read file next F H
     entered_not (start.Journal fault) enters = enters
     entered_not start.Plain enters = some start.Plain enters
     entered_not start.OtherRules enters = some start.OtherRules enters
@@ -98,15 +98,15 @@ module _ (profile : Profile) (clients_max : ℕ) where
 
   -- a whole file
 
-  module _ (file : List ℕ) (scan : ScanState) (F G : Following) (empty : F ≡ begun profile clients_max) where
-    pub restored_whole : (extent : Extent) → extent.end ≡ scan.end → extent.count ≡ scan.count → EntersAll (Ok tt) profile clients_max [] file scan F G → IsRestored profile clients_max file G extent
+  module _ (file : List ℕ) (scan : ScanState) (F G : Following) (empty : F ≡ begun_following profile clients_max) where
+    pub restored_whole : (extent : Extent) → extent.end ≡ scan.end → extent.count ≡ scan.count → FollowsAllRecords (Ok tt) profile clients_max [] file scan F G → IsFollowerRestored profile clients_max file G extent
     restored_whole extent end count (entered, reads) = record {
       extent_is = extent_found file entered.records scan extent reads entered.has end count;
-      kept = subst (λ (r : List (List ℕ)). Leads profile clients_max (begun profile clients_max) r G) (sym (ap records_of reads))
+      kept = subst (λ (r : List (List ℕ)). Leads profile clients_max (begun_following profile clients_max) r G) (sym (ap content_records reads))
           (subst (λ (K : Following). Leads profile clients_max K entered.records G) empty entered.leads);
     }
 
-    beginning : (fault : LogStartFault) → EntersSome fault profile clients_max [] file F → StopsBeginning fault profile clients_max file
+    beginning : (fault : LogStartFault) → EntersSome fault profile clients_max [] file F → StopsLogBeginning fault profile clients_max file
     beginning fault enters = record {
       records = enters.records;
       bytes = enters.bytes;
@@ -116,7 +116,7 @@ module _ (profile : Profile) (clients_max : ℕ) where
       stops = enters.stops;
     }
 
-    pub restored_not : (fault : LogStartFault) → EntersAll (Err fault) profile clients_max [] file scan F G → StopsReading fault profile clients_max file
+    pub restored_not : (fault : LogStartFault) → FollowsAllRecords (Err fault) profile clients_max [] file scan F G → StopsLogReading fault profile clients_max file
     restored_not (start.Journal fault) enters = enters
     restored_not start.Plain enters = beginning start.Plain enters
     restored_not start.OtherRules enters = beginning start.OtherRules enters

@@ -12,8 +12,8 @@ use Rattle.tb_log.specs.Follows.{AnswersIndexed, Stops}
 use Rattle.tb_keep_log.specs.declared.faults.LogStartFault.{LogStartFault}
 use Rattle.tb_keep_log.specs.declared.faults.LogStartFault.TheVariants as start
 use Rattle.tb_keep_log.specs.Keeping.{record_bytes}
-use Rattle.tb_keep_log.specs.Rereading.{StopsAt, HasMark, RefusesContent, RefusesMark, fixed_bytes}
-use Rattle.tb_keep_log.specs.private.Steps.{of_log, HoldsEntry, DropsEntry, Enters}
+use Rattle.tb_keep_log.specs.Rereading.{StopsFollowerAt, HasMark, RefusesContent, RefusesMark, fixed_bytes}
+use Rattle.tb_keep_log.specs.private.Steps.{of_log, HoldsEntry, DropsEntry, FollowsRecord}
 
 never : (fault : LogFault) (F : Following) (content : List ℕ) (start written : Output) → (fault ≡ NoMemory → ⊥)
     → ((index : ℕ) (G H : Following) (p : Pair) (a b : Output) → AnswersIndexed index (Err fault) G H p a b → ⊥)
@@ -28,7 +28,7 @@ never fault F content start written not none stops =
 pub whole_content : (bytes : List ℕ) → take (length bytes - 79) (drop 79 bytes) ≡ drop fixed_bytes bytes
 whole_content bytes = take_all (length bytes - 79) (drop 79 bytes) (omega (arith, length-drop 79 bytes))
 
-stops_of : (profile : Profile) (clients_max : ℕ) (F : Following) (bytes : List ℕ) (fault : LogFault) → HasMark profile clients_max bytes → (fault ≡ NoMemory) ⊎ RefusesContent fault F (drop fixed_bytes bytes) → StopsAt (of_log fault) profile clients_max F bytes
+stops_of : (profile : Profile) (clients_max : ℕ) (F : Following) (bytes : List ℕ) (fault : LogFault) → HasMark profile clients_max bytes → (fault ≡ NoMemory) ⊎ RefusesContent fault F (drop fixed_bytes bytes) → StopsFollowerAt (of_log fault) profile clients_max F bytes
 stops_of profile clients_max F bytes NoMemory marked why = tt
 stops_of profile clients_max F bytes Device marked why = ⊎_elim (λ is. let no : Device ≡ NoMemory = is in absurd (cc)) (λ refuses. (marked, refuses)) why
 stops_of profile clients_max F bytes Short marked why = ⊎_elim (λ is. let no : Short ≡ NoMemory = is in absurd (cc)) (λ refuses. (marked, refuses)) why
@@ -42,19 +42,19 @@ stops_of profile clients_max F bytes (TimeExhausted at) marked why = ⊎_elim (�
 stops_of profile clients_max F bytes TooMany marked why = ⊎_elim (λ is. let no : TooMany ≡ NoMemory = is in absurd (cc)) (λ refuses. (marked, refuses)) why
 
 module _ (profile : Profile) (clients_max : ℕ) (F : Following) (content bytes : List ℕ) (behind : content ≡ drop fixed_bytes bytes) (fault : LogFault) (told : LogStartFault) (told_is : told ≡ of_log fault) (marked : HasMark profile clients_max bytes) where
-  pub bad_content : (position : ℕ) → position ≡ F.position + 1 → IsNoPairs fault position content → StopsAt told profile clients_max F bytes
+  pub bad_content : (position : ℕ) → position ≡ F.position + 1 → IsNoPairs fault position content → StopsFollowerAt told profile clients_max F bytes
   bad_content position next bad =
-      subst (λ (f : LogStartFault). StopsAt f profile clients_max F bytes) (sym told_is)
+      subst (λ (f : LogStartFault). StopsFollowerAt f profile clients_max F bytes) (sym told_is)
       (stops_of profile clients_max F bytes fault marked (inr (inl (subst (λ (p : ℕ). IsNoPairs fault p (drop fixed_bytes bytes)) next (subst (λ (bs : List ℕ). IsNoPairs fault position bs) behind bad)))))
 
-  pub halted_content : DropsEntry fault content F → StopsAt told profile clients_max F bytes
+  pub halted_content : DropsEntry fault content F → StopsFollowerAt told profile clients_max F bytes
   halted_content drops =
-      subst (λ (f : LogStartFault). StopsAt f profile clients_max F bytes) (sym told_is)
+      subst (λ (f : LogStartFault). StopsFollowerAt f profile clients_max F bytes) (sym told_is)
       (stops_of profile clients_max F bytes fault marked (⊎_elim (λ is. inl is) (λ halted. inr (inr halted)) (subst (λ (bs : List ℕ). DropsEntry fault bs F) behind drops)))
 
 -- the first bytes of a record
 
-pub mark_stops : (fault : LogStartFault) (profile : Profile) (clients_max : ℕ) (F : Following) (bytes : List ℕ) → RefusesMark fault profile clients_max F.position bytes → StopsAt fault profile clients_max F bytes
+pub mark_stops : (fault : LogStartFault) (profile : Profile) (clients_max : ℕ) (F : Following) (bytes : List ℕ) → RefusesMark fault profile clients_max F.position bytes → StopsFollowerAt fault profile clients_max F bytes
 mark_stops (start.Journal fault) profile clients_max F bytes why = absurd why
 mark_stops start.Plain profile clients_max F bytes why = why
 mark_stops start.OtherRules profile clients_max F bytes why = why
@@ -67,9 +67,9 @@ mark_stops (start.TornTooLong at torn) profile clients_max F bytes why = absurd 
 module _ (profile : Profile) (clients_max : ℕ) (position : ℕ) (bytes content held : List ℕ) (F G : Following) (next : position ≡ F.position + 1) (behind : content ≡ drop fixed_bytes bytes)
     (holds : HoldsEntry content held F G) (marked : HasMark profile clients_max bytes) where
   compared_not : (fault : LogStartFault) → (fault ≡ start.NoMemory) ⊎ ((fault ≡ start.OtherHashes position) × (bytes ≢ record_bytes profile clients_max G content))
-      → StopsAt fault profile clients_max F bytes
-  compared_not fault (inl is) = subst (λ (f : LogStartFault). StopsAt f profile clients_max F bytes) (sym is) tt
-  compared_not fault (inr (is, differs)) = subst (λ (f : LogStartFault). StopsAt f profile clients_max F bytes) (sym is) (
+      → StopsFollowerAt fault profile clients_max F bytes
+  compared_not fault (inl is) = subst (λ (f : LogStartFault). StopsFollowerAt f profile clients_max F bytes) (sym is) tt
+  compared_not fault (inr (is, differs)) = subst (λ (f : LogStartFault). StopsFollowerAt f profile clients_max F bytes) (sym is) (
     marked,
     record {
       place = next;
@@ -85,7 +85,7 @@ module _ (profile : Profile) (clients_max : ℕ) (position : ℕ) (bytes content
 
   pub compared : (result : Result (Unit {0}) LogStartFault) → OnOk result (bytes ≡ record_bytes profile clients_max G content)
       → IfErr result (λ fault. (fault ≡ start.NoMemory) ⊎ ((fault ≡ start.OtherHashes position) × (bytes ≢ record_bytes profile clients_max G content)))
-      → Enters result profile clients_max bytes F G
+      → FollowsRecord result profile clients_max bytes F G
   compared (Ok done) same other = record {
     pairs = holds.pairs;
     fit = holds.fit;

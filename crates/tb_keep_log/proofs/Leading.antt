@@ -6,7 +6,7 @@ use Rattle.tb_machine.proofs.Legal.{fold_append}
 use Rattle.tb_log.specs.Format.{content_of}
 use Rattle.tb_log.specs.Following.{Following, Item, Entry, with_item, after_items, AllAnswered}
 use Rattle.tb_log.specs.Follows.{ItemFits}
-use Rattle.tb_keep_log.specs.Keeping.{record_bytes, record_of, records_from, Leads}
+use Rattle.tb_keep_log.specs.Keeping.{record_bytes, record_of, item_records, Leads}
 use Rattle.tb_keep_log.specs.Rereading.{EntersRecord}
 
 pub answered_join : (F : Following) (xs ys : List Item) → AllAnswered F xs → AllAnswered (after_items F xs) ys → AllAnswered F (xs ++ ys)
@@ -15,11 +15,11 @@ answered_join F (x ∷ xs) ys all more = (all.0, answered_join (with_item F x) x
 
 module _ (profile : Profile) (clients_max : ℕ) where
   pub records_join : (F : Following) (xs ys : List Item)
-      → records_from profile clients_max F (xs ++ ys) ≡ records_from profile clients_max F xs ++ records_from profile clients_max (after_items F xs) ys
+      → item_records profile clients_max F (xs ++ ys) ≡ item_records profile clients_max F xs ++ item_records profile clients_max (after_items F xs) ys
   records_join F [] ys = refl
   records_join F (x ∷ xs) ys =
       ap (λ (rs : List (List ℕ)). record_of profile clients_max F x ++ rs) (records_join (with_item F x) xs ys)
-      ∙ sym (append_assoc (record_of profile clients_max F x) (records_from profile clients_max (with_item F x) xs) (records_from profile clients_max (after_items (with_item F x) xs) ys))
+      ∙ sym (append_assoc (record_of profile clients_max F x) (item_records profile clients_max (with_item F x) xs) (item_records profile clients_max (after_items (with_item F x) xs) ys))
 
   pub leads_none : (F : Following) → Leads profile clients_max F [] F
   leads_none F = record { items = []; fit = tt; answered = tt; spelled = refl; now = refl }
@@ -30,7 +30,7 @@ module _ (profile : Profile) (clients_max : ℕ) where
     fit = each_append ItemFits one.items two.items one.fit two.fit;
     answered = answered_join F one.items two.items one.answered (subst (λ (K : Following). AllAnswered K two.items) one.now two.answered);
     spelled = ap (λ (rs : List (List ℕ)). rs ++ second) one.spelled
-        ∙ ap (λ (rs : List (List ℕ)). records_from profile clients_max F one.items ++ rs) (two.spelled ∙ ap (λ (K : Following). records_from profile clients_max K two.items) one.now)
+        ∙ ap (λ (rs : List (List ℕ)). item_records profile clients_max F one.items ++ rs) (two.spelled ∙ ap (λ (K : Following). item_records profile clients_max K two.items) one.now)
         ∙ sym (records_join F one.items two.items);
     now = two.now ∙ ap (λ (K : Following). after_items K two.items) one.now ∙ sym (fold_append with_item F one.items two.items);
   }

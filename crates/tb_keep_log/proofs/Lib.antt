@@ -10,3 +10,4 @@ pub mod Dumped
 pub mod Checked
 pub mod Copied
 pub mod CopiedLogs
+pub mod BehindDamage

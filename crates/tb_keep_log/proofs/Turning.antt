@@ -20,14 +20,14 @@ use Rattle.tb_keep_log.specs.declared.faults.KeepLogFault.{KeepLogFault}
 use Rattle.tb_keep_log.specs.declared.faults.KeepLogFault.TheVariants as keep
 use Rattle.tb_keep_log.specs.Keeping.{record_bytes, record_of}
 use Rattle.tb_keep_log.specs.Rereading.{IsHaltedContent}
-use Rattle.tb_keep_log.specs.Items.{point, IsHalted, RefusesItem, IsRead, Turn, IsUncommitted, Halts}
-use Rattle.tb_keep_log.specs.private.Steps.{TakesEntry, MissesEntry, PassesBytesOn, IsPut, IsUnput, CommitsAndReplies, ReadsWhole, KeepsEntry, FailsEntry, EntersEntry}
+use Rattle.tb_keep_log.specs.Items.{point, IsHalted, RefusesItem, IsItemRead, ItemTurn, IsItemUncommitted, HaltsServing}
+use Rattle.tb_keep_log.specs.private.Steps.{TakesLogEntry, MissesEntry, PassesBytesOn, IsPut, IsUnput, CommitsAndAnswers, ReadsWholeEntry, KeepsLogEntry, FailsEntry, EntersEntry}
 
 -- an entry that is taken
 
 module _ (tells : Type 0) {D : Type 0} (disk : D → Disk) (profile : Profile) (clients_max : ℕ) where
   -- its record is committed, and it is answered
-  module _ (F G : Following) (content held bytes : List ℕ) (old new : Kept D) (before after : Input) (start written : Output) (takes : TakesEntry content held F G before after)
+  module _ (F G : Following) (content held bytes : List ℕ) (old new : Kept D) (before after : Input) (start written : Output) (takes : TakesLogEntry content held F G before after)
       (record_is : bytes ≡ record_bytes profile clients_max G content) where
     abbrev ps : List Pair
     ps = takes.holds.pairs
@@ -37,7 +37,7 @@ module _ (tells : Type 0) {D : Type 0} (disk : D → Disk) (profile : Profile) (
         record_is ∙ ap (λ (bs : List ℕ). record_bytes profile clients_max G bs) takes.holds.spelled
         ∙ ap (λ (K : Following). record_bytes profile clients_max K (content_of ps)) takes.holds.now
 
-    whole : ReadsWhole tells disk profile clients_max ps F before after
+    whole : ReadsWholeEntry tells disk profile clients_max ps F before after
     whole = record {
       read = subst (λ (bs : List ℕ). ReadsEntry bs F.position before after) takes.holds.spelled takes.read;
       fit = takes.holds.fit;
@@ -47,7 +47,7 @@ module _ (tells : Type 0) {D : Type 0} (disk : D → Disk) (profile : Profile) (
     committed : IsPut tells disk (bytes ∷ []) old new → IsPut tells disk (record_of profile clients_max F (Entry ps)) old new
     committed put = subst (λ (bs : List ℕ). IsPut tells disk (bs ∷ []) old new) own put
 
-    pub entered : (result : Result (Unit {0}) KeepLogFault) → CommitsAndReplies tells disk result bytes held old new start written
+    pub entered : (result : Result (Unit {0}) KeepLogFault) → CommitsAndAnswers tells disk result bytes held old new start written
         → EntersEntry tells disk profile clients_max result F G old new before after start written
     entered (Ok done) puts = record {
       pairs = ps;
@@ -68,11 +68,11 @@ module _ (tells : Type 0) {D : Type 0} (disk : D → Disk) (profile : Profile) (
         takes_then (1 ∷ []) (summed (F.position + 1) (checksum_of (F.position + 1) content) content) a b c kind
         (record { consumed = read.bytes; counted = read.counted })
 
-    is_read : (ps : List Pair) → ReadsWhole tells disk profile clients_max ps F b c → IsRead tells disk profile clients_max (Entry ps) (point F old a start) c
+    is_read : (ps : List Pair) → ReadsWholeEntry tells disk profile clients_max ps F b c → IsItemRead tells disk profile clients_max (Entry ps) (point F old a start) c
     is_read ps whole = record { fit = whole.fit; read = entry_read (content_of ps) whole.read; answered = whole.answered }
 
-    pub entry_turn : KeepsEntry tells disk profile clients_max F G old new b c start written
-        → (item : Item) × Turn tells disk profile clients_max item (point F old a start) (point G new c written)
+    pub entry_turn : KeepsLogEntry tells disk profile clients_max F G old new b c start written
+        → (item : Item) × ItemTurn tells disk profile clients_max item (point F old a start) (point G new c written)
     entry_turn keeps = (
       Entry keeps.pairs,
       record {
@@ -110,7 +110,7 @@ module _ (tells : Type 0) {D : Type 0} (disk : D → Disk) (profile : Profile) (
     refused fault (inr (content, read, pairs, inr none)) = inr (inr (inr (inl (halted fault content read pairs none))))
 
     pub entry_halt : (fault : KeepLogFault) → FailsEntry tells disk profile clients_max fault F old new b c start written
-        → Halts tells disk profile clients_max (Err fault) (point F old a start) (point G new c written)
+        → HaltsServing tells disk profile clients_max (Err fault) (point F old a start) (point G new c written)
     entry_halt (keep.Journal fault) (ps, whole, unput, silent) = record {
       item = Entry ps;
       read = is_read ps whole;
@@ -119,7 +119,7 @@ module _ (tells : Type 0) {D : Type 0} (disk : D → Disk) (profile : Profile) (
     }
       where
         by : IsUnput tells disk fault (record_bytes profile clients_max (with_item F (Entry ps)) (content_of ps)) old new
-            → IsUncommitted tells disk profile clients_max fault (Entry ps) (point F old a start) (point G new c written)
+            → IsItemUncommitted tells disk profile clients_max fault (Entry ps) (point F old a start) (point G new c written)
         by (inl (same, refuses)) = inl (same, (record_bytes profile clients_max (with_item F (Entry ps)) (content_of ps), refl, refuses))
         by (inr fails) = inr fails
     entry_halt (keep.Log fault) (inl (misses, same, silent)) = inl (refused fault misses, record { same = same; silent = silent })

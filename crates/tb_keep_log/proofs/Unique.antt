@@ -16,10 +16,10 @@ use Rattle.tb_records.proofs.NumberBytes.{le_bytes-one, split_at}
 use Rattle.tb_records.proofs.Spellings.{spelled_once}
 use Rattle.tb_machine.proofs.CodesFit.{each_append}
 use Rattle.tb_machine.specs.Scripts.{Pair}
-use Rattle.tb_log.specs.Format.{content_of, chained, number_bytes, standing_item}
-use Rattle.tb_log.specs.Following.{Following, begun, Item, Entry, Question, answer_of, with_pair, with_content, with_item, after_items, script_of}
+use Rattle.tb_log.specs.Format.{content_of, chained_hash, number_bytes, standing_item}
+use Rattle.tb_log.specs.Following.{Following, begun_following, Item, Entry, Question, pair_answer, with_logged_pair, with_content, with_item, after_items, script_of}
 use Rattle.tb_log.specs.Follows.{ItemFits}
-use Rattle.tb_keep_log.specs.Keeping.{mark, record_bytes, records_from}
+use Rattle.tb_keep_log.specs.Keeping.{mark, record_bytes, item_records}
 use Rattle.tb_keep_log.specs.Dumping.{PairsOfLog}
 use Rattle.tb_keep_log.specs.Laws.{OneLog}
 use Rattle.tb_keep_log.specs.Rereading.{fixed_bytes}
@@ -56,7 +56,7 @@ unfolding digest_bytes
 length_digest h zero = refl
 length_digest h (suc n) = omega (arith, length-append (digest_bytes h n) (to_be_bytes w32 (slice_index h n)), length_digest h n, four (slice_index h n))
 
-length_chained : (hash bytes : List ℕ) → length (chained hash bytes) ≡ 32
+length_chained : (hash bytes : List ℕ) → length (chained_hash hash bytes) ≡ 32
 unfolding sha256
 length_chained hash bytes = length_digest (final_hash initial_hash_256 (hash ++ bytes)) 8
 
@@ -64,16 +64,16 @@ record IsHashed (F : Following) : Type 0 where
   log : length F.log ≡ 32
   replies : length F.replies ≡ 32
 
-hashed_pairs : (F : Following) (ps : List Pair) → IsHashed F → IsHashed (fold with_pair F ps)
+hashed_pairs : (F : Following) (ps : List Pair) → IsHashed F → IsHashed (fold with_logged_pair F ps)
 hashed_pairs F [] hashed = hashed
 hashed_pairs F (p ∷ ps) hashed =
-    hashed_pairs (with_pair F p) ps (record { log = hashed.log; replies = length_chained F.replies (reply_bytes (answer_of F p)) })
+    hashed_pairs (with_logged_pair F p) ps (record { log = hashed.log; replies = length_chained F.replies (reply_bytes (pair_answer F p)) })
 
 hashed_entry : (F : Following) (ps : List Pair) → IsHashed F → IsHashed (with_item F (Entry ps))
 hashed_entry F ps hashed =
     hashed_pairs (with_content F (content_of ps)) ps (record { log = length_chained F.log (content_of ps); replies = hashed.replies })
 
-hashed_begun : (profile : Profile) (clients_max : ℕ) → IsHashed (begun profile clients_max)
+hashed_begun : (profile : Profile) (clients_max : ℕ) → IsHashed (begun_following profile clients_max)
 hashed_begun profile clients_max = record { log = refl; replies = refl }
 
 eight : (x : ℕ) → length (number_bytes 8 x) ≡ 8
@@ -104,7 +104,7 @@ module _ (profile : Profile) (clients_max : ℕ) where
   rest_of [] = []
   rest_of (x ∷ xs) = xs
 
-  same_end : (F : Following) (xs ys : List Item) → IsHashed F → Each ItemFits xs → Each ItemFits ys → records_from profile clients_max F xs ≡ records_from profile clients_max F ys
+  same_end : (F : Following) (xs ys : List Item) → IsHashed F → Each ItemFits xs → Each ItemFits ys → item_records profile clients_max F xs ≡ item_records profile clients_max F ys
       → after_items F xs ≡ after_items F ys
   unfolding head_of rest_of
   same_end F [] [] hashed fx fy e = refl
@@ -118,14 +118,14 @@ module _ (profile : Profile) (clients_max : ℕ) where
       let H = with_item F (Entry qs) in
       let bytes : record_bytes profile clients_max G (content_of ps) ≡ record_bytes profile clients_max H (content_of qs) = ap (head_of []) e in
       let same = content_once ps qs fx.0.1 fy.0.1 (record_once G H (content_of ps) (content_of qs) (hashed_entry F ps hashed) (hashed_entry F qs hashed) bytes) in
-      let rest : records_from profile clients_max G xs ≡ records_from profile clients_max H ys = ap rest_of e in
+      let rest : item_records profile clients_max G xs ≡ item_records profile clients_max H ys = ap rest_of e in
       let here : H ≡ G = ap (λ (l : List Pair). with_item F (Entry l)) (sym same) in
-      same_end G xs ys (hashed_entry F ps hashed) fx.1 fy.1 (rest ∙ ap (λ (K : Following). records_from profile clients_max K ys) here)
+      same_end G xs ys (hashed_entry F ps hashed) fx.1 fy.1 (rest ∙ ap (λ (K : Following). item_records profile clients_max K ys) here)
       ∙ ap (λ (K : Following). after_items K ys) (sym here)
 
 pub one_log : OneLog
 one_log profile clients_max records F G one other =
-    one.now ∙ same_end profile clients_max (begun profile clients_max) one.items other.items (hashed_begun profile clients_max) one.fit other.fit (sym one.spelled ∙ other.spelled) ∙ sym other.now
+    one.now ∙ same_end profile clients_max (begun_following profile clients_max) one.items other.items (hashed_begun profile clients_max) one.fit other.fit (sym one.spelled ∙ other.spelled) ∙ sym other.now
 
 -- the pairs of the records
 
@@ -141,16 +141,16 @@ behind_mark profile clients_max F content hashed =
     ∙ drop_at front content 79 (length-append (mark profile clients_max) (standing_item F.position F.log F.replies) ∙ ap (λ (n : ℕ). 6 + n) (standing_long F hashed))
 
 contents_of : (profile : Profile) (clients_max : ℕ) (F : Following) (items : List Item) → IsHashed F
-    → flat_map (drop fixed_bytes) (records_from profile clients_max F items) ≡ content_of (script_of items)
+    → flat_map (drop fixed_bytes) (item_records profile clients_max F items) ≡ content_of (script_of items)
 contents_of profile clients_max F [] hashed = refl
 contents_of profile clients_max F (Question ∷ items) hashed = contents_of profile clients_max F items hashed
 contents_of profile clients_max F (Entry ps ∷ items) hashed =
     let G = with_item F (Entry ps) in
-    ap (λ (bs : List ℕ). bs ++ flat_map (drop fixed_bytes) (records_from profile clients_max G items)) (behind_mark profile clients_max G (content_of ps) (hashed_entry F ps hashed))
+    ap (λ (bs : List ℕ). bs ++ flat_map (drop fixed_bytes) (item_records profile clients_max G items)) (behind_mark profile clients_max G (content_of ps) (hashed_entry F ps hashed))
     ∙ ap (λ (bs : List ℕ). content_of ps ++ bs) (contents_of profile clients_max G items (hashed_entry F ps hashed))
     ∙ sym (flat_map-append timed_bytes ps (script_of items))
 
 pub pairs_of_log : PairsOfLog
 pairs_of_log profile clients_max records F ps kept has =
     content_once ps (script_of kept.items) has.fit (script_joined kept.items kept.fit)
-    (sym has.spelled ∙ ap (flat_map (drop fixed_bytes)) kept.spelled ∙ contents_of profile clients_max (begun profile clients_max) kept.items (hashed_begun profile clients_max))
+    (sym has.spelled ∙ ap (flat_map (drop fixed_bytes)) kept.spelled ∙ contents_of profile clients_max (begun_following profile clients_max) kept.items (hashed_begun profile clients_max))

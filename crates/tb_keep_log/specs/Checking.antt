@@ -7,7 +7,7 @@ use Rattle.tb_keep.specs.Recovering.{torn_bytes}
 use Rattle.tb_keep_log.specs.declared.checking.Reached.{Reached}
 use Rattle.tb_keep_log.specs.declared.faults.LogStartFault.{LogStartFault}
 use Rattle.tb_keep_log.specs.declared.faults.LogStartFault.TheVariants as start
-use Rattle.tb_keep_log.specs.Rereading.{IsRestored, IsTornTooLong, StopsOpening}
+use Rattle.tb_keep_log.specs.Rereading.{IsFollowerRestored, IsLogTornTooLong, StopsLogOpening}
 
 -- where a follower is behind the records that end there: the position of the last entry, and the number and the time of the last entry of
 -- its history
@@ -17,17 +17,17 @@ reached_by F extent = record { extent = extent; position = F.position; commit = 
 -- the file was read to its end, each record that of the next entry of one log, with few torn bytes behind it
 pub record IsWholeLog (reached : Reached) (profile : Profile) (clients_max : ℕ) (file : List ℕ) : Type 0 where
   pub last : Following
-  pub restored : IsRestored profile clients_max file last reached.extent
+  pub restored : IsFollowerRestored profile clients_max file last reached.extent
   pub reached_is : reached ≡ reached_by last reached.extent
   pub few : torn_bytes file ≤ 2 ^ 24 + 11
 
 -- or a start refuses it
 abbrev pub ChecksLog : Result Reached LogStartFault → Profile → ℕ → List ℕ → Type 0
 ChecksLog (Ok reached) profile clients_max file = IsWholeLog reached profile clients_max file
-ChecksLog (Err fault) profile clients_max file = StopsOpening fault profile clients_max file
+ChecksLog (Err fault) profile clients_max file = StopsLogOpening fault profile clients_max file
 
 -- a start refuses a file that is read to its end for its torn bytes alone
-abbrev pub IsTornStop : Option LogStartFault → List ℕ → Type 0
-IsTornStop None file = torn_bytes file ≤ 2 ^ 24 + 11
-IsTornStop (Some (start.TornTooLong at bytes)) file = IsTornTooLong at bytes file
-IsTornStop stop file = ⊥
+abbrev pub IsTornLogStop : Option LogStartFault → List ℕ → Type 0
+IsTornLogStop None file = torn_bytes file ≤ 2 ^ 24 + 11
+IsTornLogStop (Some (start.TornTooLong at bytes)) file = IsLogTornTooLong at bytes file
+IsTornLogStop stop file = ⊥

@@ -1,5 +1,5 @@
 -- What is taken over of a log's file into a new one, and what a crash may leave of that meanwhile.
-use Rattle.std.specs.Prelude.{ℕ, true, ◌≡◌, ◌⊎◌, ◌+◌, ◌≤◌, ◌^◌, List, [], ◌∷◌, ◌++◌, length, Option, None, Some, Result, Ok, Err, OnOk, IfErr}
+use Rattle.std.specs.Prelude.{ℕ, Bool, true, false, ◌≡◌, ◌⊎◌, ◌+◌, ◌≤◌, ◌^◌, List, [], ◌∷◌, ◌++◌, length, Option, None, Some, Result, Ok, Err, OnOk, IfErr}
 use Rattle.tb_records.specs.declared.limits.Profile.{Profile}
 use Rattle.tb_journal.specs.declared.faults.JournalFault.{JournalFault}
 use Rattle.tb_journal.specs.declared.faults.JournalFault.TheVariants.{NotEmpty}
@@ -12,7 +12,7 @@ use Rattle.tb_journal.specs.Creating.{is_blank, MayBeCreated, IsCreateCause}
 use Rattle.tb_journal.specs.Ready.{IsReady}
 use Rattle.tb_journal.specs.Scans.{BeginsWith}
 use Rattle.tb_log.specs.Following.{Following}
-use Rattle.tb_keep.specs.Creating.{IsUntouched}
+use Rattle.tb_keep.specs.Creating.{IsDiskUntouched}
 use Rattle.tb_keep.specs.Recovering.{torn_bytes}
 use Rattle.tb_keep.specs.Salvaging.{IsWriteCause}
 use Rattle.tb_keep_log.specs.declared.checking.Reached.{Reached}
@@ -24,28 +24,28 @@ use Rattle.tb_keep_log.specs.declared.faults.LogStartFault.{LogStartFault}
 use Rattle.tb_keep_log.specs.declared.faults.LogStartFault.TheVariants as start
 use Rattle.tb_keep_log.specs.Checking.{reached_by}
 use Rattle.tb_keep_log.specs.Keeping.{IsKept}
-use Rattle.tb_keep_log.specs.Rereading.{IsTornTooLong, StopsAt}
+use Rattle.tb_keep_log.specs.Rereading.{IsLogTornTooLong, StopsFollowerAt}
 
 -- a fault of the file that is read, or of the new one; the other has none
-abbrev pub old_part : CopyLogFault → Result (Unit {0}) LogStartFault
-old_part (Old fault) = Err fault
-old_part (New fault) = Ok tt
+abbrev pub old_log_part : CopyLogFault → Result (Unit {0}) LogStartFault
+old_log_part (Old fault) = Err fault
+old_log_part (New fault) = Ok tt
 
-abbrev pub new_part : CopyLogFault → Result (Unit {0}) OpenFault
-new_part (Old fault) = Ok tt
-new_part (New fault) = Err fault
+abbrev pub new_log_part : CopyLogFault → Result (Unit {0}) OpenFault
+new_log_part (Old fault) = Ok tt
+new_log_part (New fault) = Err fault
 
-abbrev pub why_old : {T N : Type 0} → Result T (NotCopiedLog N) → Result (Unit {0}) LogStartFault
-why_old (Ok value) = Ok tt
-why_old (Err failed) = old_part failed.fault
+abbrev pub why_old_log : {T N : Type 0} → Result T (NotCopiedLog N) → Result (Unit {0}) LogStartFault
+why_old_log (Ok value) = Ok tt
+why_old_log (Err failed) = old_log_part failed.fault
 
-abbrev pub why_new : {T N : Type 0} → Result T (NotCopiedLog N) → Result (Unit {0}) OpenFault
-why_new (Ok value) = Ok tt
-why_new (Err failed) = new_part failed.fault
+abbrev pub why_new_log : {T N : Type 0} → Result T (NotCopiedLog N) → Result (Unit {0}) OpenFault
+why_new_log (Ok value) = Ok tt
+why_new_log (Err failed) = new_log_part failed.fault
 
 -- of each file that the reads are of is said why it was not taken over
-abbrev pub SaysWhy : {T N : Type 0} → (List ℕ → Type 0) → Result T (NotCopiedLog N) → (CopyLogFault → List ℕ → Type 0) → Type 0
-SaysWhy holds result Is = (file : List ℕ) → holds file → IfErr result (λ failed. Is failed.fault file)
+abbrev pub SaysWhyNotCopied : {T N : Type 0} → (List ℕ → Type 0) → Result T (NotCopiedLog N) → (CopyLogFault → List ℕ → Type 0) → Type 0
+SaysWhyNotCopied holds result Is = (file : List ℕ) → holds file → IfErr result (λ failed. Is failed.fault file)
 
 -- the device of the new file
 abbrev pub copied_device : {N : Type 0} → Result (CopiedLog N) (NotCopiedLog N) → N
@@ -54,21 +54,28 @@ copied_device (Err failed) = failed.device
 
 -- why no more is taken of a file behind these records, which lead a follower to a place. The file ends there, with few torn bytes behind
 -- it; or it is the fault for which a start refuses it: too many of them, damage, or one more record that is not that of the next entry
-abbrev pub StopsBehind : Option LogStartFault → Profile → ℕ → List (List ℕ) → Following → List ℕ → Type 0
-StopsBehind None profile clients_max records F file = (contents file ≡ Records records) × (torn_bytes file ≤ 2 ^ 24 + 11)
-StopsBehind (Some (start.TornTooLong at bytes)) profile clients_max records F file = (contents file ≡ Records records) × IsTornTooLong at bytes file
-StopsBehind (Some (start.Journal (open_faults.Refused (refusals.Damaged at)))) profile clients_max records F file =
+abbrev pub StopsCopyBehind : Option LogStartFault → Profile → ℕ → List (List ℕ) → Following → List ℕ → Type 0
+StopsCopyBehind None profile clients_max records F file = (contents file ≡ Records records) × (torn_bytes file ≤ 2 ^ 24 + 11)
+StopsCopyBehind (Some (start.TornTooLong at bytes)) profile clients_max records F file = (contents file ≡ Records records) × IsLogTornTooLong at bytes file
+StopsCopyBehind (Some (start.Journal (open_faults.Refused (refusals.Damaged at)))) profile clients_max records F file =
     (contents file ≡ Damaged at) × (at ≡ records_end records)
-StopsBehind (Some (start.Journal fault)) profile clients_max records F file = ⊥
-StopsBehind (Some start.NoMemory) profile clients_max records F file = ⊥
-StopsBehind (Some fault) profile clients_max records F file = (bytes : List ℕ) × BeginsWith (records ++ bytes ∷ []) file × StopsAt fault profile clients_max F bytes
+StopsCopyBehind (Some (start.Journal fault)) profile clients_max records F file = ⊥
+StopsCopyBehind (Some start.NoMemory) profile clients_max records F file = ⊥
+StopsCopyBehind (Some fault) profile clients_max records F file = (bytes : List ℕ) × BeginsWith (records ++ bytes ∷ []) file × StopsFollowerAt fault profile clients_max F bytes
+
+-- a copy that ended so may be read on: its follower has read nothing of an entry that is refused
+abbrev pub reads_on : Option LogStartFault → Bool
+reads_on None = true
+reads_on (Some (start.Journal fault)) = true
+reads_on (Some (start.TornTooLong at bytes)) = true
+reads_on (Some fault) = false
 
 -- records were taken of a file, which lead to a place: the file begins with them, and behind them no more can be taken
-pub record IsTaken (reached : Reached) (stop : Option LogStartFault) (profile : Profile) (clients_max : ℕ) (records : List (List ℕ)) (F : Following) (file : List ℕ) : Type 0 where
+pub record AreRecordsTaken (reached : Reached) (stop : Option LogStartFault) (profile : Profile) (clients_max : ℕ) (records : List (List ℕ)) (F : Following) (file : List ℕ) : Type 0 where
   pub begins : BeginsWith records file
   pub end_is : reached.extent.end ≡ records_end records
   pub count_is : reached.extent.count ≡ length records
-  pub stops : StopsBehind stop profile clients_max records F file
+  pub stops : StopsCopyBehind stop profile clients_max records F file
 
 -- the new file has the records that were taken of the one that is read: those of the entries of one log, durable
 pub record IsCopied (tells : Type 0) {N : Type 0} (disk : N → Disk) (holds : List ℕ → Type 0) (profile : Profile) (clients_max : ℕ) (copied : CopiedLog N) : Type 0 where
@@ -78,8 +85,10 @@ pub record IsCopied (tells : Type 0) {N : Type 0} (disk : N → Disk) (holds : L
   pub ready : tells → IsReady disk copied.journal
   pub file : tells → recorded (disk copied.journal.device).seen ≡ records
   pub none_waits : copied.journal.waiting ≡ []
+  pub usable : copied.journal.usable ≡ true
+  pub at_last : reads_on copied.stop ≡ true → copied.follower ≡ last
   pub reached_is : copied.reached ≡ reached_by last copied.reached.extent
-  pub taken : (file : List ℕ) → holds file → IsTaken copied.reached copied.stop profile clients_max records last file
+  pub taken : (file : List ℕ) → holds file → AreRecordsTaken copied.reached copied.stop profile clients_max records last file
 
 -- why nothing is taken of a file: it is no journal. For any other fault it is not the reason
 abbrev pub IsUncopied : CopyLogFault → List ℕ → Type 0
@@ -90,18 +99,18 @@ IsUncopied (Old fault) file = ⊥
 IsUncopied (New fault) file = Unit {0}
 
 -- the cause of a fault of the new file: that of its creation; or a call has failed so; or there is no memory, or the file is too long
-abbrev pub IsNewCause : Disk → Disk → OpenFault → Type 0
-IsNewCause before after fault = IsCreateCause before after fault ⊎ ((own : JournalFault) × (fault ≡ open_faults.Device own) × IsWriteCause before after own)
+abbrev pub IsNewLogCause : Disk → Disk → OpenFault → Type 0
+IsNewLogCause before after fault = IsCreateCause before after fault ⊎ ((own : JournalFault) × (fault ≡ open_faults.Device own) × IsWriteCause before after own)
 
 -- where something is in the place of the new file, that is as it was
-abbrev pub IsLeftAlone : Disk → Disk → OpenFault → Type 0
-IsLeftAlone before after (open_faults.Device NotEmpty) = IsUntouched before after
-IsLeftAlone before after fault = Unit {0}
+abbrev pub IsNewLogLeftAlone : Disk → Disk → OpenFault → Type 0
+IsNewLogLeftAlone before after (open_faults.Device NotEmpty) = IsDiskUntouched before after
+IsNewLogLeftAlone before after fault = Unit {0}
 
-pub record HasNewCause (result : Result (Unit {0}) OpenFault) (before after : Disk) : Type 0 where
+pub record HasNewLogCause (result : Result (Unit {0}) OpenFault) (before after : Disk) : Type 0 where
   pub ok : OnOk result (FailsNone before after)
-  pub cause : IfErr result (IsNewCause before after)
-  pub alone : IfErr result (IsLeftAlone before after)
+  pub cause : IfErr result (IsNewLogCause before after)
+  pub alone : IfErr result (IsNewLogLeftAlone before after)
 
 -- a log's file that has some first records of the one that is read
 pub record HasSomeFirst (holds : List ℕ → Type 0) (profile : Profile) (clients_max : ℕ) (file : List ℕ) : Type 0 where

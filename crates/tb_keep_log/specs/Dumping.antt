@@ -13,12 +13,12 @@ use Rattle.tb_journal.specs.Opening.{RefusesFile}
 use Rattle.tb_journal.specs.Scans.{BeginsWith}
 use Rattle.tb_machine.specs.Dumps.{dumped}
 use Rattle.tb_machine.specs.Histories.{State, start}
-use Rattle.tb_machine.specs.Runs.{IsTimely}
+use Rattle.tb_machine.specs.Runs.{IsUntimely, IsTimely}
 use Rattle.tb_machine.specs.Scripts.{Pair, after_pair}
 use Rattle.tb_log.specs.Following.{Following, script_of}
 use Rattle.tb_log.specs.Format.{content_of}
 use Rattle.tb_keep.specs.declared.recovering.Rules.{Rules}
-use Rattle.tb_keep.specs.Rounds.{entries_from, state_from, IsUntimely}
+use Rattle.tb_keep.specs.Rounds.{entries_from, state_from}
 use Rattle.tb_keep_log.specs.declared.faults.DumpLogFault.{DumpLogFault}
 use Rattle.tb_keep_log.specs.declared.faults.DumpLogFault.TheVariants as dump
 use Rattle.tb_keep_log.specs.declared.faults.LogStartFault.TheVariants as start_faults
@@ -63,7 +63,7 @@ StopsRecord dump.NoPairs profile clients_max last bytes = HasMark profile client
 StopsRecord fault profile clients_max last bytes = Unit {0}
 
 -- the file begins with records, behind which one is refused
-pub record StopsBehind (fault : DumpLogFault) (profile : Profile) (clients_max : ℕ) (file : List ℕ) : Type 0 where
+pub record StopsDumpBehind (fault : DumpLogFault) (profile : Profile) (clients_max : ℕ) (file : List ℕ) : Type 0 where
   pub records : List (List ℕ)
   pub bytes : List ℕ
   pub begins : BeginsWith (records ++ bytes ∷ []) file
@@ -73,8 +73,8 @@ pub record StopsBehind (fault : DumpLogFault) (profile : Profile) (clients_max :
 -- not the file's fault
 abbrev pub StopsDump : DumpLogFault → Profile → ℕ → List ℕ → Type 0
 StopsDump (dump.Start (start_faults.Journal fault)) profile clients_max file = RefusesFile fault file
-StopsDump (dump.Start fault) profile clients_max file = StopsBehind (dump.Start fault) profile clients_max file
-StopsDump dump.NoPairs profile clients_max file = StopsBehind dump.NoPairs profile clients_max file
+StopsDump (dump.Start fault) profile clients_max file = StopsDumpBehind (dump.Start fault) profile clients_max file
+StopsDump dump.NoPairs profile clients_max file = StopsDumpBehind dump.NoPairs profile clients_max file
 StopsDump fault profile clients_max file = Unit {0}
 
 -- pairs with which the contents of a file's first records begin
@@ -107,13 +107,13 @@ DumpsBy rules output result writer later file = DumpsLog result rules.profile ru
 
 -- the cause of a dump's fault, by what the device has counted since: of one of the file, that which it has when it is read; behind any
 -- other no call on the device has failed
-abbrev pub IsDumpCause : Disk → Disk → DumpLogFault → Type 0
-IsDumpCause before after (dump.Start fault) = IsLogCause before after fault
-IsDumpCause before after fault = FailsNone before after
+abbrev pub IsLogDumpCause : Disk → Disk → DumpLogFault → Type 0
+IsLogDumpCause before after (dump.Start fault) = IsLogCause before after fault
+IsLogDumpCause before after fault = FailsNone before after
 
-pub record HasDumpCause {T : Type 0} (result : Result T DumpLogFault) (before after : Disk) : Type 0 where
+pub record HasLogDumpCause {T : Type 0} (result : Result T DumpLogFault) (before after : Disk) : Type 0 where
   pub ok : OnOk result (FailsNone before after)
-  pub cause : IfErr result (IsDumpCause before after)
+  pub cause : IfErr result (IsLogDumpCause before after)
 
 -- the records of a kept log have the pairs of its entries, and no others
 abbrev pub PairsOfLog : Type 0

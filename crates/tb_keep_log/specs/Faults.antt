@@ -11,32 +11,32 @@ use Rattle.tb_keep_log.specs.declared.faults.LogStartFault.TheVariants as start
 use Rattle.tb_keep_log.specs.declared.faults.KeepLogFault.{KeepLogFault}
 use Rattle.tb_keep_log.specs.declared.faults.KeepLogFault.TheVariants as keep
 
-abbrev pub start_fault_name : LogStartFault → List ℕ
-start_fault_name (start.Journal fault) = codes "Journal"
-start_fault_name start.Plain = codes "Plain"
-start_fault_name start.OtherRules = codes "OtherRules"
-start_fault_name (start.NoEntry last) = codes "NoEntry"
-start_fault_name (start.Entry fault) = codes "Entry"
-start_fault_name (start.OtherHashes position) = codes "OtherHashes"
-start_fault_name start.NoMemory = codes "NoMemory"
-start_fault_name (start.TornTooLong at bytes) = codes "TornTooLong"
+abbrev pub log_start_fault_name : LogStartFault → List ℕ
+log_start_fault_name (start.Journal fault) = codes "Journal"
+log_start_fault_name start.Plain = codes "Plain"
+log_start_fault_name start.OtherRules = codes "OtherRules"
+log_start_fault_name (start.NoEntry last) = codes "NoEntry"
+log_start_fault_name (start.Entry fault) = codes "Entry"
+log_start_fault_name (start.OtherHashes position) = codes "OtherHashes"
+log_start_fault_name start.NoMemory = codes "NoMemory"
+log_start_fault_name (start.TornTooLong at bytes) = codes "TornTooLong"
 
 abbrev pub copy_fault_name : CopyLogFault → List ℕ
-copy_fault_name (copy.Old fault) = start_fault_name fault
+copy_fault_name (copy.Old fault) = log_start_fault_name fault
 copy_fault_name (copy.New fault) = codes "Journal"
 
-abbrev pub keep_fault_name : KeepLogFault → List ℕ
-keep_fault_name (keep.Log fault) = log_faults.fault_name fault
-keep_fault_name (keep.Journal fault) = journal_faults.fault_name fault
+abbrev pub keep_log_fault_name : KeepLogFault → List ℕ
+keep_log_fault_name (keep.Log fault) = log_faults.log_fault_name fault
+keep_log_fault_name (keep.Journal fault) = journal_faults.journal_fault_name fault
 
 -- its line: of a fault of the log the byte or the position too
 abbrev pub keep_fault_text : KeepLogFault → List ℕ
-keep_fault_text (keep.Log fault) = log_faults.fault_text fault
-keep_fault_text (keep.Journal fault) = journal_faults.fault_name fault
+keep_fault_text (keep.Log fault) = log_faults.log_fault_text fault
+keep_fault_text (keep.Journal fault) = journal_faults.journal_fault_name fault
 
-abbrev pub dump_fault_name : DumpLogFault → List ℕ
-dump_fault_name (dump.Start fault) = start_fault_name fault
-dump_fault_name dump.NoPairs = codes "NoPairs"
-dump_fault_name dump.TimeExhausted = codes "TimeExhausted"
-dump_fault_name dump.NoMemory = codes "NoMemory"
-dump_fault_name dump.Writer = codes "Writer"
+abbrev pub log_dump_fault_name : DumpLogFault → List ℕ
+log_dump_fault_name (dump.Start fault) = log_start_fault_name fault
+log_dump_fault_name dump.NoPairs = codes "NoPairs"
+log_dump_fault_name dump.TimeExhausted = codes "TimeExhausted"
+log_dump_fault_name dump.NoMemory = codes "NoMemory"
+log_dump_fault_name dump.Writer = codes "Writer"

@@ -9,7 +9,7 @@ use Rattle.tb_journal.specs.Device.{Disk}
 use Rattle.tb_journal.specs.Contents.{recorded}
 use Rattle.tb_journal.specs.Ready.{Kept, IsReady}
 use Rattle.tb_log.specs.Format.{content_of, standing_item}
-use Rattle.tb_log.specs.Following.{Following, begun, Item, Entry, Question, with_item, after_items, AllAnswered}
+use Rattle.tb_log.specs.Following.{Following, begun_following, Item, Entry, Question, with_item, after_items, AllAnswered}
 use Rattle.tb_log.specs.Follows.{ItemFits}
 use Rattle.tb_keep.specs.declared.recovering.Rules.{Rules}
 use Rattle.tb_journal.specs.Scans.{HasRead, ScanState}
@@ -27,24 +27,24 @@ abbrev pub record_of : Profile → ℕ → Following → Item → List (List ℕ
 record_of profile clients_max F (Entry ps) = record_bytes profile clients_max (with_item F (Entry ps)) (content_of ps) ∷ []
 record_of profile clients_max F Question = []
 
-abbrev pub records_from : Profile → ℕ → Following → List Item → List (List ℕ)
-records_from profile clients_max F [] = []
-records_from profile clients_max F (item ∷ items) = record_of profile clients_max F item ++ records_from profile clients_max (with_item F item) items
+abbrev pub item_records : Profile → ℕ → Following → List Item → List (List ℕ)
+item_records profile clients_max F [] = []
+item_records profile clients_max F (item ∷ items) = record_of profile clients_max F item ++ item_records profile clients_max (with_item F item) items
 
 -- the records are what some items leave, and these items lead a follower from one place to another
 pub record Leads (profile : Profile) (clients_max : ℕ) (F : Following) (records : List (List ℕ)) (G : Following) : Type 0 where
   pub items : List Item
   pub fit : Each ItemFits items
   pub answered : AllAnswered F items
-  pub spelled : records ≡ records_from profile clients_max F items
+  pub spelled : records ≡ item_records profile clients_max F items
   pub now : G ≡ after_items F items
 
 -- the records of a whole file: they lead from the beginning of the log
 abbrev pub IsKept : Profile → ℕ → List (List ℕ) → Following → Type 0
-IsKept profile clients_max records F = Leads profile clients_max (begun profile clients_max) records F
+IsKept profile clients_max records F = Leads profile clients_max (begun_following profile clients_max) records F
 
 -- the rules of a log, the journal on a device, the follower next to it, how many torn bytes a start cut off, and whether no call has failed
-pub record Keeping (D : Type 0) : Type 0 where
+pub record LogKeeping (D : Type 0) : Type 0 where
   pub rules : Rules
   pub journal : Kept D
   pub now : Following
@@ -52,13 +52,13 @@ pub record Keeping (D : Type 0) : Type 0 where
   pub usable : Bool
 
 -- a keeper that may go on, whatever the device: no call of it has failed, no commit of its journal, and nothing waits
-pub record IsUsable {D : Type 0} (keeper : Keeping D) : Type 0 where
+pub record IsUsableLog {D : Type 0} (keeper : LogKeeping D) : Type 0 where
   pub kept : keeper.usable ≡ true
   pub journal : keeper.journal.usable ≡ true
   pub none_waits : keeper.journal.waiting ≡ []
 
 -- the keeper's file has these records, and the follower is behind them
-pub record Keeps {D : Type 0} (disk : D → Disk) (records : List (List ℕ)) (keeper : Keeping D) : Type 0 where
+pub record KeepsLogRecords {D : Type 0} (disk : D → Disk) (records : List (List ℕ)) (keeper : LogKeeping D) : Type 0 where
   pub ready : IsReady disk keeper.journal
   pub file : recorded (disk keeper.journal.device).seen ≡ records
   pub kept : IsKept keeper.rules.profile keeper.rules.clients_max records keeper.now
@@ -66,10 +66,6 @@ pub record Keeps {D : Type 0} (disk : D → Disk) (records : List (List ℕ)) (k
 -- what holds by the rules of a file: by its profile and its number of clients
 abbrev pub By {ℓ} : {T : Type ℓ} → Rules → (Profile → ℕ → T) → T
 By rules P = P rules.profile rules.clients_max
-
--- of the file that the reads of a device are of
-abbrev pub OfHeld : (List ℕ → Type 0) → (List ℕ → Type 0) → Type 0
-OfHeld holds P = (file : List ℕ) → holds file → P file
 
 -- of this file, where a scan has read no record of it
 abbrev pub OfUnread : (List ℕ → Type 0) → ScanState → (List ℕ → Type 0) → Type 0
@@ -89,5 +85,5 @@ pub mark_of_profile_two : mark Two 8 ≡ 84 ∷ 66 ∷ 70 ∷ 49 ∷ 2 ∷ 8 ∷
 mark_of_profile_two = refl
 
 -- a question leaves nothing
-pub no_record_of_a_question : records_from Two 8 (begun Two 8) (Question ∷ []) ≡ []
+pub no_record_of_a_question : item_records Two 8 (begun_following Two 8) (Question ∷ []) ≡ []
 no_record_of_a_question = refl

@@ -8,9 +8,9 @@ use Rattle.tb_journal.specs.Steps.{IsBeforeOrAfter}
 use Rattle.tb_keep.specs.Again.{IsAmid}
 use Rattle.tb_keep.specs.Keeping.{head_record}
 use Rattle.tb_keep.specs.Rounds.{Commits}
-use Rattle.tb_log.specs.Following.{Following, begun, Item, after_items, bytes_of, given}
+use Rattle.tb_log.specs.Following.{Following, begun_following, Item, after_items, bytes_of, given}
 use Rattle.tb_keep_log.specs.declared.faults.KeepLogFault.{KeepLogFault}
-use Rattle.tb_keep_log.specs.Keeping.{record_bytes, record_of, records_from, IsKept, Keeping, Keeps}
+use Rattle.tb_keep_log.specs.Keeping.{record_bytes, record_of, item_records, IsKept, LogKeeping, KeepsLogRecords}
 use Rattle.tb_keep_log.specs.Items.{Point, Turns, KeepsLog}
 
 -- a follower that has read some items is answered further on as one that reads them all from the beginning
@@ -23,8 +23,8 @@ FollowsFurther = (F : Following) (read more : List Item)
 -- so is one that was opened: its file represents items from the beginning of the log up to its position, and it wants those behind them
 abbrev pub OpenedGoesOn : Type 0
 OpenedGoesOn = (profile : Profile) (clients_max : ℕ) (records : List (List ℕ)) (F : Following) (more : List Item) → (kept : IsKept profile clients_max records F)
-    → (bytes_of (begun profile clients_max) (kept.items ++ more) ≡ bytes_of (begun profile clients_max) kept.items ++ bytes_of F more)
-    × (given (begun profile clients_max) (kept.items ++ more) ≡ given (begun profile clients_max) kept.items ++ given F more)
+    → (bytes_of (begun_following profile clients_max) (kept.items ++ more) ≡ bytes_of (begun_following profile clients_max) kept.items ++ bytes_of F more)
+    × (given (begun_following profile clients_max) (kept.items ++ more) ≡ given (begun_following profile clients_max) kept.items ++ given F more)
 
 -- the records of a file lead to one place: of a file that is opened at a position there is one follower
 abbrev pub OneLog : Type 0
@@ -35,48 +35,48 @@ abbrev pub OtherFormat : Type 0
 OtherFormat = (profile other : Profile) (clients_max number : ℕ) (F : Following) (content : List ℕ) → record_bytes profile clients_max F content ≡ head_record other number → ⊥
 
 -- the file has the records from before, and those of some first items, and a follower opened over it is behind these
-pub record HasFirst (profile : Profile) (clients_max : ℕ) (records : List (List ℕ)) (F : Following) (all : List Item) (file : List ℕ) : Type 0 where
+pub record HasFirstItems (profile : Profile) (clients_max : ℕ) (records : List (List ℕ)) (F : Following) (all : List Item) (file : List ℕ) : Type 0 where
   pub items : List Item
   pub others : List Item
   pub all_are : all ≡ items ++ others
-  pub reads : contents file ≡ Records (records ++ records_from profile clients_max F items)
-  pub kept : IsKept profile clients_max (records ++ records_from profile clients_max F items) (after_items F items)
+  pub reads : contents file ≡ Records (records ++ item_records profile clients_max F items)
+  pub kept : IsKept profile clients_max (records ++ item_records profile clients_max F items) (after_items F items)
 
 module _ (tells : Type 0) {D : Type 0} (disk : D → Disk) where
   -- a crash at any moment of a run: the items are those that were served, and at most one behind them, of which no reply was sent in full
-  abbrev pub AnyCrash : Type 0
-  AnyCrash = (records : List (List ℕ)) (result : Result ℕ KeepLogFault) (keeper after : Keeping D) (first last : Input) (start written : Output) (file : List ℕ)
-      → tells → Keeps disk records keeper
+  abbrev pub AnyLogCrash : Type 0
+  AnyLogCrash = (records : List (List ℕ)) (result : Result ℕ KeepLogFault) (keeper after : LogKeeping D) (first last : Input) (start written : Output) (file : List ℕ)
+      → tells → KeepsLogRecords disk records keeper
       → (served : KeepsLog tells disk result keeper after first last start written)
       → (disk after.journal.device).left_since (disk keeper.journal.device).moment file
-      → (next : List Item) × (length next ≤ 1) × HasFirst keeper.rules.profile keeper.rules.clients_max records keeper.now (served.items ++ next) file
+      → (next : List Item) × (length next ≤ 1) × HasFirstItems keeper.rules.profile keeper.rules.clients_max records keeper.now (served.items ++ next) file
 
   -- the end of the process alone, at any moment of a run or behind it: what the next one reads is such a file too
-  abbrev pub AfterKill : Type 0
-  AfterKill = (records : List (List ℕ)) (result : Result ℕ KeepLogFault) (keeper after : Keeping D) (first last : Input) (start written : Output) (amid : D)
-      → tells → Keeps disk records keeper
+  abbrev pub LogAfterKill : Type 0
+  LogAfterKill = (records : List (List ℕ)) (result : Result ℕ KeepLogFault) (keeper after : LogKeeping D) (first last : Input) (start written : Output) (amid : D)
+      → tells → KeepsLogRecords disk records keeper
       → (served : KeepsLog tells disk result keeper after first last start written)
       → ((amid ≡ after.journal.device) ⊎ IsAmid tells disk (disk keeper.journal.device) (disk after.journal.device) (disk amid))
-      → (next : List Item) × (length next ≤ 1) × HasFirst keeper.rules.profile keeper.rules.clients_max records keeper.now (served.items ++ next) (disk amid).seen
+      → (next : List Item) × (length next ≤ 1) × HasFirstItems keeper.rules.profile keeper.rules.clients_max records keeper.now (served.items ++ next) (disk amid).seen
 
   -- while the record of one more item is committed, be it done or not, a crash leaves the records of all items that were answered, and that
   -- one or not
-  abbrev pub WhileCommitting : Type 0
-  WhileCommitting = (profile : Profile) (clients_max : ℕ) (done : List Item) (item : Item) (first before : Point D) (after : D) (file : List ℕ)
+  abbrev pub LogWhileCommitting : Type 0
+  LogWhileCommitting = (profile : Profile) (clients_max : ℕ) (done : List Item) (item : Item) (first before : Point D) (after : D) (file : List ℕ)
       → tells → Turns tells disk profile clients_max done first before
       → LeavesOnly (disk before.journal.device) (disk after) (IsBeforeOrAfter (recorded (disk before.journal.device).seen) (record_of profile clients_max before.now item))
       → (disk after).left_since (disk before.journal.device).moment file
-      → IsBeforeOrAfter (recorded (disk first.journal.device).seen ++ records_from profile clients_max first.now done) (record_of profile clients_max before.now item) file
+      → IsBeforeOrAfter (recorded (disk first.journal.device).seen ++ item_records profile clients_max first.now done) (record_of profile clients_max before.now item) file
 
   -- and what was acknowledged until then are the answers to these
-  abbrev pub RepliesToTheDone : Type 0
-  RepliesToTheDone = (profile : Profile) (clients_max : ℕ) (done : List Item) (first before : Point D) → Turns tells disk profile clients_max done first before
+  abbrev pub AnswersToTheDone : Type 0
+  AnswersToTheDone = (profile : Profile) (clients_max : ℕ) (done : List Item) (first before : Point D) → Turns tells disk profile clients_max done first before
       → Sent (given first.now done) first.output before.output
 
   -- once it is committed, when its answers are sent, a crash leaves that one too
-  abbrev pub WhileReplying : Type 0
-  WhileReplying = (profile : Profile) (clients_max : ℕ) (done : List Item) (item : Item) (first before : Point D) (after : D) (file : List ℕ)
+  abbrev pub LogWhileReplying : Type 0
+  LogWhileReplying = (profile : Profile) (clients_max : ℕ) (done : List Item) (item : Item) (first before : Point D) (after : D) (file : List ℕ)
       → tells → Turns tells disk profile clients_max done first before
       → Commits (record_of profile clients_max before.now item) (disk before.journal.device) (disk after)
       → (disk after).may_leave file
-      → contents file ≡ Records (recorded (disk first.journal.device).seen ++ records_from profile clients_max first.now (done ++ item ∷ []))
+      → contents file ≡ Records (recorded (disk first.journal.device).seen ++ item_records profile clients_max first.now (done ++ item ∷ []))

@@ -4,6 +4,7 @@ pub mod Rereading
 pub mod Beginning
 pub mod Checking
 pub mod Copying
+pub mod ReadingOn
 pub mod Items
 pub mod Dumping
 pub mod Parts

@@ -11,13 +11,14 @@ use Rattle.tb_journal.specs.Scans.{BeginsWith, HasRead, ScanState}
 use Rattle.tb_machine.specs.declared.entries.Entry.{Entry}
 use Rattle.tb_machine.specs.Dumps.{dumped}
 use Rattle.tb_machine.specs.Histories.{State}
+use Rattle.tb_machine.specs.Runs.{IsUntimely}
 use Rattle.tb_machine.specs.Scripts.{Pair}
 use Rattle.tb_log.specs.Format.{content_of}
 use Rattle.tb_keep.specs.declared.recovering.Rules.{Rules}
-use Rattle.tb_keep.specs.Rounds.{entries_from, state_from, IsUntimely}
+use Rattle.tb_keep.specs.Rounds.{entries_from, state_from}
 use Rattle.tb_keep_log.specs.declared.faults.DumpLogFault.{DumpLogFault}
 use Rattle.tb_keep_log.specs.declared.faults.DumpLogFault.TheVariants as dump
-use Rattle.tb_keep_log.specs.Dumping.{AreTimely, HasDumpCause, StopsDump}
+use Rattle.tb_keep_log.specs.Dumping.{AreTimely, HasLogDumpCause, StopsDump}
 use Rattle.tb_keep_log.specs.Rereading.{fixed_bytes, HasMark}
 
 -- an entry of this commit number is written: one above a number, or each
@@ -47,11 +48,11 @@ module _ (above : Option ℕ) where
     pub sent : Sent (flat_map (shown above) (entries_from S ps)) before after
 
   -- what went out before a fault, of pairs that are first in some way
-  abbrev pub Halts : (List Pair → Type 0) → DumpLogFault → State → Output → Output → Type 0
-  Halts AreFirst dump.TimeExhausted S before after =
+  abbrev pub HaltsDump : (List Pair → Type 0) → DumpLogFault → State → Output → Output → Type 0
+  HaltsDump AreFirst dump.TimeExhausted S before after =
       (ps : List Pair) × (p : Pair) × AreFirst (ps ++ p ∷ []) × IsUntimely (state_from S ps) p × Sent (flat_map (shown above) (entries_from S ps)) before after
-  Halts AreFirst dump.Writer S before after = (ps : List Pair) × AreFirst ps × CutOff (flat_map (shown above) (entries_from S ps)) before after
-  Halts AreFirst fault S before after = (ps : List Pair) × AreFirst ps × Sent (flat_map (shown above) (entries_from S ps)) before after
+  HaltsDump AreFirst dump.Writer S before after = (ps : List Pair) × AreFirst ps × CutOff (flat_map (shown above) (entries_from S ps)) before after
+  HaltsDump AreFirst fault S before after = (ps : List Pair) × AreFirst ps × Sent (flat_map (shown above) (entries_from S ps)) before after
 
   -- these records were read behind others, and the entries of their pairs went out
   pub record Dumped (profile : Profile) (clients_max : ℕ) (read : List (List ℕ)) (file : List ℕ) (scan : ScanState) (S T : State) (before after : Output) : Type 0 where
@@ -66,7 +67,7 @@ module _ (above : Option ℕ) where
   abbrev pub DumpsAll : Result (Unit {0}) DumpLogFault → Profile → ℕ → List (List ℕ) → List ℕ → ScanState → State → State → Output → Output → Type 0
   DumpsAll (Ok done) profile clients_max read file scan S T before after =
       (dumped : Dumped profile clients_max read file scan S T before after) × (contents file ≡ Records (read ++ dumped.records))
-  DumpsAll (Err fault) profile clients_max read file scan S T before after = StopsDump fault profile clients_max file × Halts (AreNext read file) fault S before after
+  DumpsAll (Err fault) profile clients_max read file scan S T before after = StopsDump fault profile clients_max file × HaltsDump (AreNext read file) fault S before after
 
 -- the same by the rules of a file, over a writer
 abbrev pub DumpsAllOver : Option ℕ → Rules → {W : Type 0} → (W → Output) → Result (Unit {0}) DumpLogFault → ScanState → State → State → W → W → List (List ℕ) → List ℕ → Type 0
@@ -74,8 +75,8 @@ DumpsAllOver above rules output result scan S T writer later read file =
     DumpsAll above result rules.profile rules.clients_max read file scan S T (output writer) (output later)
 
 -- the cause of a fault, where some records were read before
-abbrev pub ReadCause : {T : Type 0} → Result T DumpLogFault → ScanState → Disk → Disk → Type 0
-ReadCause result scan before after = (read : List (List ℕ)) → HasRead read before.seen scan → HasDumpCause result before after
+abbrev pub DumpReadCause : {T : Type 0} → Result T DumpLogFault → ScanState → Disk → Disk → Type 0
+DumpReadCause result scan before after = (read : List (List ℕ)) → HasRead read before.seen scan → HasLogDumpCause result before after
 
 -- rows
 

@@ -2,3 +2,4 @@
 pub mod Steps
 pub mod DumpSteps
 pub mod CopySteps
+pub mod BehindDamage

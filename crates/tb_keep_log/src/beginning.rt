@@ -1,16 +1,16 @@
 //! The file of a kept log is created, or opened after a crash.
 ghost use Rattle.std.specs.Prelude.{◌≡◌, ◌≤◌, ◌+◌, Ok, IfOk, IfErr};
-ghost use Rattle.tb_journal.specs.Device.{HasCause, IsOfCall, SetsAside};
+ghost use Rattle.tb_journal.specs.Device.{LeavesIfSound, OfHeld, HasCause, IsOfCall, SetsAside};
 ghost use Rattle.tb_journal.specs.Contents.{contents};
 ghost use Rattle.tb_journal.specs.Creating.{MayBeCreated};
 ghost use Rattle.tb_journal.specs.Reading.{extent_of};
 ghost use Rattle.tb_journal.specs.Ready.{IsReady};
 ghost use Rattle.tb_keep.specs.private.Entering.{StaysKept};
 ghost use Rattle.tb_keep.specs.Recovering.{AreAside, torn_bytes};
-ghost use Rattle.tb_keep_log.specs.Keeping.{By, IfSound, IsUsable, OfHeld};
-ghost use Rattle.tb_keep_log.specs.Rereading.{HasLogCause, IsRestored};
-ghost use Rattle.tb_keep_log.specs.Beginning.{CausedBy, HasStartCause, IsOpened, IsLogRefused, IsStartRefused, IsStarted, LeavesIfSound, MayBeOpened, MayBeStarted, OpensFile, Refuses, StartsFile, device_left};
-ghost use Rattle.tb_keep_log.specs.private.Steps.{CreatesIn, HasCreatedCause, IsCreated, IsNotCreated, IsReadTo, IsUsableBy, OpensAs};
+ghost use Rattle.tb_keep_log.specs.Keeping.{By, IfSound, IsUsableLog};
+ghost use Rattle.tb_keep_log.specs.Rereading.{HasLogCause, IsFollowerRestored};
+ghost use Rattle.tb_keep_log.specs.Beginning.{LogCausedBy, HasLogStartCause, IsOpenedLog, IsLogRefused, IsLogStartRefused, IsLogStarted, LogMayBeOpened, LogMayBeStarted, OpensLog, RefusesFor, StartsLogFile, log_device_left};
+ghost use Rattle.tb_keep_log.specs.private.Steps.{CreatesLogIn, HasCreatedCause, IsCreated, IsNotCreated, IsReadTo, IsUsableBy, OpensAs};
 ghost use Rattle.tb_journal.specs.Opening.{LeavesSameRecords};
 
 use crate::faults::LogStartFault;
@@ -70,10 +70,10 @@ fn open_keeper<D: Device, A: Allocator + Clone>(
     requires few { extent.count ≤ extent.end }
     requires read { D.tells → IsReadTo rules follower extent (D.disk device) }
     requires torn { D.tells → cut ≡ torn_bytes (D.disk device).seen }
-    ensures opened { IfSound D.Device device (IfOk result (IsOpened D.disk (D.disk device).seen)) }
-    ensures any_moment { D.tells → LeavesSameRecords (D.disk device) (D.disk (device_left result)) }
-    ensures cause { D.tells → CausedBy D.disk device result HasLogCause }
-    ensures usable { IfOk result IsUsable }
+    ensures opened { IfSound D.Device device (IfOk result (IsOpenedLog D.disk (D.disk device).seen)) }
+    ensures any_moment { D.tells → LeavesSameRecords (D.disk device) (D.disk (log_device_left result)) }
+    ensures cause { D.tells → LogCausedBy D.disk device result HasLogCause }
+    ensures usable { IfOk result IsUsableLog }
     ensures any_device { OpensAs result rules follower cut }
     ensures aside { OfHeld (D.holds device) (λ file. IfOk result (λ _. SetsAside D.aside (extent.end + 4) file)) }
 {
@@ -94,12 +94,12 @@ fn open_unless_torn_long<D: Device, A: Allocator + Clone>(
 ) -> Result<LogKeeper<D, A>, NotStarted<D>>
     requires few { extent.count ≤ extent.end }
     requires read { D.tells → IsReadTo rules follower extent (D.disk device) }
-    ensures opened { IfSound D.Device device (IfOk result (IsOpened D.disk (D.disk device).seen)) }
-    ensures any_moment { D.tells → LeavesIfSound D.disk device (device_left result) MayBeOpened }
-    ensures refused { D.tells → Refuses D.disk device result (λ why. By rules (IsLogRefused why)) }
-    ensures cause { D.tells → CausedBy D.disk device result HasLogCause }
+    ensures opened { IfSound D.Device device (IfOk result (IsOpenedLog D.disk (D.disk device).seen)) }
+    ensures any_moment { D.tells → LeavesIfSound D.disk device (log_device_left result) LogMayBeOpened }
+    ensures refused { D.tells → RefusesFor D.disk device result (λ why. By rules (IsLogRefused why)) }
+    ensures cause { D.tells → LogCausedBy D.disk device result HasLogCause }
     ensures usable { IfOk result (IsUsableBy rules) }
-    ensures handed { OfHeld (D.holds device) (λ file. By rules IsRestored file follower extent → By rules (OpensFile result) file) }
+    ensures handed { OfHeld (D.holds device) (λ file. By rules IsFollowerRestored file follower extent → By rules (OpensLog result) file) }
     ensures aside { OfHeld (D.holds device) (λ file. extent_of (contents file) ≡ Ok extent → IfOk result (λ keeper. AreAside D.aside keeper.cut file)) }
 {
     let mut device = device;
@@ -135,24 +135,23 @@ impl<D: Device, A: Allocator + Copy> LogKeeper<D, A> {
         rules: Rules,
     ) -> Result<LogKeeper<D, A>, NotStarted<D>>
         // Where no sync has failed before.
-        ensures opened { IfSound D.Device device (IfOk result (IsOpened D.disk (D.disk device).seen)) }
+        ensures opened { IfSound D.Device device (IfOk result (IsOpenedLog D.disk (D.disk device).seen)) }
         // So `keep_log` may serve.
-        ensures usable { IfOk result IsUsable }
+        ensures usable { IfOk result IsUsableLog }
         ensures rules { IfOk result (λ keeper. keeper.rules ≡ rules) }
         ensures ready { IfSound D.Device device (IfOk result (λ keeper. IsReady D.disk keeper.journal)) }
         // A crash at any moment of the call leaves the records that were there, so that the call may be made again.
-        ensures any_moment { D.tells → LeavesIfSound D.disk device (device_left result) MayBeOpened }
+        ensures any_moment { D.tells → LeavesIfSound D.disk device (log_device_left result) LogMayBeOpened }
         // A file that is refused stays as it was.
-        ensures refused { D.tells → Refuses D.disk device result (λ why. By rules (IsLogRefused why)) }
-        ensures cause { D.tells → CausedBy D.disk device result HasLogCause }
+        ensures refused { D.tells → RefusesFor D.disk device result (λ why. By rules (IsLogRefused why)) }
+        ensures cause { D.tells → LogCausedBy D.disk device result HasLogCause }
         // Of any device, by the file that its reads are of.
-        ensures handed { OfHeld (D.holds device) (By rules (OpensFile result)) }
+        ensures handed { OfHeld (D.holds device) (By rules (OpensLog result)) }
         // What was cut off was set aside before.
         ensures aside { OfHeld (D.holds device) (λ file. IfOk result (λ keeper. AreAside D.aside keeper.cut file)) }
     {
         let mut device = device;
-        let same = rules;
-        match read_log(global, alloc, same, &mut device) {
+        match read_log(global, alloc, &rules, &mut device) {
             Ok((follower, extent)) => open_unless_torn_long(
                 global, device, rules, extent, follower,
             ),
@@ -169,15 +168,14 @@ impl<D: Device, A: Allocator + Copy> LogKeeper<D, A> {
         rules: Rules,
     ) -> Result<LogKeeper<D, A>, NotStarted<D>>
         ensures created { IfSound D.Device device (IfOk result (IsCreated D.disk (D.disk device).seen)) }
-        ensures usable { IfOk result IsUsable }
+        ensures usable { IfOk result IsUsableLog }
         ensures rules { IfOk result (λ keeper. keeper.rules ≡ rules) }
         ensures ready { IfSound D.Device device (IfOk result (λ keeper. IsReady D.disk keeper.journal)) }
-        ensures any_moment { D.tells → LeavesIfSound D.disk device (device_left result) MayBeCreated }
-        ensures refused { D.tells → Refuses D.disk device result IsNotCreated }
-        ensures cause { D.tells → CausedBy D.disk device result HasCreatedCause }
-        ensures handed { OfHeld (D.holds device) (By rules (CreatesIn D.holds result)) }
+        ensures any_moment { D.tells → LeavesIfSound D.disk device (log_device_left result) MayBeCreated }
+        ensures refused { D.tells → RefusesFor D.disk device result IsNotCreated }
+        ensures cause { D.tells → LogCausedBy D.disk device result HasCreatedCause }
+        ensures handed { OfHeld (D.holds device) (By rules (CreatesLogIn D.holds result)) }
     {
-        let _clients = rules.clients_max.get();
         let Ok(follower) = Follower::new_in(global, alloc, rules.profile, rules.clients_max) else {
             return Err(NotStarted {
                 device,
@@ -198,15 +196,15 @@ impl<D: Device, A: Allocator + Copy> LogKeeper<D, A> {
         rules: Rules,
     ) -> Result<LogKeeper<D, A>, NotStarted<D>>
         // Where no sync has failed before.
-        ensures started { IfSound D.Device device (IfOk result (IsStarted D.disk (D.disk device).seen)) }
-        ensures usable { IfOk result IsUsable }
+        ensures started { IfSound D.Device device (IfOk result (IsLogStarted D.disk (D.disk device).seen)) }
+        ensures usable { IfOk result IsUsableLog }
         ensures rules { IfOk result (λ keeper. keeper.rules ≡ rules) }
         ensures ready { IfSound D.Device device (IfOk result (λ keeper. IsReady D.disk keeper.journal)) }
-        ensures any_moment { D.tells → LeavesIfSound D.disk device (device_left result) MayBeStarted }
-        ensures refused { D.tells → Refuses D.disk device result (λ why. By rules (IsStartRefused why)) }
-        ensures cause { D.tells → CausedBy D.disk device result HasStartCause }
+        ensures any_moment { D.tells → LeavesIfSound D.disk device (log_device_left result) LogMayBeStarted }
+        ensures refused { D.tells → RefusesFor D.disk device result (λ why. By rules (IsLogStartRefused why)) }
+        ensures cause { D.tells → LogCausedBy D.disk device result HasLogStartCause }
         // Of any device, by the file that its reads are of.
-        ensures handed { OfHeld (D.holds device) (By rules (StartsFile result)) }
+        ensures handed { OfHeld (D.holds device) (By rules (StartsLogFile result)) }
         // What was cut off was set aside before.
         ensures aside { OfHeld (D.holds device) (λ file. IfOk result (λ keeper. AreAside D.aside keeper.cut file)) }
     {

@@ -1,12 +1,13 @@
 //! A log's file read as a start reads it, without a write.
 ghost use Rattle.std.specs.Prelude.{◌≡◌, IfErr, IfOk};
-ghost use Rattle.tb_keep.specs.Creating.{IsUntouched};
+ghost use Rattle.tb_journal.specs.Device.{OfHeld};
+ghost use Rattle.tb_keep.specs.Creating.{IsDiskUntouched};
 ghost use Rattle.tb_keep.specs.private.Entering.{OfExtent, StaysKept};
 ghost use Rattle.tb_keep_log.specs.Checking.{ChecksLog, reached_by};
-ghost use Rattle.tb_keep_log.specs.Keeping.{By, OfHeld};
+ghost use Rattle.tb_keep_log.specs.Keeping.{By};
 ghost use Rattle.tb_keep_log.specs.Rereading.{HasLogCause};
 ghost use Rattle.tb_keep_log.specs.private.CopySteps.{EndsShort, IsOfTorn, StopsTorn, ended};
-ghost use Rattle.tb_keep_log.specs.private.Steps.{IsOfDevice};
+ghost use Rattle.tb_keep_log.specs.private.Steps.{IsOfLogDevice};
 
 use crate::beginning::{TORN_BYTES_MAX, torn_behind};
 use crate::faults::LogStartFault;
@@ -53,7 +54,7 @@ pub(crate) fn torn_stop<D: Device>(
     ensures same { OfHeld (D.holds device.old) (D.holds device.new) }
     ensures stays { D.tells → StaysKept (D.disk device.old) (D.disk device.new) }
     ensures named { IfOk result IsOfTorn }
-    ensures fault { IfErr result IsOfDevice }
+    ensures fault { IfErr result IsOfLogDevice }
     ensures cause { D.tells → HasLogCause result (D.disk device.old) (D.disk device.new) }
 {
     match torn_behind(device, extent) {
@@ -96,13 +97,13 @@ fn ends_short<D: Device>(device: &mut D, reached: Reached) -> Result<Reached, Lo
 /// Reads the file of a log of these rules to its end, as a start does, and refuses what a start refuses. Nothing is written.
 pub fn check_log<D: Device>(
     global: Global,
-    rules: Rules,
+    rules: &Rules,
     device: &mut D,
 ) -> Result<Reached, LogStartFault>
     // Of any device, by the file that its reads are of.
-    ensures found { OfHeld (D.holds device.old) (By rules (ChecksLog result)) }
+    ensures found { OfHeld (D.holds device.old) (By rules.now (ChecksLog result)) }
     ensures same { OfHeld (D.holds device.old) (D.holds device.new) }
-    ensures untouched { D.tells → IsUntouched (D.disk device.old) (D.disk device.new) }
+    ensures untouched { D.tells → IsDiskUntouched (D.disk device.old) (D.disk device.new) }
     ensures cause { D.tells → HasLogCause result (D.disk device.old) (D.disk device.new) }
 {
     match read_log(global, global, rules, device) {

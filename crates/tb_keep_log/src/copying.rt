@@ -1,19 +1,19 @@
 //! The entries of a log's file taken over into a new one: of a file that is damaged, and of one that is whole.
 ghost use Rattle.std.specs.Prelude.{◌≡◌, ◌+◌, ◌<◌, ◌≤◌, ◌^◌, true, List, [], ◌∷◌, ℕ, length, IfOk, IfErr, OnOk, OnErr};
 ghost use Rattle.tb_journal.specs.Contents.{at_rest};
-ghost use Rattle.tb_journal.specs.Device.{LeavesOnly};
+ghost use Rattle.tb_journal.specs.Device.{OfHeld, LeavesOnly};
 ghost use Rattle.tb_journal.specs.Ready.{IsReady};
 ghost use Rattle.tb_journal.specs.Scans.{GoesFurther};
-ghost use Rattle.tb_log.specs.Following.{begun};
-ghost use Rattle.tb_keep.specs.Creating.{IsUntouched};
+ghost use Rattle.tb_log.specs.Following.{begun_following};
+ghost use Rattle.tb_keep.specs.Creating.{IsDiskUntouched};
 ghost use Rattle.tb_keep.specs.Rounds.{block_bytes_max};
 ghost use Rattle.tb_keep.specs.private.Entering.{StaysKept};
 ghost use Rattle.tb_keep.specs.private.Taking.{HoldsRead, Puts};
-ghost use Rattle.tb_keep_log.specs.Copying.{HasNewCause, IsCopied, IsUncopied, MayBeCopied, SaysWhy, copied_device, why_new, why_old};
-ghost use Rattle.tb_keep_log.specs.Keeping.{By, OfHeld};
+ghost use Rattle.tb_keep_log.specs.Copying.{HasNewLogCause, IsCopied, IsUncopied, MayBeCopied, SaysWhyNotCopied, copied_device, reads_on, why_new_log, why_old_log};
+ghost use Rattle.tb_keep_log.specs.Keeping.{By};
 ghost use Rattle.tb_keep_log.specs.Rereading.{HasLogCause};
-ghost use Rattle.tb_keep_log.specs.private.CopySteps.{HasWriteCause, IsNewJournal, LeavesSome, StopsBy, TakesAll, TakesNext, TakesRecord, TakesRest, of_old, stop_of};
-ghost use Rattle.tb_keep_log.specs.private.Steps.{ReadCause};
+ghost use Rattle.tb_keep_log.specs.private.CopySteps.{HasWriteCause, IsNewJournal, LeavesSomeRecords, StaysUnread, StopsCopyBy, CopiesAllRecords, CopiesNext, CopiesRecord, CopiesRest, of_old_log, log_stop_of};
+ghost use Rattle.tb_keep_log.specs.private.Steps.{LogReadCause};
 
 use crate::checking::{Reached, torn_stop};
 use crate::entries::enter_record;
@@ -29,6 +29,8 @@ use tb_log::Follower;
 pub struct CopiedLog<N: Device> {
     /// The journal of the new file. What was taken is durable.
     pub journal: Journal<N>,
+    /// The follower behind the entries that were taken, unless it has read a part of the next one (`reads_on`).
+    pub follower: Follower<Global>,
     /// How far the old file was taken over: what is behind was not.
     pub reached: Reached,
     /// Why no more was taken: the fault for which a start refuses the old file. None where that is whole.
@@ -46,7 +48,7 @@ pub struct NotCopiedLog<N: Device> {
 const RECORD_BYTES_SHORT: usize = 1 << 20;
 
 /// A journal's fault, as one of the new file.
-fn new_fault(fault: JournalFault) -> CopyLogFault
+pub(crate) fn new_fault(fault: JournalFault) -> CopyLogFault
     ensures { result ≡ CopyLogFault.New (OpenFault.Device fault) }
 {
     CopyLogFault::New(OpenFault::Device(fault))
@@ -54,7 +56,7 @@ fn new_fault(fault: JournalFault) -> CopyLogFault
 
 /// Commits what waits.
 #[tactic(auto, using(tb_keep::proofs::Taking::puts_commit))]
-fn commit_waiting<N: Device>(journal: &mut Journal<N>) -> Result<(), JournalFault>
+pub(crate) fn commit_waiting<N: Device>(journal: &mut Journal<N>) -> Result<(), JournalFault>
     requires usable { journal.old.usable ≡ true }
     requires ready { N.tells → IsReady N.disk journal.old }
     ensures puts { Puts N.disk N.tells result [] journal.old journal.new }
@@ -103,16 +105,16 @@ fn append_short<N: Device>(journal: &mut Journal<N>, bytes: &[u8]) -> Result<(),
 }
 
 /// Enters the entry of a record that is behind those of a follower, and lets it wait for the next commit.
-fn take_record<N: Device, A: Allocator + Clone>(
+pub(crate) fn take_record<N: Device, A: Allocator + Clone>(
     global: Global,
-    rules: Rules,
+    rules: &Rules,
     follower: &mut Follower<A>,
     journal: &mut Journal<N>,
     bytes: &[u8],
 ) -> Result<(), CopyLogFault>
     requires usable { journal.old.usable ≡ true }
     requires ready { N.tells → IsReady N.disk journal.old }
-    ensures { By rules (TakesRecord N.tells N.disk) result bytes.now follower.old follower.new journal.old journal.new }
+    ensures { By rules.now (CopiesRecord N.tells N.disk) result bytes.now follower.old follower.new journal.old journal.new }
 {
     // No file has such a record: its length is three bytes.
     if bytes.len() >= RECORD_BYTES_MAX {
@@ -130,7 +132,7 @@ fn take_record<N: Device, A: Allocator + Clone>(
 /// Takes over the next record of a file: false where there is none.
 fn take_next<D: Device, N: Device, A: Allocator + Clone>(
     global: Global,
-    rules: Rules,
+    rules: &Rules,
     follower: &mut Follower<A>,
     journal: &mut Journal<N>,
     scan: &mut Scan,
@@ -138,11 +140,12 @@ fn take_next<D: Device, N: Device, A: Allocator + Clone>(
 ) -> Result<bool, CopyLogFault>
     requires usable { journal.old.usable ≡ true }
     requires ready { N.tells → IsReady N.disk journal.old }
-    ensures takes { By rules (TakesNext N.tells N.disk) (D.holds from.old) result scan.old scan.new follower.old follower.new journal.old journal.new }
+    ensures takes { By rules.now (CopiesNext N.tells N.disk) (D.holds from.old) result scan.old scan.new follower.old follower.new journal.old journal.new }
     ensures same { OfHeld (D.holds from.old) (D.holds from.new) }
     ensures stays { D.tells → StaysKept (D.disk from.old) (D.disk from.new) }
-    ensures cause { D.tells → ReadCause (of_old result) scan.old (D.disk from.old) (D.disk from.new) }
+    ensures cause { D.tells → LogReadCause (of_old_log result) scan.old (D.disk from.old) (D.disk from.new) }
     ensures further { IfOk result (λ more. more ≡ true → GoesFurther scan.old scan.new) }
+    ensures unread { StaysUnread result follower.old follower.new }
 {
     match read_record(scan, from) {
         Ok(true) => match take_record(global, rules, follower, journal, scan.record()) {
@@ -158,7 +161,7 @@ fn take_next<D: Device, N: Device, A: Allocator + Clone>(
 /// no more were taken.
 fn take_all<D: Device, N: Device, A: Allocator + Clone>(
     global: Global,
-    rules: Rules,
+    rules: &Rules,
     follower: &mut Follower<A>,
     journal: &mut Journal<N>,
     scan: &mut Scan,
@@ -166,15 +169,14 @@ fn take_all<D: Device, N: Device, A: Allocator + Clone>(
 ) -> (Reached, Result<(), CopyLogFault>)
     requires usable { journal.old.usable ≡ true }
     requires ready { N.tells → IsReady N.disk journal.old }
-    ensures takes { By rules (TakesAll N.tells N.disk) (D.holds from.old) result.0 result.1 scan.old follower.old journal.old journal.new }
+    ensures takes { By rules.now (CopiesAllRecords N.tells N.disk) (D.holds from.old) result.0 result.1 scan.old follower.old follower.new journal.old journal.new }
     ensures same { OfHeld (D.holds from.old) (D.holds from.new) }
     ensures stays { D.tells → StaysKept (D.disk from.old) (D.disk from.new) }
-    ensures cause { D.tells → ReadCause (of_old result.1) scan.old (D.disk from.old) (D.disk from.new) }
+    ensures cause { D.tells → LogReadCause (of_old_log result.1) scan.old (D.disk from.old) (D.disk from.new) }
 {
     loop {
         let reached = Reached::of(follower, scan.extent());
-        let same = rules;
-        match take_next(global, same, follower, journal, scan, from) {
+        match take_next(global, rules, follower, journal, scan, from) {
             Ok(true) => {}
             Ok(false) => return (reached, Ok(())),
             Err(fault) => return (reached, Err(fault)),
@@ -183,8 +185,8 @@ fn take_all<D: Device, N: Device, A: Allocator + Clone>(
 }
 
 /// The fault for which a start refuses a file each time. None of any other.
-fn stop_of(fault: CopyLogFault) -> Option<LogStartFault>
-    ensures { result ≡ stop_of fault }
+pub(crate) fn stop_of(fault: CopyLogFault) -> Option<LogStartFault>
+    ensures { result ≡ log_stop_of fault }
 {
     match fault {
         CopyLogFault::Old(LogStartFault::Journal(OpenFault::Device(_))) => None,
@@ -195,16 +197,29 @@ fn stop_of(fault: CopyLogFault) -> Option<LogStartFault>
     }
 }
 
+/// Whether a copy that ended so may be read on: its follower is behind the entries that were taken. Before any other fault it has read a
+/// part of the entry that is refused.
+pub fn reads_on(stop: Option<LogStartFault>) -> bool
+    ensures { result ≡ reads_on stop }
+{
+    match stop {
+        None => true,
+        Some(LogStartFault::Journal(_)) => true,
+        Some(LogStartFault::TornTooLong { .. }) => true,
+        Some(_) => false,
+    }
+}
+
 /// Why no more was taken, by what ended it.
 fn stopped_by<D: Device>(
     taken: Result<(), CopyLogFault>,
     from: &mut D,
     extent: Extent,
 ) -> Result<Option<LogStartFault>, CopyLogFault>
-    ensures stops { StopsBy result taken (D.holds from.old) extent }
+    ensures stops { StopsCopyBy result taken (D.holds from.old) extent }
     ensures same { OfHeld (D.holds from.old) (D.holds from.new) }
     ensures stays { D.tells → StaysKept (D.disk from.old) (D.disk from.new) }
-    ensures cause { D.tells → OnOk taken (HasLogCause (of_old result) (D.disk from.old) (D.disk from.new)) }
+    ensures cause { D.tells → OnOk taken (HasLogCause (of_old_log result) (D.disk from.old) (D.disk from.new)) }
     ensures unread { OnErr taken (from.new ≡ from.old) }
 {
     match taken {
@@ -222,7 +237,7 @@ fn stopped_by<D: Device>(
 /// Takes over the records that are left and commits them. Returns how far that is, and why no more were taken.
 fn take_rest<D: Device, N: Device, A: Allocator + Clone>(
     global: Global,
-    rules: Rules,
+    rules: &Rules,
     follower: &mut Follower<A>,
     journal: &mut Journal<N>,
     scan: &mut Scan,
@@ -230,10 +245,10 @@ fn take_rest<D: Device, N: Device, A: Allocator + Clone>(
 ) -> Result<(Reached, Option<LogStartFault>), CopyLogFault>
     requires usable { journal.old.usable ≡ true }
     requires ready { N.tells → IsReady N.disk journal.old }
-    ensures takes { By rules (TakesRest N.tells N.disk) (D.holds from.old) result scan.old follower.old journal.old journal.new }
+    ensures takes { By rules.now (CopiesRest N.tells N.disk) (D.holds from.old) result scan.old follower.old follower.new journal.old journal.new }
     ensures same { OfHeld (D.holds from.old) (D.holds from.new) }
     ensures stays { D.tells → StaysKept (D.disk from.old) (D.disk from.new) }
-    ensures cause { D.tells → ReadCause (of_old result) scan.old (D.disk from.old) (D.disk from.new) }
+    ensures cause { D.tells → LogReadCause (of_old_log result) scan.old (D.disk from.old) (D.disk from.new) }
 {
     let (reached, taken) = take_all(global, rules, follower, journal, scan, from);
     match stopped_by(taken, from, reached.extent) {
@@ -246,59 +261,60 @@ fn take_rest<D: Device, N: Device, A: Allocator + Clone>(
 }
 
 /// Takes over a file of which nothing was read into the journal of a new one.
-fn copy_into<D: Device, N: Device, A: Allocator + Clone>(
+fn copy_into<D: Device, N: Device>(
     global: Global,
-    rules: Rules,
-    follower: Follower<A>,
+    rules: &Rules,
+    follower: Follower<Global>,
     journal: Journal<N>,
     scan: &mut Scan,
     from: &mut D,
 ) -> Result<CopiedLog<N>, NotCopiedLog<N>>
     requires new { IsNewJournal N.tells N.disk journal }
-    requires begun { follower ≡ By rules begun }
-    ensures copied { IfOk result (By rules (IsCopied N.tells N.disk (HoldsRead (D.holds from.old) [] scan.old))) }
-    ensures uncopied { SaysWhy (HoldsRead (D.holds from.old) [] scan.old) result IsUncopied }
-    ensures any_moment { N.tells → By rules (LeavesSome N.disk (HoldsRead (D.holds from.old) [] scan.old)) journal.device (copied_device result) }
-    ensures cause_new { N.tells → HasWriteCause (why_new result) (N.disk journal.device) (N.disk (copied_device result)) }
+    requires begun { follower ≡ By rules.now begun_following }
+    ensures copied { IfOk result (By rules.now (IsCopied N.tells N.disk (HoldsRead (D.holds from.old) [] scan.old))) }
+    ensures uncopied { SaysWhyNotCopied (HoldsRead (D.holds from.old) [] scan.old) result IsUncopied }
+    ensures any_moment { N.tells → By rules.now (LeavesSomeRecords N.disk (HoldsRead (D.holds from.old) [] scan.old)) journal.device (copied_device result) }
+    ensures cause_new { N.tells → HasWriteCause (why_new_log result) (N.disk journal.device) (N.disk (copied_device result)) }
     ensures same { OfHeld (D.holds from.old) (D.holds from.new) }
     ensures stays { D.tells → StaysKept (D.disk from.old) (D.disk from.new) }
-    ensures cause_old { D.tells → ReadCause (why_old result) scan.old (D.disk from.old) (D.disk from.new) }
+    ensures cause_old { D.tells → LogReadCause (why_old_log result) scan.old (D.disk from.old) (D.disk from.new) }
 {
     let mut journal = journal;
     let mut follower = follower;
-    let taken = take_rest(global, rules, &mut follower, &mut journal, scan, from);
-    drop(follower);
-    match taken {
+    match take_rest(global, rules, &mut follower, &mut journal, scan, from) {
         Ok((reached, stop)) => Ok(CopiedLog {
             journal,
+            follower,
             reached,
             stop,
         }),
-        Err(fault) => Err(NotCopiedLog {
-            device: journal.into_device(),
-            fault,
-        }),
+        Err(fault) => {
+            drop(follower);
+            Err(NotCopiedLog {
+                device: journal.into_device(),
+                fault,
+            })
+        }
     }
 }
 
 /// Takes over a file of which nothing was read.
 fn copy_by<D: Device, N: Device>(
     global: Global,
-    rules: Rules,
+    rules: &Rules,
     scan: &mut Scan,
     from: &mut D,
     into: N,
 ) -> Result<CopiedLog<N>, NotCopiedLog<N>>
     requires sound { N.tells → (N.disk into).sound ≡ true }
-    ensures copied { IfOk result (By rules (IsCopied N.tells N.disk (HoldsRead (D.holds from.old) [] scan.old))) }
-    ensures uncopied { SaysWhy (HoldsRead (D.holds from.old) [] scan.old) result IsUncopied }
-    ensures any_moment { N.tells → LeavesOnly (N.disk into) (N.disk (copied_device result)) (By rules (MayBeCopied (HoldsRead (D.holds from.old) [] scan.old) (N.disk into))) }
-    ensures cause_new { N.tells → HasNewCause (why_new result) (N.disk into) (N.disk (copied_device result)) }
+    ensures copied { IfOk result (By rules.now (IsCopied N.tells N.disk (HoldsRead (D.holds from.old) [] scan.old))) }
+    ensures uncopied { SaysWhyNotCopied (HoldsRead (D.holds from.old) [] scan.old) result IsUncopied }
+    ensures any_moment { N.tells → LeavesOnly (N.disk into) (N.disk (copied_device result)) (By rules.now (MayBeCopied (HoldsRead (D.holds from.old) [] scan.old) (N.disk into))) }
+    ensures cause_new { N.tells → HasNewLogCause (why_new_log result) (N.disk into) (N.disk (copied_device result)) }
     ensures same { OfHeld (D.holds from.old) (D.holds from.new) }
     ensures stays { D.tells → StaysKept (D.disk from.old) (D.disk from.new) }
-    ensures cause_old { D.tells → ReadCause (why_old result) scan.old (D.disk from.old) (D.disk from.new) }
+    ensures cause_old { D.tells → LogReadCause (why_old_log result) scan.old (D.disk from.old) (D.disk from.new) }
 {
-    let _clients = rules.clients_max.get();
     let Ok(follower) = Follower::new_in(global, global, rules.profile, rules.clients_max) else {
         return Err(NotCopiedLog {
             device: into,
@@ -325,21 +341,21 @@ fn copy_by<D: Device, N: Device>(
 /// where something is there already (NotEmpty). The new file then has nothing, or some first entries.
 pub fn copy_log<D: Device, N: Device>(
     global: Global,
-    rules: Rules,
+    rules: &Rules,
     from: &mut D,
     into: N,
 ) -> Result<CopiedLog<N>, NotCopiedLog<N>>
     // No sync has failed on the new file's device before.
     requires sound { N.tells → (N.disk into).sound ≡ true }
     // Of any device, by the file that the reads of the old one are of.
-    ensures copied { IfOk result (By rules (IsCopied N.tells N.disk (D.holds from.old))) }
-    ensures uncopied { SaysWhy (D.holds from.old) result IsUncopied }
+    ensures copied { IfOk result (By rules.now (IsCopied N.tells N.disk (D.holds from.old))) }
+    ensures uncopied { SaysWhyNotCopied (D.holds from.old) result IsUncopied }
     // A crash at any moment of the call leaves no entry, or some first ones, in the new file.
-    ensures any_moment { N.tells → LeavesOnly (N.disk into) (N.disk (copied_device result)) (By rules (MayBeCopied (D.holds from.old) (N.disk into))) }
-    ensures cause_new { N.tells → HasNewCause (why_new result) (N.disk into) (N.disk (copied_device result)) }
+    ensures any_moment { N.tells → LeavesOnly (N.disk into) (N.disk (copied_device result)) (By rules.now (MayBeCopied (D.holds from.old) (N.disk into))) }
+    ensures cause_new { N.tells → HasNewLogCause (why_new_log result) (N.disk into) (N.disk (copied_device result)) }
     ensures same { OfHeld (D.holds from.old) (D.holds from.new) }
-    ensures untouched { D.tells → IsUntouched (D.disk from.old) (D.disk from.new) }
-    ensures cause_old { D.tells → HasLogCause (why_old result) (D.disk from.old) (D.disk from.new) }
+    ensures untouched { D.tells → IsDiskUntouched (D.disk from.old) (D.disk from.new) }
+    ensures cause_old { D.tells → HasLogCause (why_old_log result) (D.disk from.old) (D.disk from.new) }
 {
     match Scan::start(global, from) {
         Ok(mut scan) => copy_by(global, rules, &mut scan, from, into),

@@ -1,13 +1,14 @@
 //! The history of a kept log as a dump, which has no positions.
 ghost use Rattle.std.specs.Prelude.{◌≡◌, ◌≤◌, true, length, IfOk};
+ghost use Rattle.tb_journal.specs.Device.{OfHeld};
 ghost use Rattle.tb_journal.specs.Scans.{GoesFurther};
 ghost use Rattle.tb_log.specs.Format.{content_max};
 ghost use Rattle.tb_keep.specs.private.Entering.{StaysKept};
-ghost use Rattle.tb_keep.specs.Creating.{IsUntouched};
-ghost use Rattle.tb_keep_log.specs.Dumping.{DumpsBy, HasDumpCause, no_pair};
-ghost use Rattle.tb_keep_log.specs.Parts.{DumpsAllOver, ReadCause, is_wanted};
+ghost use Rattle.tb_keep.specs.Creating.{IsDiskUntouched};
+ghost use Rattle.tb_keep_log.specs.Dumping.{DumpsBy, HasLogDumpCause, no_pair};
+ghost use Rattle.tb_keep_log.specs.Parts.{DumpsAllOver, DumpReadCause, is_wanted};
 ghost use Rattle.tb_keep_log.specs.private.DumpSteps.{SendsOver, DumpsOne, DumpsPairsOf, DumpsRecordOver, DumpsNextOver};
-ghost use Rattle.tb_keep_log.specs.Keeping.{By, OfEachRead, OfHeld, OfUnread};
+ghost use Rattle.tb_keep_log.specs.Keeping.{By, OfEachRead, OfUnread};
 
 use crate::faults::{DumpLogFault, LogStartFault};
 use crate::marks::{FIXED_BYTES, check_mark};
@@ -125,14 +126,14 @@ fn dump_content<W: Sink>(
 /// Writes the entries of the pairs of the record behind so many others.
 fn dump_record<W: Sink>(
     global: Global,
-    rules: Rules,
+    rules: &Rules,
     machine: &mut Machine<Global>,
     above: Option<u64>,
     last: u64,
     bytes: &[u8],
     writer: &mut W,
 ) -> Result<(), DumpLogFault>
-    ensures { DumpsRecordOver above W.output rules result last machine.old machine.new bytes.now writer.old writer.new }
+    ensures { DumpsRecordOver above W.output rules.now result last machine.old machine.new bytes.now writer.old writer.new }
 {
     match check_mark(bytes, rules, last) {
         Ok(_) => dump_content(global, machine, above, &bytes[FIXED_BYTES..], writer),
@@ -143,17 +144,17 @@ fn dump_record<W: Sink>(
 /// Reads the next record, and writes the entries of its pairs: false where there is none.
 fn dump_next<D: Device, W: Sink>(
     global: Global,
-    rules: Rules,
+    rules: &Rules,
     machine: &mut Machine<Global>,
     above: Option<u64>,
     scan: &mut Scan,
     device: &mut D,
     writer: &mut W,
 ) -> Result<bool, DumpLogFault>
-    ensures dumps { OfEachRead (D.holds device.old) scan.old (DumpsNextOver above W.output rules result scan.new machine.old machine.new writer.old writer.new) }
+    ensures dumps { OfEachRead (D.holds device.old) scan.old (DumpsNextOver above W.output rules.now result scan.new machine.old machine.new writer.old writer.new) }
     ensures same { OfHeld (D.holds device.old) (D.holds device.new) }
     ensures stays { D.tells → StaysKept (D.disk device.old) (D.disk device.new) }
-    ensures cause { D.tells → ReadCause result scan.old (D.disk device.old) (D.disk device.new) }
+    ensures cause { D.tells → DumpReadCause result scan.old (D.disk device.old) (D.disk device.new) }
     ensures further { IfOk result (λ more. more ≡ true → GoesFurther scan.old scan.new) }
 {
     let last = scan.extent().count as u64;
@@ -175,21 +176,20 @@ fn dump_next<D: Device, W: Sink>(
 /// read. A scan that came to the end goes on where the file has more records. The faults are those of `write_log_dump`.
 pub fn write_log_entries<D: Device, W: Sink>(
     global: Global,
-    rules: Rules,
+    rules: &Rules,
     machine: &mut Machine<Global>,
     above: Option<u64>,
     scan: &mut Scan,
     device: &mut D,
     writer: &mut W,
 ) -> Result<(), DumpLogFault>
-    ensures dumps { OfEachRead (D.holds device.old) scan.old (DumpsAllOver above rules W.output result scan.new machine.old machine.new writer.old writer.new) }
+    ensures dumps { OfEachRead (D.holds device.old) scan.old (DumpsAllOver above rules.now W.output result scan.new machine.old machine.new writer.old writer.new) }
     ensures same { OfHeld (D.holds device.old) (D.holds device.new) }
     ensures stays { D.tells → StaysKept (D.disk device.old) (D.disk device.new) }
-    ensures cause { D.tells → ReadCause result scan.old (D.disk device.old) (D.disk device.new) }
+    ensures cause { D.tells → DumpReadCause result scan.old (D.disk device.old) (D.disk device.new) }
 {
     loop {
-        let same = rules;
-        match dump_next(global, same, machine, above, scan, device, writer) {
+        match dump_next(global, rules, machine, above, scan, device, writer) {
             Ok(true) => {}
             Ok(false) => return Ok(()),
             Err(fault) => return Err(fault),
@@ -200,17 +200,16 @@ pub fn write_log_entries<D: Device, W: Sink>(
 /// Writes the dump of a file of which nothing was read.
 fn dump_by<D: Device, W: Sink>(
     global: Global,
-    rules: Rules,
+    rules: &Rules,
     scan: &mut Scan,
     device: &mut D,
     writer: &mut W,
 ) -> Result<(), DumpLogFault>
-    ensures dumps { OfUnread (D.holds device.old) scan.old (DumpsBy rules W.output result writer.old writer.new) }
+    ensures dumps { OfUnread (D.holds device.old) scan.old (DumpsBy rules.now W.output result writer.old writer.new) }
     ensures same { OfHeld (D.holds device.old) (D.holds device.new) }
     ensures stays { D.tells → StaysKept (D.disk device.old) (D.disk device.new) }
-    ensures cause { D.tells → ReadCause result scan.old (D.disk device.old) (D.disk device.new) }
+    ensures cause { D.tells → DumpReadCause result scan.old (D.disk device.old) (D.disk device.new) }
 {
-    let _clients = rules.clients_max.get();
     let Ok(mut machine) = Machine::new_in(global, global, rules.profile, rules.clients_max) else {
         return Err(DumpLogFault::NoMemory);
     };
@@ -237,14 +236,14 @@ fn dump_by<D: Device, W: Sink>(
 pub fn write_log_dump<D: Device, W: Sink>(
     global: Global,
     device: &mut D,
-    rules: Rules,
+    rules: &Rules,
     writer: &mut W,
 ) -> Result<(), DumpLogFault>
     // Of any device, by the file that its reads are of.
-    ensures dumps { OfHeld (D.holds device.old) (DumpsBy rules W.output result writer.old writer.new) }
+    ensures dumps { OfHeld (D.holds device.old) (DumpsBy rules.now W.output result writer.old writer.new) }
     ensures same { OfHeld (D.holds device.old) (D.holds device.new) }
-    ensures untouched { D.tells → IsUntouched (D.disk device.old) (D.disk device.new) }
-    ensures cause { D.tells → HasDumpCause result (D.disk device.old) (D.disk device.new) }
+    ensures untouched { D.tells → IsDiskUntouched (D.disk device.old) (D.disk device.new) }
+    ensures cause { D.tells → HasLogDumpCause result (D.disk device.old) (D.disk device.new) }
 {
     match Scan::start(global, device) {
         Ok(mut scan) => dump_by(global, rules, &mut scan, device, writer),

@@ -4,7 +4,7 @@ ghost use Rattle.std.specs.List.{starts_with};
 ghost use Rattle.tb_log.specs.Format.{content_max};
 ghost use Rattle.tb_keep_log.specs.Keeping.{By, mark, record_bytes};
 ghost use Rattle.tb_keep_log.specs.Rereading.{fixed_bytes, IsOtherRecord};
-ghost use Rattle.tb_keep_log.specs.private.Steps.{in_memory, of_log, HoldsEntry, DropsEntry, Enters};
+ghost use Rattle.tb_keep_log.specs.private.Steps.{in_memory, of_log, HoldsEntry, DropsEntry, FollowsRecord};
 
 use crate::faults::LogStartFault;
 use crate::marks::{FIXED_BYTES, check_mark, record_of};
@@ -57,14 +57,14 @@ pub(crate) fn serve_entry<A: Allocator + Clone>(
 /// Compares a record with the one that its entry leaves behind.
 fn compare<A: Allocator + Clone>(
     global: Global,
-    rules: Rules,
+    rules: &Rules,
     follower: &Follower<A>,
     position: u64,
     bytes: &[u8],
     content: &[u8],
 ) -> Result<(), LogStartFault>
-    ensures same { OnOk result (bytes.now ≡ By rules record_bytes follower.now content.now) }
-    ensures other { IfErr result (IsOtherRecord rules follower.now position bytes.now content.now) }
+    ensures same { OnOk result (bytes.now ≡ By rules.now record_bytes follower.now content.now) }
+    ensures other { IfErr result (IsOtherRecord rules.now follower.now position bytes.now content.now) }
 {
     match record_of(global, rules, follower, content) {
         Ok(record) => {
@@ -80,16 +80,16 @@ fn compare<A: Allocator + Clone>(
 /// Enters the entry of a record that has this position.
 fn enter_at<A: Allocator + Clone>(
     global: Global,
-    rules: Rules,
+    rules: &Rules,
     follower: &mut Follower<A>,
     position: u64,
     bytes: &[u8],
 ) -> Result<(), LogStartFault>
     requires next { position ≡ follower.old.position + 1 }
-    requires marked { starts_with nat_eq bytes.now (By rules mark) ≡ true }
+    requires marked { starts_with nat_eq bytes.now (By rules.now mark) ≡ true }
     requires long { fixed_bytes ≤ length bytes.now }
     requires few { length bytes.now ≤ fixed_bytes + content_max }
-    ensures { By rules (Enters result) bytes.now follower.old follower.new }
+    ensures { By rules.now (FollowsRecord result) bytes.now follower.old follower.new }
 {
     let content = &bytes[FIXED_BYTES..];
     match check_pairs(global, position, content) {
@@ -109,14 +109,13 @@ fn enter_at<A: Allocator + Clone>(
 /// position and the hashes of the record. After a fault the follower is not used again.
 pub(crate) fn enter_record<A: Allocator + Clone>(
     global: Global,
-    rules: Rules,
+    rules: &Rules,
     follower: &mut Follower<A>,
     bytes: &[u8],
 ) -> Result<(), LogStartFault>
-    ensures { By rules (Enters result) bytes.now follower.old follower.new }
+    ensures { By rules.now (FollowsRecord result) bytes.now follower.old follower.new }
 {
-    let same = rules;
-    match check_mark(bytes, same, follower.position()) {
+    match check_mark(bytes, rules, follower.position()) {
         Ok(position) => enter_at(global, rules, follower, position, bytes),
         Err(fault) => Err(fault),
     }

@@ -1,6 +1,6 @@
 //! Why a kept log is not opened, and why it does not go on.
 ghost use Rattle.std.specs.Prelude.{◌≡◌};
-ghost use Rattle.tb_keep_log.specs.Faults.{copy_fault_name, dump_fault_name, keep_fault_name, start_fault_name};
+ghost use Rattle.tb_keep_log.specs.Faults.{copy_fault_name, log_dump_fault_name, keep_log_fault_name, log_start_fault_name};
 
 use std::fmt;
 use tb_journal::{JournalFault, OpenFault};
@@ -32,7 +32,7 @@ pub enum LogStartFault {
 impl LogStartFault {
     /// The fault's name, as a message shows it.
     pub fn name(self) -> &'static str
-        ensures { result.now ≡ start_fault_name self }
+        ensures { result.now ≡ log_start_fault_name self }
     {
         match self {
             LogStartFault::Journal(_) => "Journal",
@@ -49,9 +49,9 @@ impl LogStartFault {
 
 impl fmt::Display for LogStartFault {
     ghost use Rattle.std.specs.Prelude.{Some};
-    ghost use Rattle.tb_keep_log.specs.Faults.{start_fault_name};
+    ghost use Rattle.tb_keep_log.specs.Faults.{log_start_fault_name};
 
-    ghost output = { λ fault. Some (start_fault_name fault) };
+    ghost output = { λ fault. Some (log_start_fault_name fault) };
 
     fn fmt<W: fmt::Write>(&self, f: &mut fmt::Formatter<W>) -> fmt::Result {
         f.write_str(self.name())
@@ -71,7 +71,7 @@ pub enum KeepLogFault {
 impl KeepLogFault {
     /// The fault's name, as a message shows it.
     pub fn name(self) -> &'static str
-        ensures { result.now ≡ keep_fault_name self }
+        ensures { result.now ≡ keep_log_fault_name self }
     {
         match self {
             KeepLogFault::Log(fault) => fault.name(),
@@ -112,7 +112,7 @@ pub enum DumpLogFault {
 impl DumpLogFault {
     /// The fault's name, as a message shows it.
     pub fn name(self) -> &'static str
-        ensures { result.now ≡ dump_fault_name self }
+        ensures { result.now ≡ log_dump_fault_name self }
     {
         match self {
             DumpLogFault::Start(fault) => fault.name(),
@@ -126,9 +126,9 @@ impl DumpLogFault {
 
 impl fmt::Display for DumpLogFault {
     ghost use Rattle.std.specs.Prelude.{Some};
-    ghost use Rattle.tb_keep_log.specs.Faults.{dump_fault_name};
+    ghost use Rattle.tb_keep_log.specs.Faults.{log_dump_fault_name};
 
-    ghost output = { λ fault. Some (dump_fault_name fault) };
+    ghost output = { λ fault. Some (log_dump_fault_name fault) };
 
     fn fmt<W: fmt::Write>(&self, f: &mut fmt::Formatter<W>) -> fmt::Result {
         f.write_str(self.name())

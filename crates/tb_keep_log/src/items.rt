@@ -1,9 +1,9 @@
 //! The serving of a kept log: an item is read, its record committed, and then it is answered.
 ghost use Rattle.std.specs.Prelude.{◌≡◌, true, false, [], IfOk, IfErr, OnOk, OnErr};
 ghost use Rattle.tb_journal.specs.Ready.{IsReady};
-ghost use Rattle.tb_keep_log.specs.Keeping.{IsUsable};
+ghost use Rattle.tb_keep_log.specs.Keeping.{IsUsableLog};
 ghost use Rattle.tb_keep_log.specs.Items.{KeepsLog};
-ghost use Rattle.tb_keep_log.specs.private.Steps.{TakesFrom, MissesFrom, PassesBytesOn, AnswersStanding, Puts, CommitsAndReplies, EntersEntryOn, NextOn, ServedOn};
+ghost use Rattle.tb_keep_log.specs.private.Steps.{TakesFrom, MissesFrom, PassesBytesOn, AnswersStanding, PutsRecord, CommitsAndAnswers, EntersEntryOn, NextOn, ServedOn};
 
 use crate::entries::serve_entry;
 use crate::faults::KeepLogFault;
@@ -68,7 +68,7 @@ fn put<D: Device>(journal: &mut Journal<D>, bytes: &[u8]) -> Result<(), JournalF
     requires usable { journal.old.usable ≡ true }
     requires none_waits { journal.old.waiting ≡ [] }
     requires ready { D.tells → IsReady D.disk journal.old }
-    ensures { Puts D.tells D.disk result bytes.now journal.old journal.new }
+    ensures { PutsRecord D.tells D.disk result bytes.now journal.old journal.new }
 {
     match journal.append(bytes) {
         Ok(()) => journal.commit(),
@@ -86,7 +86,7 @@ fn commit_and_reply<D: Device, W: Sink>(
     requires usable { journal.old.usable ≡ true }
     requires none_waits { journal.old.waiting ≡ [] }
     requires ready { D.tells → IsReady D.disk journal.old }
-    ensures { CommitsAndReplies D.tells D.disk result bytes.now held.now journal.old journal.new
+    ensures { CommitsAndAnswers D.tells D.disk result bytes.now held.now journal.old journal.new
         (W.output writer.old) (W.output writer.new) }
 {
     match put(journal, bytes) {
@@ -98,7 +98,7 @@ fn commit_and_reply<D: Device, W: Sink>(
 /// Reads an entry behind its kind, commits its record, and then sends its answers.
 fn keep_entry<D: Device, A: Allocator + Clone, R: Source, W: Sink>(
     global: Global,
-    rules: Rules,
+    rules: &Rules,
     follower: &mut Follower<A>,
     journal: &mut Journal<D>,
     reader: &mut R,
@@ -107,7 +107,7 @@ fn keep_entry<D: Device, A: Allocator + Clone, R: Source, W: Sink>(
     requires usable { journal.old.usable ≡ true }
     requires none_waits { journal.old.waiting ≡ [] }
     requires ready { D.tells → IsReady D.disk journal.old }
-    ensures { EntersEntryOn D.Device R.input W.output rules result follower.old journal.old reader.old writer.old follower.new journal.new reader.new writer.new }
+    ensures { EntersEntryOn D.Device R.input W.output rules.now result follower.old journal.old reader.old writer.old follower.new journal.new reader.new writer.new }
 {
     match take_entry(global, follower, reader) {
         Ok((content, held)) => match record_of(global, rules, follower, &content) {
@@ -121,7 +121,7 @@ fn keep_entry<D: Device, A: Allocator + Clone, R: Source, W: Sink>(
 /// Reads and serves the next item: false where there is none.
 fn keep_next<D: Device, A: Allocator + Clone, R: Source, W: Sink>(
     global: Global,
-    rules: Rules,
+    rules: &Rules,
     follower: &mut Follower<A>,
     journal: &mut Journal<D>,
     reader: &mut R,
@@ -130,7 +130,7 @@ fn keep_next<D: Device, A: Allocator + Clone, R: Source, W: Sink>(
     requires usable { journal.old.usable ≡ true }
     requires none_waits { journal.old.waiting ≡ [] }
     requires ready { D.tells → IsReady D.disk journal.old }
-    ensures next { NextOn D.Device R.input W.output rules result follower.old journal.old reader.old writer.old follower.new journal.new reader.new writer.new }
+    ensures next { NextOn D.Device R.input W.output rules.now result follower.old journal.old reader.old writer.old follower.new journal.new reader.new writer.new }
     ensures usable { OnOk result (journal.new.usable ≡ true) }
     ensures none_waits { OnOk result (journal.new.waiting ≡ []) }
     ensures ready { D.tells → OnOk result (IsReady D.disk journal.new) }
@@ -153,7 +153,7 @@ fn keep_next<D: Device, A: Allocator + Clone, R: Source, W: Sink>(
 /// Serves the items of a log until they end, and answers the position of the last entry.
 fn keep_all<D: Device, A: Allocator + Clone, R: Source, W: Sink>(
     global: Global,
-    rules: Rules,
+    rules: &Rules,
     follower: &mut Follower<A>,
     journal: &mut Journal<D>,
     reader: &mut R,
@@ -162,14 +162,13 @@ fn keep_all<D: Device, A: Allocator + Clone, R: Source, W: Sink>(
     requires usable { journal.old.usable ≡ true }
     requires none_waits { journal.old.waiting ≡ [] }
     requires ready { D.tells → IsReady D.disk journal.old }
-    ensures served { ServedOn D.Device R.input W.output rules result follower.old journal.old reader.old writer.old follower.new journal.new reader.new writer.new }
+    ensures served { ServedOn D.Device R.input W.output rules.now result follower.old journal.old reader.old writer.old follower.new journal.new reader.new writer.new }
     ensures usable { OnOk result (journal.new.usable ≡ true) }
     ensures none_waits { OnOk result (journal.new.waiting ≡ []) }
     ensures ready { D.tells → OnOk result (IsReady D.disk journal.new) }
 {
     for k in 0..u64::MAX {
-        let same = rules;
-        match keep_next(global, same, follower, journal, reader, writer) {
+        match keep_next(global, rules, follower, journal, reader, writer) {
             Ok(true) => {}
             Ok(false) => return Ok(follower.position()),
             Err(fault) => return Err(fault),
@@ -189,12 +188,12 @@ pub fn keep_log<D: Device, A: Allocator + Clone, R: Source, W: Sink>(
     writer: &mut W,
 ) -> Result<u64, KeepLogFault>
     // Of any device.
-    requires usable { IsUsable keeper.old }
+    requires usable { IsUsableLog keeper.old }
     requires ready { D.tells → IsReady D.disk keeper.old.journal }
     ensures served { KeepsLog D.tells D.disk result keeper.old keeper.new (R.input reader.old)
         (R.input reader.new) (W.output writer.old) (W.output writer.new) }
     ensures ready { D.tells → OnOk result (IsReady D.disk keeper.new.journal) }
-    ensures usable { OnOk result (IsUsable keeper.new) }
+    ensures usable { OnOk result (IsUsableLog keeper.new) }
     ensures ended { OnErr result (keeper.new.usable ≡ false) }
     ensures rules { keeper.new.rules ≡ keeper.old.rules }
     ensures cut { keeper.new.cut ≡ keeper.old.cut }
@@ -202,7 +201,7 @@ pub fn keep_log<D: Device, A: Allocator + Clone, R: Source, W: Sink>(
     let rules = keeper.rules;
     match keep_all(
         global,
-        rules,
+        &rules,
         &mut keeper.follower,
         &mut keeper.journal,
         reader,

@@ -1,6 +1,6 @@
 //! A keeper: a follower, and the journal that its entries are in.
 ghost use Rattle.std.specs.Prelude.{◌≡◌, true, IfOk};
-ghost use Rattle.tb_log.specs.Steps.{standing_of};
+ghost use Rattle.tb_log.specs.Steps.{follower_standing};
 
 use std::alloc::{AllocError, Allocator, Global};
 use std::marker::Model;
@@ -22,9 +22,9 @@ pub struct LogKeeper<D: Device, A: Allocator + Clone = Global> {
 }
 
 impl<D: Device, A: Allocator + Clone> Model for LogKeeper<D, A> {
-    ghost use Rattle.tb_keep_log.specs.Keeping.{Keeping};
+    ghost use Rattle.tb_keep_log.specs.Keeping.{LogKeeping};
 
-    ghost Value = { Keeping D };
+    ghost Value = { LogKeeping D };
 
     ghost view = { λ k. record { rules = k.rules; journal = k.journal; now = k.follower; cut = k.cut; usable = k.usable } };
 }
@@ -61,7 +61,7 @@ impl<D: Device, A: Allocator + Clone> LogKeeper<D, A> {
 
     /// What a question is answered: 2, the position, and both hashes.
     pub fn standing(&self, global: Global) -> Result<Vec<u8>, AllocError>
-        ensures { IfOk result (λ line. line.items ≡ standing_of self.now.now) }
+        ensures { IfOk result (λ line. line.items ≡ follower_standing self.now.now) }
     {
         self.follower.standing(global)
     }

@@ -1,6 +1,6 @@
 //! What holds of every kept log, over the definitions alone. A call does nothing; its promise is the law.
 ghost use Rattle.tb_keep_log.specs.Dumping.{PairsOfLog};
-ghost use Rattle.tb_keep_log.specs.Laws.{AfterKill, AnyCrash, FollowsFurther, OneLog, OpenedGoesOn, OtherFormat, RepliesToTheDone, WhileCommitting, WhileReplying};
+ghost use Rattle.tb_keep_log.specs.Laws.{LogAfterKill, AnyLogCrash, FollowsFurther, OneLog, OpenedGoesOn, OtherFormat, AnswersToTheDone, LogWhileCommitting, LogWhileReplying};
 
 use tb_journal::Device;
 
@@ -19,21 +19,21 @@ pub fn other_format()
 
 /// A crash at any moment of `keep_log` leaves a file that represents some first items of those that were read, and nothing else.
 pub fn any_crash<D: Device>()
-    ensures { AnyCrash D.tells D.disk }
+    ensures { AnyLogCrash D.tells D.disk }
 {}
 
 /// Where the process alone ends, at any moment of `keep_log`, no power is lost, and the next one reads what was in the file: that is a file
 /// such as a crash leaves.
 pub fn after_kill<D: Device>()
-    ensures { AfterKill D.tells D.disk }
+    ensures { LogAfterKill D.tells D.disk }
 {}
 
 /// Whatever was acknowledged is in the file: while an entry is committed only the answers to earlier ones were sent, and while its answers are sent
 /// each file that a crash leaves has its record.
 pub fn acknowledged_is_kept<D: Device>()
-    ensures committing { WhileCommitting D.tells D.disk }
-    ensures replied { RepliesToTheDone D.tells D.disk }
-    ensures replying { WhileReplying D.tells D.disk }
+    ensures committing { LogWhileCommitting D.tells D.disk }
+    ensures replied { AnswersToTheDone D.tells D.disk }
+    ensures replying { LogWhileReplying D.tells D.disk }
 {}
 
 /// The dump of a file is that of the pairs of its entries, and of no others.

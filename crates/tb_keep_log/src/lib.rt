@@ -11,6 +11,7 @@
 //! - `beginning`: `LogKeeper::open` and `LogKeeper::start`.
 //! - `checking`: `check_log`, a file read as a start reads it, without a write.
 //! - `copying`: `copy_log`, the entries of a file taken over into a new one.
+//! - `reading_on`: `read_log_on`, the entries that are behind a file's damage taken over too.
 //! - `items`: `keep_log`, items read, entries committed, and then answers sent.
 //! - `dumps`: `write_log_dump`, the history of a kept log without positions, and `write_log_entries`, a part of it.
 //! - `laws`: what holds of every kept log: functions that do nothing.
@@ -26,13 +27,15 @@ mod items;
 mod keepers;
 pub mod laws;
 mod marks;
+mod reading_on;
 mod rereading;
 
 pub use beginning::NotStarted;
 pub use checking::{Reached, check_log};
-pub use copying::{CopiedLog, NotCopiedLog, copy_log};
+pub use copying::{CopiedLog, NotCopiedLog, copy_log, reads_on};
 pub use dumps::{write_log_dump, write_log_entries};
 pub use faults::{CopyLogFault, DumpLogFault, KeepLogFault, LogStartFault};
 pub use items::keep_log;
 pub use keepers::LogKeeper;
+pub use reading_on::{LogReadOn, read_log_on};
 pub use rereading::read_log;

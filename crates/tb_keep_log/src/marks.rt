@@ -18,8 +18,8 @@ pub(crate) const FIXED_BYTES: usize = 79;
 const CONTENT_BYTES_MAX: usize = 0xFF_FFFF;
 
 /// The first bytes of each record of these rules.
-fn write_mark(rules: Rules) -> [u8; 6]
-    ensures { result ≡ By rules mark }
+pub(crate) fn write_mark(rules: &Rules) -> [u8; 6]
+    ensures { result ≡ By rules.now mark }
 {
     let number = match rules.profile {
         Profile::One => 1,
@@ -38,11 +38,11 @@ fn write_mark(rules: Rules) -> [u8; 6]
 /// The record of an entry of these pairs, behind which a follower is.
 pub(crate) fn record_of<A: Allocator + Clone>(
     global: Global,
-    rules: Rules,
+    rules: &Rules,
     follower: &Follower<A>,
     content: &[u8],
 ) -> Result<Vec<u8>, AllocError>
-    ensures { IfOk result (λ made. made.items ≡ By rules record_bytes follower.now content.now) }
+    ensures { IfOk result (λ made. made.items ≡ By rules.now record_bytes follower.now content.now) }
 {
     let standing = follower.standing(global)?;
     let mut record = Vec::new(global);
@@ -53,9 +53,9 @@ pub(crate) fn record_of<A: Allocator + Clone>(
 }
 
 /// Why a record that begins otherwise is refused, behind the entry of this position.
-fn other_mark(bytes: &[u8], rules: Rules, last: u64) -> LogStartFault
-    requires { starts_with nat_eq bytes.now (By rules mark) ≡ false }
-    ensures { By rules (RefusesMark result) last bytes.now }
+fn other_mark(bytes: &[u8], rules: &Rules, last: u64) -> LogStartFault
+    requires { starts_with nat_eq bytes.now (By rules.now mark) ≡ false }
+    ensures { By rules.now (RefusesMark result) last bytes.now }
 {
     if bytes.starts_with(b"TBK1") {
         return LogStartFault::Plain;
@@ -67,15 +67,14 @@ fn other_mark(bytes: &[u8], rules: Rules, last: u64) -> LogStartFault
 }
 
 /// The position of the entry of a record behind the entry of this position, by the record's first bytes and its length.
-pub(crate) fn check_mark(bytes: &[u8], rules: Rules, last: u64) -> Result<u64, LogStartFault>
+pub(crate) fn check_mark(bytes: &[u8], rules: &Rules, last: u64) -> Result<u64, LogStartFault>
     ensures next { IfOk result (λ position. position ≡ last + 1) }
-    ensures marked { OnOk result (starts_with nat_eq bytes.now (By rules mark) ≡ true) }
+    ensures marked { OnOk result (starts_with nat_eq bytes.now (By rules.now mark) ≡ true) }
     ensures long { OnOk result (fixed_bytes ≤ length bytes.now) }
     ensures few { OnOk result (length bytes.now ≤ fixed_bytes + content_max) }
-    ensures refused { IfErr result (λ fault. By rules (RefusesMark fault) last bytes.now) }
+    ensures refused { IfErr result (λ fault. By rules.now (RefusesMark fault) last bytes.now) }
 {
-    let same = rules;
-    if !bytes.starts_with(&write_mark(same)) {
+    if !bytes.starts_with(&write_mark(rules)) {
         return Err(other_mark(bytes, rules, last));
     }
     if bytes.len() < FIXED_BYTES || bytes.len() - FIXED_BYTES > CONTENT_BYTES_MAX {

@@ -1,13 +1,13 @@
 //! A follower behind all records of a file.
 ghost use Rattle.std.specs.Prelude.{◌≡◌, ◌≤◌, true, IfErr, IfOk, OnOk};
-ghost use Rattle.tb_journal.specs.Device.{IsOnDisk};
+ghost use Rattle.tb_journal.specs.Device.{OfHeld, IsOnDisk};
 ghost use Rattle.tb_journal.specs.Scans.{GoesFurther, IsAt, ScanCause};
 ghost use Rattle.tb_keep.specs.private.Entering.{StaysKept};
-ghost use Rattle.tb_keep.specs.Creating.{IsUntouched};
+ghost use Rattle.tb_keep.specs.Creating.{IsDiskUntouched};
 ghost use Rattle.tb_keep.specs.private.Sources.{IsNext};
 ghost use Rattle.tb_keep_log.specs.Rereading.{HasLogCause, ReadsLog};
-ghost use Rattle.tb_keep_log.specs.private.Steps.{ReadCause, EntersNextBy, EntersAllBy};
-ghost use Rattle.tb_keep_log.specs.Keeping.{By, IfSound, OfEachRead, OfHeld, OfUnread};
+ghost use Rattle.tb_keep_log.specs.private.Steps.{LogReadCause, EntersNextBy, EntersAllBy};
+ghost use Rattle.tb_keep_log.specs.Keeping.{By, IfSound, OfEachRead, OfUnread};
 
 use crate::entries::enter_record;
 use crate::faults::LogStartFault;
@@ -31,15 +31,15 @@ pub(crate) fn read_record<D: Device>(scan: &mut Scan, device: &mut D) -> Result<
 /// Reads the next record and enters its entry: false where there is none.
 fn enter_next<D: Device, A: Allocator + Clone>(
     global: Global,
-    rules: Rules,
+    rules: &Rules,
     follower: &mut Follower<A>,
     scan: &mut Scan,
     device: &mut D,
 ) -> Result<bool, LogStartFault>
-    ensures enters { OfEachRead (D.holds device.old) scan.old (EntersNextBy rules result scan.new follower.old follower.new) }
+    ensures enters { OfEachRead (D.holds device.old) scan.old (EntersNextBy rules.now result scan.new follower.old follower.new) }
     ensures same { OfHeld (D.holds device.old) (D.holds device.new) }
     ensures stays { D.tells → StaysKept (D.disk device.old) (D.disk device.new) }
-    ensures cause { D.tells → ReadCause result scan.old (D.disk device.old) (D.disk device.new) }
+    ensures cause { D.tells → LogReadCause result scan.old (D.disk device.old) (D.disk device.new) }
     ensures further { IfOk result (λ more. more ≡ true → GoesFurther scan.old scan.new) }
 {
     match read_record(scan, device) {
@@ -55,19 +55,18 @@ fn enter_next<D: Device, A: Allocator + Clone>(
 /// Enters the entries of the records that are left, each before the next is read.
 fn enter_all<D: Device, A: Allocator + Clone>(
     global: Global,
-    rules: Rules,
+    rules: &Rules,
     follower: &mut Follower<A>,
     scan: &mut Scan,
     device: &mut D,
 ) -> Result<(), LogStartFault>
-    ensures enters { OfEachRead (D.holds device.old) scan.old (EntersAllBy rules result scan.new follower.old follower.new) }
+    ensures enters { OfEachRead (D.holds device.old) scan.old (EntersAllBy rules.now result scan.new follower.old follower.new) }
     ensures same { OfHeld (D.holds device.old) (D.holds device.new) }
     ensures stays { D.tells → StaysKept (D.disk device.old) (D.disk device.new) }
-    ensures cause { D.tells → ReadCause result scan.old (D.disk device.old) (D.disk device.new) }
+    ensures cause { D.tells → LogReadCause result scan.old (D.disk device.old) (D.disk device.new) }
 {
     loop {
-        let same = rules;
-        match enter_next(global, same, follower, scan, device) {
+        match enter_next(global, rules, follower, scan, device) {
             Ok(true) => {}
             Ok(false) => return Ok(()),
             Err(fault) => return Err(fault),
@@ -79,17 +78,16 @@ fn enter_all<D: Device, A: Allocator + Clone>(
 fn read_records<D: Device, A: Allocator + Clone>(
     global: Global,
     alloc: A,
-    rules: Rules,
+    rules: &Rules,
     scan: &mut Scan,
     device: &mut D,
 ) -> Result<(Follower<A>, Extent), LogStartFault>
-    ensures found { OfUnread (D.holds device.old) scan.old (By rules (ReadsLog result)) }
+    ensures found { OfUnread (D.holds device.old) scan.old (By rules.now (ReadsLog result)) }
     ensures few { IfOk result (λ found. found.1.count ≤ found.1.end) }
     ensures same { OfHeld (D.holds device.old) (D.holds device.new) }
     ensures stays { D.tells → StaysKept (D.disk device.old) (D.disk device.new) }
-    ensures cause { D.tells → ReadCause result scan.old (D.disk device.old) (D.disk device.new) }
+    ensures cause { D.tells → LogReadCause result scan.old (D.disk device.old) (D.disk device.new) }
 {
-    let _clients = rules.clients_max.get();
     let Ok(mut follower) = Follower::new_in(global, alloc, rules.profile, rules.clients_max) else {
         return Err(LogStartFault::NoMemory);
     };
@@ -108,17 +106,17 @@ fn read_records<D: Device, A: Allocator + Clone>(
 pub fn read_log<D: Device, A: Allocator + Clone>(
     global: Global,
     alloc: A,
-    rules: Rules,
+    rules: &Rules,
     device: &mut D,
 ) -> Result<(Follower<A>, Extent), LogStartFault>
     // Of any device, by the file that its reads are of.
-    ensures found { OfHeld (D.holds device.old) (By rules (ReadsLog result)) }
+    ensures found { OfHeld (D.holds device.old) (By rules.now (ReadsLog result)) }
     ensures few { IfOk result (λ found. found.1.count ≤ found.1.end) }
     // Where no sync has failed before.
     ensures kept { IfSound D.Device device.old (OnOk result (IsOnDisk (D.disk device.new))) }
     ensures sound { D.tells → OnOk result ((D.disk device.new).sound ≡ (D.disk device.old).sound) }
     ensures same { OfHeld (D.holds device.old) (D.holds device.new) }
-    ensures untouched { D.tells → IsUntouched (D.disk device.old) (D.disk device.new) }
+    ensures untouched { D.tells → IsDiskUntouched (D.disk device.old) (D.disk device.new) }
     ensures cause { D.tells → HasLogCause result (D.disk device.old) (D.disk device.new) }
 {
     match Scan::start(global, device) {

@@ -1,5 +1,5 @@
 -- What a verdict of 0 says: each test of its tables fails.
-use Rattle.tb_ledger.proofs.Common.{◌≡◌, ◌≢◌, ℕ, ◌+◌, ◌*◌, ◌≤◌, Bool, true, false, not, ◌&&◌, if◌then◌else◌, eqb, ltb, ◌==◌, List, [], ◌∷◌, Option, Some, None, option_map, bit_and, bit_or, refl, sym, ap, subst, ◌∙◌, arith, ltb-false, nat_tests, and_parts, and_from, and_or_apart, and_or_self, Account, Transfer, Each, found_key, State, Open, Posted, Voided, Expired, Books, has, closed, debits_limited, credits_limited, pending, resolves, is_open, is_posted, is_voided, is_expired, state_of, stands_closed, account_at, account_now, as_it_stands, transfer_at, debits_pending, debits_posted, credits_pending, credits_posted, Test, first_of, first_code, is_not, int_max, max_time, account_own_tests, account_exists_tests, account_new_tests, account_verdict, transfer_own_tests, transfer_exists_tests, failed_tests, transfer_verdict, filled, filled_amount, filled_from, given_or, differs, id_code, resolve_own_tests, named_tests, closed_tests, closed_at, named_code, resolve_code, two_party_own_tests, pair_tests, pair_code, amount_tests, single_code, balanced_amount, balanced_between, blank, FoundPending}
+use Rattle.tb_ledger.proofs.Common.{◌≡◌, ◌≢◌, ℕ, ◌+◌, ◌*◌, ◌≤◌, Bool, true, false, not, ◌&&◌, if◌then◌else◌, eqb, ltb, ◌==◌, List, [], ◌∷◌, Option, Some, None, option_map, bit_and, bit_or, refl, sym, ap, subst, ◌∙◌, arith, ltb-false, nat_tests, and_parts, and_from, and_or_apart, and_or_self, Account, Transfer, Each, found_key, State, Open, Posted, Voided, Expired, Books, closed, debits_limited, credits_limited, pending, resolves, is_open, is_posted, is_voided, is_expired, state_of, stands_closed, account_at, account_now, as_it_stands, transfer_at, debits_pending, debits_posted, credits_pending, credits_posted, Test, first_of, first_code, is_not, account_own_tests, account_exists_tests, account_new_tests, account_verdict, transfer_own_tests, transfer_exists_tests, failed_tests, transfer_verdict, filled, filled_amount, filled_from, given_or, differs, id_code, resolve_own_tests, named_tests, closed_tests, closed_at, named_code, resolve_code, two_party_own_tests, pair_tests, pair_code, amount_tests, single_code, balanced_amount, balanced_between, blank, FoundPending, AMOUNT_MAX, LAST_MOMENT, has_flag}
 use Rattle.tb_ledger.proofs.FoundPairs.{FoundPair}
 
 -- no test's code is 0
@@ -36,13 +36,13 @@ other_numbers : (x y : ℕ) → eqb x y ≡ false → x ≢ y
 other_numbers x y is same = grind (arith, nat_tests)
 
 -- closing leaves the other flags
-pub flag_stays : (mask flags : ℕ) (b : Bool) → bit_and 32 mask ≡ 0 → has mask (if b then bit_or flags 32 else flags) ≡ has mask flags
+pub flag_stays : (mask flags : ℕ) (b : Bool) → bit_and 32 mask ≡ 0 → has_flag mask (if b then bit_or flags 32 else flags) ≡ has_flag mask flags
 flag_stays mask flags true apart = ap (λ n. not (n == 0)) (and_or_apart mask flags 32 apart)
 flag_stays mask flags false apart = refl
 
 -- an account that is closed as it is now has the flag
 pub closed_flag : (B : Books) (a : Account) → closed (as_it_stands B a) ≡ false → stands_closed B a ≡ false
-closed_flag B a is = elim (stands_closed B a) as (λ b. has 32 (if b then bit_or a.flags 32 else a.flags) ≡ false → b ≡ false) [ true ↦ λ test. let set : has 32 (bit_or a.flags 32) ≡ true = ap (λ n. not (n == 0)) (and_or_self 32 a.flags) in absurd (cc) | false ↦ λ test. refl ] is
+closed_flag B a is = elim (stands_closed B a) as (λ b. has_flag 32 (if b then bit_or a.flags 32 else a.flags) ≡ false → b ≡ false) [ true ↦ λ test. let set : has_flag 32 (bit_or a.flags 32) ≡ true = ap (λ n. not (n == 0)) (and_or_self 32 a.flags) in absurd (cc) | false ↦ λ test. refl ] is
 
 -- an accepted account is new
 pub new_account : (B : Books) (a : Account) → account_verdict B a ≡ 0 → account_at B a.id ≡ None
@@ -154,9 +154,9 @@ pair_of B t time d c d_is c_is apart ok = by (balanced_amount (as_it_stands B d)
           credit_ledger = sym ledgers ∙ sym ledger;
           debit_open = closed_flag B d pair.1.1.0;
           credit_open = closed_flag B c pair.1.1.1.0;
-          debits_fit = subst (λ k. debits_pending B k + debits_posted B k + amount ≤ int_max) d_id (ltb-false int_max (debits_pending B d.id + debits_posted B d.id + amount) room.1.1.1.1.0);
-          credits_fit = subst (λ k. credits_pending B k + credits_posted B k + amount ≤ int_max) c_id (ltb-false int_max (credits_pending B c.id + credits_posted B c.id + amount) room.1.1.1.1.1.0);
-          in_time = ltb-false max_time (time + t.timeout * 1000000000) room.1.1.1.1.1.1.0;
+          debits_fit = subst (λ k. debits_pending B k + debits_posted B k + amount ≤ AMOUNT_MAX) d_id (ltb-false AMOUNT_MAX (debits_pending B d.id + debits_posted B d.id + amount) room.1.1.1.1.0);
+          credits_fit = subst (λ k. credits_pending B k + credits_posted B k + amount ≤ AMOUNT_MAX) c_id (ltb-false AMOUNT_MAX (credits_pending B c.id + credits_posted B c.id + amount) room.1.1.1.1.1.0);
+          in_time = ltb-false LAST_MOMENT (time + t.timeout * 1000000000) room.1.1.1.1.1.1.0;
           debits_within = λ limited. subst (λ k. debits_pending B k + debits_posted B k + amount ≤ credits_posted B k) d_id (limit (debits_limited d) (debits_limited (as_it_stands B d)) (credits_posted B d.id) (debits_pending B d.id + debits_posted B d.id + amount) limited (flag_stays 2 d.flags (stands_closed B d) refl) room.1.1.1.1.1.1.1.0);
           credits_within = λ limited. subst (λ k. credits_pending B k + credits_posted B k + amount ≤ debits_posted B k) c_id (limit (credits_limited c) (credits_limited (as_it_stands B c)) (debits_posted B c.id) (credits_pending B c.id + credits_posted B c.id + amount) limited (flag_stays 4 c.flags (stands_closed B c) refl) room.1.1.1.1.1.1.1.1.0);
         }

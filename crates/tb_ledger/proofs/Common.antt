@@ -36,13 +36,15 @@ pub use Rattle.tb_records.specs.declared.records.EventResult.{EventResult}
 pub use Rattle.tb_records.specs.declared.records.Transfer.{Transfer}
 pub use Rattle.tb_records.specs.declared.transfer_results.CreateTransferResult.{CreateTransferResult}
 pub use Rattle.tb_records.specs.declared.transfer_results.CreateTransferResult.TheVariants.{PendingTransferNotFound}
-pub use Rattle.tb_ledger.specs.Batches.{Failure, Kind, Timed, account_events, all_recorded, batch_after, chain_after, chain_length, chains, chains_after, chain_outcome, code_in_chain, failure_from, is_final, joined, results, results_from, timed, timed_from, transfer_events, undone, undone_code}
-pub use Rattle.tb_ledger.specs.Books.{Books, account_at, account_now, as_it_stands, closed, closing_credit, closing_debit, credit, credits_limited, credits_pending, credits_posted, debit, debits_limited, debits_pending, debits_posted, empty_books, expires_at, has, holds, is_due, is_expired, is_open, is_posted, is_voided, moves, pending, pending_on, posted_on, posts, profile_by, profile_of, resolver, resolves, stands_closed, state_by, state_of, transfer_at, voids}
+pub use Rattle.tb_records.specs.declared.limits.TheConstants.{AMOUNT_MAX, LAST_MOMENT}
+pub use Rattle.tb_records.specs.Flags.{has_flag}
+pub use Rattle.tb_ledger.specs.Batches.{Failure, Kind, Timed, account_events, all_recorded, batch_after, chain_after, chain_length, chains, chains_after, chain_outcome, code_in_chain, failure_from, is_final, joined, results, timed, timed_from, transfer_events, undone, undone_code}
+pub use Rattle.tb_ledger.specs.Books.{Books, account_at, account_now, as_it_stands, closed, closing_credit, closing_debit, credits_limited, credits_pending, credits_posted, debits_limited, debits_pending, debits_posted, empty_books, expires_at, holds, is_due, is_expired, is_open, is_posted, is_voided, moves, pending, posts, profile_by, profile_of, resolver, resolves, stands_closed, state_by, state_of, transfer_at, voids}
 pub use Rattle.tb_ledger.specs.private.Capacity.{Capacity, Uses, capacity_of}
 pub use Rattle.tb_ledger.specs.Cuttings.{AreEnded, CutsOneWay, IsChain, IsCutting, ends_linked, in_turn}
-pub use Rattle.tb_ledger.specs.private.Exchanges.{Exchanges, ExchangesIn, PassesIn, account_row_at, as_recorded}
+pub use Rattle.tb_ledger.specs.private.Exchanges.{ExchangesRows, ExchangesIn, PassesIn, account_row_at, as_recorded}
 pub use Rattle.tb_ledger.specs.private.Found.{FoundPending, Judges}
-pub use Rattle.tb_ledger.specs.Kept.{AreKept, CanList, CanTake, HasBoth, HasSide, HasState, HasSums, IsIndex, IsKept, IsLedger, IsListed, IsTimeout, account_row_key, accounts_gained, accounts_released, accounts_released_and_gained, bit, blank, books_at, books_in, books_of, closing_share, gained, lapses, listed, new_row, new_side, new_transfer_row, on_credits, on_debits, pending_share, posted_share, released, released_and_gained, row_closed, row_holds, row_now, settled, state_given_by, timeout_of, times_out, transfer_row_key, unlisted}
+pub use Rattle.tb_ledger.specs.Kept.{AreKept, CanList, CanTake, HasBoth, HasSide, HasState, HasSums, IsIndex, AreRowsKept, AreLedgerRows, IsListed, IsTimeout, account_row_key, accounts_gained, accounts_released, accounts_released_and_gained, bit, blank, books_at, books_in, books_of, closing_share, gained, lapses, listed, new_row, new_side, new_transfer_row, on_credits, on_debits, pending_share, posted_share, released, released_and_gained, row_closed, row_holds, row_now, settled, state_given_by, timeout_of, times_out, transfer_row_key, unlisted}
 pub use Rattle.tb_ledger.specs.Limits.{Balances, KeepsLimits}
 pub use Rattle.tb_ledger.specs.private.Lookups.{found_in}
 pub use Rattle.tb_ledger.specs.Meanings.{HeldWhileOpen, IsHeld, SettlesBoth, SettlesSide}
@@ -52,8 +54,8 @@ pub use Rattle.tb_ledger.specs.Sound.{IdsRise, SideKept, Sound, account_key, led
 pub use Rattle.tb_ledger.specs.private.Steps.{Decides, IsPreparedFor, IsResolution, KeepsRecords, Leaves}
 pub use Rattle.tb_ledger.specs.Tables.{ChangedRow, ChangedRows, IsTable, KeepsKey, KeepsKeys, KnowsAbsent, MayBeKey, Stored, freed, pairs_in, rows_in, spare_in, unfound, without_id}
 pub use Rattle.tb_ledger.specs.private.Timeouts.{AreTimeouts, TakesDue, timeout_at, timeout_key, timeouts_of, with_timeout, without_timeout}
-pub use Rattle.tb_ledger.specs.private.UndoLog.{CanUndo, CanUnwind, Chained, Grows, IsMarked, IsNoted, IsUndoneTo, LeadsBack, chained, undone_by, unwound}
-pub use Rattle.tb_ledger.specs.Verdicts.{Test, account_exists_tests, account_new_tests, account_own_tests, account_verdict, amount_tests, balanced_amount, balanced_between, closed_at, closed_tests, differs, failed_tests, filled, filled_amount, filled_from, first_code, first_of, given_or, id_code, int_max, is_not, max_time, named_code, named_tests, pair_code, pair_tests, recorded_account, recorded_transfer, resolve_code, resolve_own_tests, single_code, two_party_own_tests, transfer_exists_tests, transfer_own_tests, transfer_verdict}
+pub use Rattle.tb_ledger.specs.private.UndoLog.{CanUndo, CanUnwind, Chained, GrowsUndoLog, IsMarked, IsNoted, IsUndoneTo, LeadsBack, chained, undone_by, unwound}
+pub use Rattle.tb_ledger.specs.Verdicts.{Test, account_exists_tests, account_new_tests, account_own_tests, account_verdict, amount_tests, balanced_amount, balanced_between, closed_at, closed_tests, differs, failed_tests, filled, filled_amount, filled_from, first_code, first_of, given_or, id_code, is_not, named_code, named_tests, pair_code, pair_tests, recorded_account, recorded_transfer, resolve_code, resolve_own_tests, single_code, two_party_own_tests, transfer_exists_tests, transfer_own_tests, transfer_verdict}
 pub use Rattle.tb_ledger.specs.declared.tables.absent_ids.AbsentIds.{AbsentIds}
 pub use Rattle.tb_ledger.specs.declared.tables.accounts.AccountRow.{AccountRow}
 pub use Rattle.tb_ledger.specs.declared.tables.accounts.Side.{Side}
@@ -65,3 +67,5 @@ pub use Rattle.tb_ledger.specs.declared.tables.transfers.TransferRow.{TransferRo
 pub use Rattle.tb_ledger.specs.declared.tables.work.TheConstants.{UNDOS_PER_EVENT}
 pub use Rattle.tb_ledger.specs.declared.tables.work.Undo.{Undo}
 pub use Rattle.tb_ledger.specs.declared.tables.work.Work.{Work}
+pub use Rattle.tb_ledger.specs.Sides.{credit, debit, pending_on, posted_on}
+pub use Rattle.tb_ledger.specs.private.Gathered.{results_from}

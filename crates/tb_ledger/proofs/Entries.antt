@@ -1,5 +1,5 @@
 -- What changes a tree's pairs changes the rows that they are.
-use Rattle.tb_ledger.proofs.Common.{AbsentIds, pairs_in, rows_in, KnowsAbsent, MayBeKey, put, rising-put, rising-taken_out, each-taken_out, own-agrees, own-inserted, own-removed, rows-inserted, rows-removed, insert_entry, remove_entry, ◌≡◌, ℕ, ◌+◌, ◌*◌, ◌<◌, ◌≤◌, Bool, true, false, cond, eqb, ltb, ◌==◌, List, [], ◌∷◌, length, map, find, is_some, Option, Some, None, IfSome, IfNone, ◌⊎◌, inl, inr, Result, Ok, Err, IfOk, IfErr, refl, sym, ap, subst, ◌∙◌, arith, nat_tests, Ordering, Less, Equal, Greater, nat_cmp, ordering_then, lookup, set_value, values_of, is_at, Mut, MutBor, Changed, ChangedTwo, replaced, taken_out, Each, Rising, IsTable, KeepsKey, ChangedRow, KeepsKeys, ChangedRows, slice_get, Map, entries, get, Search, leaf, fork, entries_of, path_length, each-map, each-both, each-back, found_key, rising-replaced, Agrees, Own, found-row, rows-replaced, own-replaced, int_max, timeout_key, timeout_at, timeouts_of, AreTimeouts, Timeout, with_first}
+use Rattle.tb_ledger.proofs.Common.{AbsentIds, pairs_in, rows_in, KnowsAbsent, MayBeKey, put, rising-put, rising-taken_out, each-taken_out, own-agrees, own-inserted, own-removed, rows-inserted, rows-removed, insert_entry, remove_entry, ◌≡◌, ℕ, ◌+◌, ◌*◌, ◌<◌, ◌≤◌, Bool, true, false, cond, eqb, ltb, ◌==◌, List, [], ◌∷◌, length, map, find, is_some, Option, Some, None, IfSome, IfNone, ◌⊎◌, inl, inr, Result, Ok, Err, IfOk, IfErr, refl, sym, ap, subst, ◌∙◌, arith, nat_tests, Ordering, Less, Equal, Greater, nat_cmp, ordering_then, lookup, set_value, values_of, is_at, Mut, MutBor, Changed, ChangedTwo, replaced, taken_out, Each, Rising, IsTable, KeepsKey, ChangedRow, KeepsKeys, ChangedRows, slice_get, Map, entries, get, Search, leaf, fork, entries_of, path_length, each-map, each-both, each-back, found_key, rising-replaced, Agrees, Own, found-row, rows-replaced, own-replaced, timeout_key, timeout_at, timeouts_of, AreTimeouts, Timeout, with_first, AMOUNT_MAX}
 use Rattle.tb_ledger.proofs.AbsentKeys.{OfKeys, known-put, known-replaced}
 
 set-absent : {V : Type 0} (test : ℕ → Bool) (v : V) (es : List (ℕ × V)) → lookup test es ≡ None → set_value test es v ≡ es
@@ -142,10 +142,10 @@ first-later time e [] ordered is later = tt
 first-later time e (x ∷ es) ordered is later =
     let same : x ≡ e = cc in
     let here : time < x.0.0 = rw same later in
-    (here, each-both (λ d. timeout_key (timeout_at x) < timeout_key d) (λ d. d.id ≤ int_max) (λ d. time < d.at) (timeouts_of es) (λ d above fits. omega arith) ordered.rising.0 ordered.fit.1)
+    (here, each-both (λ d. timeout_key (timeout_at x) < timeout_key d) (λ d. d.id ≤ AMOUNT_MAX) (λ d. time < d.at) (timeouts_of es) (λ d above fits. omega arith) ordered.rising.0 ordered.fit.1)
 
 -- pairs of numbers compare as one number does, where the second part fits
-pub pair-number : (a b c d : ℕ) → b ≤ int_max → d ≤ int_max → ordering_then (nat_cmp a c) (nat_cmp b d) ≡ nat_cmp (timeout_key (record { at = a; id = b })) (timeout_key (record { at = c; id = d }))
+pub pair-number : (a b c d : ℕ) → b ≤ AMOUNT_MAX → d ≤ AMOUNT_MAX → ordering_then (nat_cmp a c) (nat_cmp b d) ≡ nat_cmp (timeout_key (record { at = a; id = b })) (timeout_key (record { at = c; id = d }))
 pair-number a b c d b_fits d_fits = by (ltb a c) refl (eqb a c) refl (ltb b d) refl (eqb b d) refl (ltb x y) refl (eqb x y) refl
   where
     x : ℕ
@@ -172,10 +172,10 @@ pair-number a b c d b_fits d_fits = by (ltb a c) refl (eqb a c) refl (ltb b d) r
     by false e false f r g s h false i false j = refl
 
 -- the keys of timeouts agree with their numbers
-pub timeouts-agree : {V : Type 0} (k : ℕ × ℕ) (es : List ((ℕ × ℕ) × V)) → k.1 ≤ int_max → Each (λ d. d.id ≤ int_max) (map timeout_at es)
+pub timeouts-agree : {V : Type 0} (k : ℕ × ℕ) (es : List ((ℕ × ℕ) × V)) → k.1 ≤ AMOUNT_MAX → Each (λ d. d.id ≤ AMOUNT_MAX) (map timeout_at es)
     → Each (Agrees (λ x y. ordering_then (nat_cmp x.0 y.0) (nat_cmp x.1 y.1)) timeout_at timeout_key k (timeout_key (record { at = k.0; id = k.1 }))) es
-timeouts-agree k es fits all = each-map (λ e. (timeout_at e).id ≤ int_max) (Agrees (λ x y. ordering_then (nat_cmp x.0 y.0) (nat_cmp x.1 y.1)) timeout_at timeout_key k (timeout_key (record { at = k.0; id = k.1 }))) es
-    (λ e its. pair-number k.0 k.1 e.0.0 e.0.1 fits its) (each-back (λ d. d.id ≤ int_max) timeout_at es all)
+timeouts-agree k es fits all = each-map (λ e. (timeout_at e).id ≤ AMOUNT_MAX) (Agrees (λ x y. ordering_then (nat_cmp x.0 y.0) (nat_cmp x.1 y.1)) timeout_at timeout_key k (timeout_key (record { at = k.0; id = k.1 }))) es
+    (λ e its. pair-number k.0 k.1 e.0.0 e.0.1 fits its) (each-back (λ d. d.id ≤ AMOUNT_MAX) timeout_at es all)
 
 -- a search that met no node was among none
 pub no_visits : {V : Type 0} (cmp : ℕ → Ordering) (tree : Search (ℕ × V)) → path_length cmp tree ≡ 0 → length (values_of (entries_of tree)) ≡ 0

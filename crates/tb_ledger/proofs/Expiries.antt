@@ -1,5 +1,5 @@
 -- The rows when time moves on: transfers that are due hold no more.
-use Rattle.tb_ledger.proofs.Common.{Rows, books_in, IsKept, KeepsRecords, ◌≡◌, ◌≢◌, ℕ, ◌≤◌, Bool, true, false, ◌&&◌, ◌==◌, List, map, find, if◌then◌else◌, Option, Some, None, option_map, IsSome, refl, sym, ap, subst, ◌∙◌, Transfer, replaced, changed, Each, Rising, each-map, each-both, each-find, each-replaced_all, find-map, map-replaced, map-changed, rising-changed, State, Posted, Voided, Expired, AccountRow, TransferRow, Timeout, Books, posts, pending, resolves, is_open, is_due, state_by, closing_debit, closing_credit, debit, credit, IdsRise, ledger_at, Sound, account_row_key, transfer_row_key, books_of, row_holds, lapses, IsIndex, HasSums, HasState, AreKept, IsLedger, on_debits, on_credits, released, settled, accounts_released}
+use Rattle.tb_ledger.proofs.Common.{Rows, books_in, AreRowsKept, KeepsRecords, ◌≡◌, ◌≢◌, ℕ, ◌≤◌, Bool, true, false, ◌&&◌, ◌==◌, List, map, find, if◌then◌else◌, Option, Some, None, option_map, IsSome, refl, sym, ap, subst, ◌∙◌, Transfer, replaced, changed, Each, Rising, each-map, each-both, each-find, each-replaced_all, find-map, map-replaced, map-changed, rising-changed, State, Posted, Voided, Expired, AccountRow, TransferRow, Timeout, Books, posts, pending, resolves, is_open, is_due, state_by, closing_debit, closing_credit, debit, credit, IdsRise, ledger_at, Sound, account_row_key, transfer_row_key, books_of, row_holds, lapses, IsIndex, HasSums, HasState, AreKept, AreLedgerRows, on_debits, on_credits, released, settled, accounts_released}
 use Rattle.tb_ledger.proofs.RowSums.{both_hold}
 use Rattle.tb_ledger.proofs.Pairs.{sums_released}
 use Rattle.tb_ledger.proofs.Sides.{due_later}
@@ -115,7 +115,7 @@ ahead_marked T records p transfers marked found lapsed is ahead =
 pub books_then : {A : Type 0} (rows later : Rows A) → KeepsRecords rows later → books_in later ≡ record (books_in rows) { time = later.time }
 books_then rows later keeps = λ i. record { accounts = keeps.accounts i; transfers = keeps.transfers i; failed = (if keeps.keeps_failed i then Some ((keeps.failed i).items) else None); time = later.time }
 
-pub ledger_then : {A : Type 0} (rows later : Rows A) → IsKept rows → rows.time ≤ later.time → KeepsRecords rows later → AreKept later.accounts.items later.transfers.items later.time → IsIndex later.transfers.items later.timeouts.items → IsKept later
+pub ledger_then : {A : Type 0} (rows later : Rows A) → AreRowsKept rows → rows.time ≤ later.time → KeepsRecords rows later → AreKept later.accounts.items later.transfers.items later.time → IsIndex later.transfers.items later.timeouts.items → AreRowsKept later
 ledger_then rows later ledger le keeps kept index = record {
   kept = kept;
   index = index;

@@ -1,5 +1,5 @@
 -- The index of expiries, where a transfer comes and where one holds no more.
-use Rattle.tb_ledger.proofs.Common.{◌≡◌, ◌≢◌, ℕ, ◌+◌, ◌-◌, ◌<◌, ◌≤◌, Bool, true, false, cond, not, ◌&&◌, eqb, ltb, leb, ◌==◌, if◌then◌else◌, List, [], ◌∷◌, length, find, Some, None, refl, sym, ap, subst, ◌∙◌, arith, nat_tests, put, replaced, taken_out, Each, Rising, each-map, each-both, each-find, each-put, each-replaced, each-all, none-found, find-put_here, find-put_other, find-replaced_other, taken_out-put, rising-put, rising-taken_out, each-taken_out, State, TransferRow, Timeout, pending, is_open, expires_at, int_max, timeout_key, AreTimeouts, freed, with_timeout, without_timeout, transfer_row_key, times_out, lapses, settled, timeout_of, listed, unlisted, IsListed, IsTimeout, IsIndex, CanList, Stored}
+use Rattle.tb_ledger.proofs.Common.{◌≡◌, ◌≢◌, ℕ, ◌+◌, ◌-◌, ◌<◌, ◌≤◌, Bool, true, false, cond, not, ◌&&◌, eqb, ltb, leb, ◌==◌, if◌then◌else◌, List, [], ◌∷◌, length, find, Some, None, refl, sym, ap, subst, ◌∙◌, arith, nat_tests, put, replaced, taken_out, Each, Rising, each-map, each-both, each-find, each-put, each-replaced, each-all, none-found, find-put_here, find-put_other, find-replaced_other, taken_out-put, rising-put, rising-taken_out, each-taken_out, State, TransferRow, Timeout, pending, is_open, expires_at, timeout_key, AreTimeouts, freed, with_timeout, without_timeout, transfer_row_key, times_out, lapses, settled, timeout_of, listed, unlisted, IsListed, IsTimeout, IsIndex, CanList, Stored, AMOUNT_MAX}
 
 -- records taken out and put back
 
@@ -94,16 +94,16 @@ can_relist t ts ordered is_listed is =
     } in rw is can
 
 -- the order of timeouts, with one more or one less
-ordered_with : (d : Timeout) (ts : Stored Timeout) → d.id ≤ int_max → find (λ e. timeout_key e == timeout_key d) ts.items ≡ None → AreTimeouts ts.items → AreTimeouts (with_timeout d ts).items
+ordered_with : (d : Timeout) (ts : Stored Timeout) → d.id ≤ AMOUNT_MAX → find (λ e. timeout_key e == timeout_key d) ts.items ≡ None → AreTimeouts ts.items → AreTimeouts (with_timeout d ts).items
 ordered_with d ts fits absent ordered = record {
   rising = rising-put timeout_key d ts.items absent ordered.rising;
-  fit = each-put timeout_key (λ e. e.id ≤ int_max) d ts.items fits ordered.fit;
+  fit = each-put timeout_key (λ e. e.id ≤ AMOUNT_MAX) d ts.items fits ordered.fit;
 }
 
 ordered_without : (d : Timeout) (ts : Stored Timeout) → AreTimeouts ts.items → AreTimeouts (without_timeout d ts).items
 ordered_without d ts ordered = record {
   rising = rising-taken_out timeout_key (timeout_key d) ts.items ordered.rising;
-  fit = each-taken_out timeout_key (λ d. d.id ≤ int_max) (timeout_key d) ts.items ordered.fit;
+  fit = each-taken_out timeout_key (λ d. d.id ≤ AMOUNT_MAX) (timeout_key d) ts.items ordered.fit;
 }
 
 -- of a new transfer no timeout is there yet
@@ -112,10 +112,10 @@ module _ (transfers : List TransferRow) (ts : Stored Timeout) (index : IsIndex t
     other_id : (d : Timeout) → IsTimeout transfers d → d.id ≢ t.recorded.id
     other_id d has same = let found : find (λ r. r.recorded.id == t.recorded.id) transfers ≡ Some has.t = subst (λ k. find (λ r. r.recorded.id == k) transfers ≡ Some has.t) same has.there in absurd (cc)
 
-    pub not_listed_yet : t.recorded.id ≤ int_max → find (λ d. timeout_key d == timeout_key (timeout_of t)) ts.items ≡ None
+    pub not_listed_yet : t.recorded.id ≤ AMOUNT_MAX → find (λ d. timeout_key d == timeout_key (timeout_of t)) ts.items ≡ None
     not_listed_yet fits =
         none-found (λ d. timeout_key d == timeout_key (timeout_of t)) ts.items
-        (each-both (IsTimeout transfers) (λ d. d.id ≤ int_max) (λ d. eqb (timeout_key d) (timeout_key (timeout_of t)) ≡ false) ts.items
+        (each-both (IsTimeout transfers) (λ d. d.id ≤ AMOUNT_MAX) (λ d. eqb (timeout_key d) (timeout_key (timeout_of t)) ≡ false) ts.items
         (λ d has d_fits. let other = other_id d has in let differs : timeout_key d ≢ timeout_key (timeout_of t) = λ same. other (omega arith) in grind (arith, nat_tests)) index.all_timed index.ordered.fit)
 
     others_timed : (d : Timeout) → IsTimeout transfers d → IsTimeout (put transfer_row_key t transfers) d
@@ -128,7 +128,7 @@ module _ (transfers : List TransferRow) (ts : Stored Timeout) (index : IsIndex t
           same = has.same;
         }
 
-    pub index_added : (times_out t ≡ true → t.recorded.id ≤ int_max) → (times_out t ≡ true → CanList t ts) → IsIndex (put transfer_row_key t transfers) (listed t ts).items
+    pub index_added : (times_out t ≡ true → t.recorded.id ≤ AMOUNT_MAX) → (times_out t ≡ true → CanList t ts) → IsIndex (put transfer_row_key t transfers) (listed t ts).items
     index_added fits can = by (times_out t) refl
       where
         by : (b : Bool) → times_out t ≡ b → IsIndex (put transfer_row_key t transfers) (if b then with_timeout (timeout_of t) ts else ts).items

@@ -1,5 +1,5 @@
 -- What passes between two accounts, or is settled there, changes their rows as the books say.
-use Rattle.tb_ledger.proofs.Common.{◌≡◌, ◌≢◌, ℕ, Bool, true, false, cond, eqb, ◌==◌, List, [], ◌∷◌, find, Some, Result, Ok, Err, refl, ap, ◌∙◌, arith, Transfer, CreateTransferResult, replaced, changed, replaced-changed, AccountRow, IsNoted, closing_debit, closing_credit, account_row_key, gained, released_and_gained, on_debits, on_credits, as_recorded, Exchanges, ExchangesIn, account_row_at, CanSettle, Settles, SettlesIn, Noted, with_noted}
+use Rattle.tb_ledger.proofs.Common.{◌≡◌, ◌≢◌, ℕ, Bool, true, false, cond, eqb, ◌==◌, List, [], ◌∷◌, find, Some, Result, Ok, Err, refl, ap, ◌∙◌, arith, Transfer, CreateTransferResult, replaced, changed, replaced-changed, AccountRow, IsNoted, closing_debit, closing_credit, account_row_key, gained, released_and_gained, on_debits, on_credits, as_recorded, ExchangesRows, ExchangesIn, account_row_at, CanSettle, Settles, SettlesIn, Noted, with_noted}
 use Rattle.tb_ledger.specs.declared.tables.work.Undo.TheVariants.{Account}
 use Rattle.tb_ledger.proofs.Settled.{both_written, found_still, refound}
 use Rattle.tb_ledger.proofs.UndoLogs.{grown_by, grows_both, leads_by, leads_both}
@@ -20,7 +20,7 @@ both_same a b d c d' c' accounts later d_is c_is d_same c_same wrote =
     wrote ∙ ap (replaced account_row_key c') first ∙ rw c_same (replaced_same account_row_key c accounts (refound account_row_key b c accounts c_is))
 
 pub passed_in : (t : Transfer) (time : ℕ) (undo_log grown : Noted) (accounts later : List AccountRow) (d c d' c' : AccountRow) (r : Result ℕ CreateTransferResult) → t.debit_account_id ≢ t.credit_account_id
-    → account_row_at accounts t.debit_account_id ≡ Some d → account_row_at accounts t.credit_account_id ≡ Some c → Exchanges t time undo_log d c r d' c' grown → later ≡ replaced account_row_key c' (replaced account_row_key d' accounts)
+    → account_row_at accounts t.debit_account_id ≡ Some d → account_row_at accounts t.credit_account_id ≡ Some c → ExchangesRows t time undo_log d c r d' c' grown → later ≡ replaced account_row_key c' (replaced account_row_key d' accounts)
     → ExchangesIn t time undo_log accounts r later grown
 passed_in t time undo_log grown accounts later d c d' c' (Ok amount) apart d_is c_is passes wrote =
     let recorded = as_recorded t amount time in (

@@ -1,8 +1,8 @@
 -- What is read from the rows is read from the books.
-use Rattle.tb_ledger.proofs.Common.{◌≡◌, ℕ, ◌==◌, Bool, List, find, Option, Some, None, option_map, refl, sym, ap, ◌∙◌, Account, find-map, each-find, AccountRow, TransferRow, Timeout, Books, account_now, as_it_stands, transfer_at, books_of, row_now, HasSums, IsLedger}
+use Rattle.tb_ledger.proofs.Common.{◌≡◌, ℕ, ◌==◌, Bool, List, find, Option, Some, None, option_map, refl, sym, ap, ◌∙◌, Account, find-map, each-find, AccountRow, TransferRow, Timeout, Books, account_now, as_it_stands, transfer_at, books_of, row_now, HasSums, AreLedgerRows}
 use Rattle.tb_ledger.proofs.CurrentRows.{row_stands}
 
-module _ (accounts : List AccountRow) (transfers : List TransferRow) (failed : List ℕ) (keeps_failed : Bool) (timeouts : List Timeout) (time : ℕ) (kept : IsLedger accounts transfers failed keeps_failed timeouts time) where
+module _ (accounts : List AccountRow) (transfers : List TransferRow) (failed : List ℕ) (keeps_failed : Bool) (timeouts : List Timeout) (time : ℕ) (kept : AreLedgerRows accounts transfers failed keeps_failed timeouts time) where
   -- the account of a row, as it is now
   pub account_read : (books : Books) (id : ℕ) (row : AccountRow) (result : Account) → books_of accounts transfers failed keeps_failed time ≡ books → Some row ≡ find (λ a. a.created.id == id) accounts → result ≡ row_now row → Some result ≡ account_now books id
   account_read books id row result books_is found is =

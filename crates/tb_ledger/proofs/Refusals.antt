@@ -1,5 +1,5 @@
 -- A refusal that a function passes on.
-use Rattle.tb_ledger.proofs.Common.{◌≡◌, ◌≢◌, ℕ, Result, Ok, Err, IfErr, sym, subst, IsErrAnd, AccountRow, Work, Books, IsKept, Noted, Decides, Stored}
+use Rattle.tb_ledger.proofs.Common.{◌≡◌, ◌≢◌, ℕ, Result, Ok, Err, IfErr, sym, subst, IsErrAnd, AccountRow, Work, Books, AreRowsKept, Noted, Decides, Stored}
 use Rattle.tb_ledger.proofs.Capacities.{leaves_still}
 
 pub err_handed_on : {X R : Type 0} (P : R → Type 0) (r : Result X R) (refusal : R) → IsErrAnd r (λ y. y ≡ refusal) → P refusal → IfErr r P
@@ -7,7 +7,7 @@ err_handed_on P (Ok x) refusal is holds = tt
 err_handed_on P (Err y) refusal is holds = subst P (sym is) holds
 
 -- an event is refused, and nothing is changed
-pub decides_none : {R A : Type 0} (code_of : R → ℕ) (code : ℕ) (books : Books) (work later : Work A) (r : Result (Unit {0}) R) (refusal : R) → IsKept work.rows → IsErrAnd r (λ y. y ≡ refusal)
+pub decides_none : {R A : Type 0} (code_of : R → ℕ) (code : ℕ) (books : Books) (work later : Work A) (r : Result (Unit {0}) R) (refusal : R) → AreRowsKept work.rows → IsErrAnd r (λ y. y ≡ refusal)
     → (code ≡ code_of refusal) × (code_of refusal ≢ 0) → later ≡ work → Decides code_of code books work r later
 decides_none code_of code books work later (Ok x) refusal kept is judged same = absurd is
 decides_none code_of code books work later (Err y) refusal kept is judged same = record {

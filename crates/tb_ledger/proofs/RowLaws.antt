@@ -1,15 +1,15 @@
 -- Rows that are put back as they were, and their order.
-use Rattle.tb_ledger.proofs.Common.{◌≡◌, ℕ, ◌==◌, Bool, true, if◌then◌else◌, List, [], find, Some, None, refl, sym, subst, ap, ◌∙◌, arith, put, Rising, rising-put, AccountRow, TransferRow, Timeout, Rows, capacity_of, Uses, books_in, books_of, IsKept, IsLedger, Noted, chained, unwound, IsUndoneTo, LeadsBack}
+use Rattle.tb_ledger.proofs.Common.{◌≡◌, ℕ, ◌==◌, Bool, true, if◌then◌else◌, List, [], find, Some, None, refl, sym, subst, ap, ◌∙◌, arith, put, Rising, rising-put, AccountRow, TransferRow, Timeout, Rows, capacity_of, Uses, books_in, books_of, AreRowsKept, AreLedgerRows, Noted, chained, unwound, IsUndoneTo, LeadsBack}
 use Rattle.tb_ledger.proofs.SoundLaws.{sound_failed}
 
 -- rows that are as others were, but for spare rows that n events may have used
 pub record AreBack {A : Type 0} (n : ℕ) (start later : Rows A) : Type 0 where
-  pub kept : IsKept later
+  pub kept : AreRowsKept later
   pub books : books_in later ≡ books_in start
   pub uses : Uses n (capacity_of start) (capacity_of later)
 
 -- so are those after the changes of a log that leads back
-pub rows_back : {A : Type 0} (n : ℕ) (start rows later : Rows A) (log : Noted) → IsKept start → LeadsBack (chained start) (chained rows) [] log.changes → rows.failed ≡ start.failed → rows.time ≡ start.time → Uses n (capacity_of start) (capacity_of rows)
+pub rows_back : {A : Type 0} (n : ℕ) (start rows later : Rows A) (log : Noted) → AreRowsKept start → LeadsBack (chained start) (chained rows) [] log.changes → rows.failed ≡ start.failed → rows.time ≡ start.time → Uses n (capacity_of start) (capacity_of rows)
     → IsUndoneTo (unwound log.changes (chained rows)) rows later → AreBack n start later
 rows_back n start rows later log kept back failed time uses undone =
     let same = undone.undone ∙ back.undone in
@@ -32,8 +32,8 @@ rows_back n start rows later log kept back failed time uses undone =
     }
 
 -- with one failed id more
-pub ledger_with_failed : (accounts : List AccountRow) (transfers : List TransferRow) (failed : List ℕ) (keeps : Bool) (timeouts : List Timeout) (time id : ℕ) → IsLedger accounts transfers failed keeps timeouts time
-    → keeps ≡ true → find (λ k. k == id) failed ≡ None → IsLedger accounts transfers (put (λ k. k) id failed) keeps timeouts time
+pub ledger_with_failed : (accounts : List AccountRow) (transfers : List TransferRow) (failed : List ℕ) (keeps : Bool) (timeouts : List Timeout) (time id : ℕ) → AreLedgerRows accounts transfers failed keeps timeouts time
+    → keeps ≡ true → find (λ k. k == id) failed ≡ None → AreLedgerRows accounts transfers (put (λ k. k) id failed) keeps timeouts time
 ledger_with_failed accounts transfers failed keeps timeouts time id ledger kept absent =
     let B = books_of accounts transfers failed keeps time in
     let was : Rising (λ k. k) failed = ledger.rising.failed failed (ap (λ b. if b then Some failed else None) kept) in

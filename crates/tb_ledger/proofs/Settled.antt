@@ -1,5 +1,5 @@
 -- What the code of an accepted event makes of the rows.
-use Rattle.tb_ledger.proofs.Common.{◌≡◌, ◌≢◌, ℕ, ◌+◌, ◌<◌, ◌≤◌, Bool, true, false, eqb, ◌==◌, List, [], ◌∷◌, map, find, IsSome, if◌then◌else◌, Option, Some, None, option_map, refl, sym, ap, subst, ◌∙◌, arith, nat_tests, Account, Transfer, put, replaced, changed, Each, Rising, found_key, changed_found, find-changed, find-map, each-back, each-map, each-put, each-find, map-put, map-changed, map-replaced, rising-put, AccountRow, TransferRow, Timeout, Posted, Voided, Books, posts, resolves, holds, is_open, account_at, transfer_at, closing_debit, closing_credit, debit, credit, account_key, transfer_key, ledger_at, IdsRise, Sound, account_row_key, transfer_row_key, books_in, books_of, IsKept, row_holds, times_out, listed, unlisted, IsListed, IsIndex, HasSide, HasSums, HasState, IsLedger, on_debits, on_credits, gained, released_and_gained, settled, state_given_by, accounts_gained, accounts_released_and_gained, new_row, new_transfer_row, Rows, Side, account_row_at, CanSettle, IsResolution, Stored}
+use Rattle.tb_ledger.proofs.Common.{◌≡◌, ◌≢◌, ℕ, ◌+◌, ◌<◌, ◌≤◌, Bool, true, false, eqb, ◌==◌, List, [], ◌∷◌, map, find, IsSome, if◌then◌else◌, Option, Some, None, option_map, refl, sym, ap, subst, ◌∙◌, arith, nat_tests, Account, Transfer, put, replaced, changed, Each, Rising, found_key, changed_found, find-changed, find-map, each-back, each-map, each-put, each-find, map-put, map-changed, map-replaced, rising-put, AccountRow, TransferRow, Timeout, Posted, Voided, Books, posts, resolves, holds, is_open, account_at, transfer_at, closing_debit, closing_credit, debit, credit, account_key, transfer_key, ledger_at, IdsRise, Sound, account_row_key, transfer_row_key, books_in, books_of, AreRowsKept, row_holds, times_out, listed, unlisted, IsListed, IsIndex, HasSide, HasSums, HasState, AreLedgerRows, on_debits, on_credits, gained, released_and_gained, settled, state_given_by, accounts_gained, accounts_released_and_gained, new_row, new_transfer_row, Rows, Side, account_row_at, CanSettle, IsResolution, Stored}
 use Rattle.tb_ledger.proofs.RowSums.{held_enough, no_sums}
 use Rattle.tb_ledger.proofs.Index.{index_added, index_closed}
 use Rattle.tb_ledger.proofs.Pairs.{sums_gained, sums_resolved}
@@ -60,7 +60,7 @@ no_row key g id xs none = none_mapped g (find (λ x. key (g x) == id) xs) (sym (
 unnamed : (side : Transfer → ℕ) (B : Books) (id : ℕ) → account_at B id ≡ None → (t : Transfer) → ledger_at B.accounts (side t) ≡ Some t.ledger → side t ≢ id
 unnamed side B id none t there same = let gone = subst (λ k. ledger_at B.accounts k ≡ Some t.ledger) same there in let nothing = ap (option_map (λ a. a.ledger)) none in cc
 
-module _ {A : Type 0} (rows : Rows A) (ledger : IsKept rows) where
+module _ {A : Type 0} (rows : Rows A) (ledger : AreRowsKept rows) where
   abbrev B : Books
   B = books_in rows
 
@@ -72,7 +72,7 @@ module _ {A : Type 0} (rows : Rows A) (ledger : IsKept rows) where
     pub books_with_account : books_of later rows.transfers.items rows.failed.items rows.keeps_failed rows.time ≡ record B { accounts = put account_key a B.accounts }
     books_with_account = rw (is, map-put account_key (λ a. a.created) (new_row a) rows.accounts.items) refl
 
-    pub ledger_with_account : account_at B a.id ≡ None → Sound (record B { accounts = put account_key a B.accounts }) → IsLedger later rows.transfers.items rows.failed.items rows.keeps_failed rows.timeouts.items rows.time
+    pub ledger_with_account : account_at B a.id ≡ None → Sound (record B { accounts = put account_key a B.accounts }) → AreLedgerRows later rows.transfers.items rows.failed.items rows.keeps_failed rows.timeouts.items rows.time
     ledger_with_account fresh sound = record {
       kept = record { sums = subst (Each (HasSums rows.transfers.items)) (sym is) (each-put account_row_key (HasSums rows.transfers.items) (new_row a) rows.accounts.items (new_sums a fresh) ledger.kept.sums); states = ledger.kept.states };
       index = ledger.index;
@@ -92,7 +92,7 @@ module _ {A : Type 0} (rows : Rows A) (ledger : IsKept rows) where
     pub books_with_single : books_of later more rows.failed.items rows.keeps_failed rows.time ≡ record B { transfers = put transfer_key t B.transfers }
     books_with_single = rw (is, added, map-put transfer_key (λ t. t.recorded) (new_transfer_row t) rows.transfers.items, map-changed account_row_key (λ a. a.created) t.credit_account_id (on_credits (gained closing_credit t)) (changed account_row_key t.debit_account_id (on_debits (gained closing_debit t)) rows.accounts.items) (λ y. refl), map-changed account_row_key (λ a. a.created) t.debit_account_id (on_debits (gained closing_debit t)) rows.accounts.items (λ y. refl)) refl
 
-    pub ledger_with_single : (after : List Timeout) → transfer_at B t.id ≡ None → resolves t ≡ false → rows.time < t.timestamp + 1000000000 → FoundPair B t → IsIndex more after → IsLedger later more rows.failed.items rows.keeps_failed after rows.time
+    pub ledger_with_single : (after : List Timeout) → transfer_at B t.id ≡ None → resolves t ≡ false → rows.time < t.timestamp + 1000000000 → FoundPair B t → IsIndex more after → AreLedgerRows later more rows.failed.items rows.keeps_failed after rows.time
     ledger_with_single after fresh single stamped moves_t index = record {
       kept = rw (is, added) (record {
         sums = sums_gained rows.accounts.items rows.transfers.items t rising_accounts (takes_debit rows.accounts.items rows.transfers.items rows.failed.items rows.keeps_failed rows.time ledger.kept.states t moves_t ledger.kept.sums) (takes_credit rows.accounts.items rows.transfers.items rows.failed.items rows.keeps_failed rows.time ledger.kept.states t moves_t ledger.kept.sums) ledger.kept.sums;
@@ -183,7 +183,7 @@ module _ {A : Type 0} (rows : Rows A) (ledger : IsKept rows) where
       pub books_with_resolver : books_of later more rows.failed.items rows.keeps_failed rows.time ≡ record B { transfers = put transfer_key r B.transfers }
       books_with_resolver = rw (is, added, map-put transfer_key (λ t. t.recorded) (new_transfer_row r) left, map-replaced transfer_row_key (λ t. t.recorded) (settled (state_given_by r) p) p rows.transfers.items by_key refl, map-changed account_row_key (λ a. a.created) r.credit_account_id (on_credits (released_and_gained closing_credit p.recorded r)) (changed account_row_key r.debit_account_id (on_debits (released_and_gained closing_debit p.recorded r)) rows.accounts.items) (λ y. refl), map-changed account_row_key (λ a. a.created) r.debit_account_id (on_debits (released_and_gained closing_debit p.recorded r)) rows.accounts.items (λ y. refl)) refl
 
-      pub ledger_with_resolver : (after : List Timeout) → IsIndex more after → IsLedger later more rows.failed.items rows.keeps_failed after rows.time
+      pub ledger_with_resolver : (after : List Timeout) → IsIndex more after → AreLedgerRows later more rows.failed.items rows.keeps_failed after rows.time
       ledger_with_resolver after index = record {
         kept = rw (is, added) (record {
           sums = sums_resolved rows.accounts.items rows.transfers.items p r (state_given_by r) rising_accounts by_key it_holds over it.pending.not_pending same_debit same_credit at_most ledger.kept.sums;

@@ -1,5 +1,5 @@
 -- One side of the accounts: what each step of a ledger leaves of its sums.
-use Rattle.tb_ledger.proofs.Common.{◌≡◌, ℕ, ◌+◌, ◌≤◌, Bool, true, false, not, ◌&&◌, if◌then◌else◌, eqb, leb, ◌==◌, List, find, sum_by, Option, Some, None, option_map, refl, sym, ap, subst, ◌∙◌, arith, nat_tests, and_parts, and_from, sum_by-le-sum_by, Account, Transfer, put, Each, sum_by-put, find-put_other, find-put_none, found_key, each-put, each-map, each-find, Posted, Voided, Books, pending, posts, voids, resolves, resolver, expires_at, is_due, state_by, state_of, is_open, holds, moves, account_at, transfer_at, pending_on, posted_on, int_max, account_key, transfer_key, ledger_at, SideKept}
+use Rattle.tb_ledger.proofs.Common.{◌≡◌, ℕ, ◌+◌, ◌≤◌, Bool, true, false, not, ◌&&◌, if◌then◌else◌, eqb, leb, ◌==◌, List, find, sum_by, Option, Some, None, option_map, refl, sym, ap, subst, ◌∙◌, arith, nat_tests, and_parts, and_from, sum_by-le-sum_by, Account, Transfer, put, Each, sum_by-put, find-put_other, find-put_none, found_key, each-put, each-map, each-find, Posted, Voided, Books, pending, posts, voids, resolves, resolver, expires_at, is_due, state_by, state_of, is_open, holds, moves, account_at, transfer_at, pending_on, posted_on, account_key, transfer_key, ledger_at, SideKept, AMOUNT_MAX}
 use Rattle.tb_ledger.proofs.Sums.{sum_by-less, sum_by-none}
 
 -- open is: no resolver, and not due
@@ -167,7 +167,7 @@ module _ (side other : Transfer → ℕ) (limited : Account → Bool) where
 
     -- both sums where it fits
     pub kept_added : ledger_at B.accounts (side r) ≡ Some r.ledger
-        → pending_on side B (side r) + posted_on side B (side r) + r.amount ≤ int_max
+        → pending_on side B (side r) + posted_on side B (side r) + r.amount ≤ AMOUNT_MAX
         → ((a : Account) → account_at B (side r) ≡ Some a → limited a ≡ true → pending_on side B (side r) + posted_on side B (side r) + r.amount ≤ posted_on other B (side r))
         → SideKept side other limited B → SideKept side other limited with_it
     kept_added is_named room limit kept = record {
@@ -176,11 +176,11 @@ module _ (side other : Transfer → ℕ) (limited : Account → Bool) where
       within = λ id a is limits. holds_within id a is limits (eqb (side r) id) refl;
     }
       where
-        fits : (id : ℕ) → (b : Bool) → eqb (side r) id ≡ b → pending_on side with_it id + posted_on side with_it id ≤ int_max
+        fits : (id : ℕ) → (b : Bool) → eqb (side r) id ≡ b → pending_on side with_it id + posted_on side with_it id ≤ AMOUNT_MAX
         fits id true e =
             let same : side r ≡ id = grind (arith, nat_tests) in
             let one : (if side r == id then r.amount else 0) ≡ r.amount = rw e refl in
-            let here : pending_on side B id + posted_on side B id + r.amount ≤ int_max = subst (λ k. pending_on side B k + posted_on side B k + r.amount ≤ int_max) same room in
+            let here : pending_on side B id + posted_on side B id + r.amount ≤ AMOUNT_MAX = subst (λ k. pending_on side B k + posted_on side B k + r.amount ≤ AMOUNT_MAX) same room in
             omega (arith, both_more id, one, here)
         fits id false e =
             let none : (if side r == id then r.amount else 0) ≡ 0 = rw e refl in

@@ -1,5 +1,5 @@
 -- A transfer between two accounts that passes: what its record finds.
-use Rattle.tb_ledger.proofs.Common.{◌≡◌, ℕ, ◌<◌, ◌≤◌, ◌==◌, true, false, List, find, None, option_map, ap, ◌∙◌, Transfer, AccountRow, Rows, account_now, resolves, transfer_at, as_recorded, account_row_at, PassesIn, books_in, row_now, times_out, new_transfer_row, CanList, IsKept, Noted, transfer_key, first_of, id_code, pair_code, two_party_own_tests, transfer_verdict, recorded_transfer, balanced_between, int_max}
+use Rattle.tb_ledger.proofs.Common.{◌≡◌, ℕ, ◌<◌, ◌≤◌, ◌==◌, true, false, List, find, None, option_map, ap, ◌∙◌, Transfer, AccountRow, Rows, account_now, resolves, transfer_at, as_recorded, account_row_at, PassesIn, books_in, row_now, times_out, new_transfer_row, CanList, AreRowsKept, Noted, transfer_key, first_of, id_code, pair_code, two_party_own_tests, transfer_verdict, recorded_transfer, balanced_between, AMOUNT_MAX}
 use Rattle.tb_ledger.proofs.Accepted.{new_transfer}
 use Rattle.tb_ledger.proofs.FoundPairs.{FoundPair}
 use Rattle.tb_ledger.proofs.Index.{not_listed_yet}
@@ -14,7 +14,7 @@ pub record FindsPair {A : Type 0} (rows : Rows A) (t : Transfer) (time amount : 
   pub fresh : find (λ row. row.recorded.id == t.id) rows.transfers.items ≡ None
   pub can_list : times_out (new_transfer_row (as_recorded t amount time)) ≡ true → CanList (new_transfer_row (as_recorded t amount time)) rows.timeouts
 
-pub finds_pair : {A : Type 0} (rows : Rows A) (t : Transfer) (time amount : ℕ) (undo_log grown : Noted) (later : List AccountRow) → IsKept rows → 0 < rows.timeouts.spare → t.id ≤ int_max
+pub finds_pair : {A : Type 0} (rows : Rows A) (t : Transfer) (time amount : ℕ) (undo_log grown : Noted) (later : List AccountRow) → AreRowsKept rows → 0 < rows.timeouts.spare → t.id ≤ AMOUNT_MAX
     → id_code (books_in rows) t ≡ 0 → resolves t ≡ false → first_of (two_party_own_tests t) ≡ 0
     → pair_code (option_map row_now (account_row_at rows.accounts.items t.debit_account_id)) (option_map row_now (account_row_at rows.accounts.items t.credit_account_id)) t time ≡ 0 → PassesIn t time undo_log rows.accounts.items amount later grown → FindsPair rows t time amount
 finds_pair rows t time amount undo_log grown later kept spare fits free single own judged passes =

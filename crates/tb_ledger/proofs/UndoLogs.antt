@@ -1,5 +1,5 @@
 -- The last change of a log is undone first.
-use Rattle.tb_ledger.proofs.Common.{◌≡◌, ◌+◌, ◌≤◌, Bool, true, false, ℕ, List, length, length-append, [], ◌∷◌, ◌++◌, sym, subst, ap, ◌∙◌, refl, if◌then◌else◌, arith, Undo, Chained, undone_by, unwound, CanUndo, CanUnwind, LeadsBack, Grows, Noted, with_noted}
+use Rattle.tb_ledger.proofs.Common.{◌≡◌, ◌+◌, ◌≤◌, Bool, true, false, ℕ, List, length, length-append, [], ◌∷◌, ◌++◌, sym, subst, ap, ◌∙◌, refl, if◌then◌else◌, arith, Undo, Chained, undone_by, unwound, CanUndo, CanUnwind, LeadsBack, GrowsUndoLog, Noted, with_noted}
 
 unwound_push : (us : List Undo) (u : Undo) (x : Chained) → unwound (us ++ u ∷ []) x ≡ unwound us (undone_by u x)
 unwound_push [] u x = refl
@@ -31,10 +31,10 @@ pub leads_both : (x y z : Chained) (us vs ws : List Undo) → LeadsBack x y us v
 leads_both x y z us vs ws first second = record { undone = second.undone ∙ first.undone; can_unwind = λ can. second.can_unwind (first.can_unwind can) }
 
 -- one change more is noted, or none is
-pub grown_by : {back : List Undo → List Undo → Type 0} (u : Undo) (undo_log grown : Noted) → grown ≡ with_noted u undo_log → (grown.changes ≡ undo_log.changes ++ u ∷ [] → back undo_log.changes grown.changes) → Grows 1 back undo_log grown
+pub grown_by : {back : List Undo → List Undo → Type 0} (u : Undo) (undo_log grown : Noted) → grown ≡ with_noted u undo_log → (grown.changes ≡ undo_log.changes ++ u ∷ [] → back undo_log.changes grown.changes) → GrowsUndoLog 1 back undo_log grown
 grown_by {back = back} u undo_log grown is leads = by undo_log.noting refl is
   where
-    by : (b : Bool) → undo_log.noting ≡ b → grown ≡ (if b then record undo_log { changes = undo_log.changes ++ u ∷ [] } else undo_log) → Grows 1 back undo_log grown
+    by : (b : Bool) → undo_log.noting ≡ b → grown ≡ (if b then record undo_log { changes = undo_log.changes ++ u ∷ [] } else undo_log) → GrowsUndoLog 1 back undo_log grown
     by true noting more = record {
       leads = λ _. leads (ap (λ t. t.changes) more);
       noting = ap (λ t. t.noting) more;
@@ -49,7 +49,7 @@ grown_by {back = back} u undo_log grown is leads = by undo_log.noting refl is
     }
 
 -- one step after another
-pub grows_both : {P Q R : List Undo → List Undo → Type 0} (n m k : ℕ) (undo_log mid grown : Noted) → Grows n P undo_log mid → Grows m Q mid grown → n + m ≤ k → ((us vs ws : List Undo) → P us vs → Q vs ws → R us ws) → Grows k R undo_log grown
+pub grows_both : {P Q R : List Undo → List Undo → Type 0} (n m k : ℕ) (undo_log mid grown : Noted) → GrowsUndoLog n P undo_log mid → GrowsUndoLog m Q mid grown → n + m ≤ k → ((us vs ws : List Undo) → P us vs → Q vs ws → R us ws) → GrowsUndoLog k R undo_log grown
 grows_both n m k undo_log mid grown first second few joins = record {
   leads = λ is. joins undo_log.changes mid.changes grown.changes (first.leads is) (second.leads (first.noting ∙ is));
   noting = second.noting ∙ first.noting;

@@ -1,5 +1,5 @@
 -- The verdicts, by the rows that are found.
-use Rattle.tb_ledger.proofs.Common.{◌≡◌, ◌≢◌, ℕ, suc, zero, eqb, ◌==◌, ◌||◌, ◌&&◌, Bool, true, false, List, [], ◌∷◌, find, is_some, Option, Some, None, option_map, if◌then◌else◌, refl, sym, ap, ap₂, subst, ◌∙◌, arith, Bor, not, bit_or, nat_tests, list_any, option_map_or, option_copied, Account, Transfer, CreateAccountResult, CreateTransferResult, PendingTransferNotFound, account_result_code, transfer_result_code, Books, has, closed, posts, resolves, pending, transfer_at, account_now, as_it_stands, state_of, recorded_transfer, Test, closed_tests, closed_at, named_tests, named_code, resolve_own_tests, resolve_code, transfer_verdict, first_of, first_code, account_own_tests, account_exists_tests, account_new_tests, account_verdict, transfer_own_tests, transfer_exists_tests, failed_tests, filled, filled_from, two_party_own_tests, balanced_amount, balanced_between, single_code, pair_code, id_code, Rows, books_in, IsKept, row_now, row_closed, HasSums, HasState, find-map, each-find, AccountRow, and_or_self, State, TransferRow, FoundPending, account_row_at, closed_code}
+use Rattle.tb_ledger.proofs.Common.{◌≡◌, ◌≢◌, ℕ, suc, zero, eqb, ◌==◌, ◌||◌, ◌&&◌, Bool, true, false, List, [], ◌∷◌, find, is_some, Option, Some, None, option_map, if◌then◌else◌, refl, sym, ap, ap₂, subst, ◌∙◌, arith, Bor, not, bit_or, nat_tests, list_any, option_map_or, option_copied, Account, Transfer, CreateAccountResult, CreateTransferResult, PendingTransferNotFound, account_result_code, transfer_result_code, Books, closed, posts, resolves, pending, transfer_at, account_now, as_it_stands, state_of, recorded_transfer, Test, closed_tests, closed_at, named_tests, named_code, resolve_own_tests, resolve_code, transfer_verdict, first_of, first_code, account_own_tests, account_exists_tests, account_new_tests, account_verdict, transfer_own_tests, transfer_exists_tests, failed_tests, filled, filled_from, two_party_own_tests, balanced_amount, balanced_between, single_code, pair_code, id_code, Rows, books_in, AreRowsKept, row_now, row_closed, HasSums, HasState, find-map, each-find, AccountRow, and_or_self, State, TransferRow, FoundPending, account_row_at, closed_code, has_flag}
 use Rattle.tb_ledger.proofs.SoundLaws.{filled_keeps}
 use Rattle.tb_ledger.proofs.CurrentRows.{row_stands}
 use Rattle.tb_ledger.proofs.Accepted.{fail, found_from, found_pair, found_pending, found_stamped}
@@ -58,7 +58,7 @@ balanced_found B t d c d_is c_is = rw (d_is, c_is) refl
 pub transfer_stands : {A : Type 0} (rows : Rows A) (id : ℕ) → transfer_at (books_in rows) id ≡ option_map (λ t. t.recorded) (find (λ t. t.recorded.id == id) rows.transfers.items)
 transfer_stands rows id = find-map (λ t. t.id == id) (λ t. t.recorded) rows.transfers.items
 
-pub account_stands : {A : Type 0} (rows : Rows A) → IsKept rows → (id : ℕ) → account_now (books_in rows) id ≡ option_map row_now (find (λ a. a.created.id == id) rows.accounts.items)
+pub account_stands : {A : Type 0} (rows : Rows A) → AreRowsKept rows → (id : ℕ) → account_now (books_in rows) id ≡ option_map row_now (find (λ a. a.created.id == id) rows.accounts.items)
 account_stands rows kept id = by (find (λ a. a.created.id == id) rows.accounts.items) refl
   where
     by : (o : Option AccountRow) → find (λ a. a.created.id == id) rows.accounts.items ≡ o → account_now (books_in rows) id ≡ option_map row_now o
@@ -73,11 +73,11 @@ flag_stands a = by (row_closed a) refl
     created true y z e = absurd (cc)
     created false y z e = refl
 
-    by : (b : Bool) → row_closed a ≡ b → has 32 (if b then bit_or a.created.flags 32 else a.created.flags) ≡ b
+    by : (b : Bool) → row_closed a ≡ b → has_flag 32 (if b then bit_or a.created.flags 32 else a.created.flags) ≡ b
     by true e = ap (λ n. not (n == 0)) (and_or_self 32 a.created.flags)
     by false e = created (closed a.created) a.debits.held_closed a.credits.held_closed e
 
-closed_stands_at : {A : Type 0} (rows : Rows A) → IsKept rows → (id : ℕ) → closed_at (books_in rows) id ≡ option_map_or row_closed (find (λ a. a.created.id == id) rows.accounts.items) false
+closed_stands_at : {A : Type 0} (rows : Rows A) → AreRowsKept rows → (id : ℕ) → closed_at (books_in rows) id ≡ option_map_or row_closed (find (λ a. a.created.id == id) rows.accounts.items) false
 closed_stands_at rows kept id = ap (λ o. option_map_or closed o false) (account_stands rows kept id) ∙ by (find (λ a. a.created.id == id) rows.accounts.items)
   where
     by : (o : Option AccountRow) → option_map_or closed (option_map row_now o) false ≡ option_map_or row_closed o false
@@ -85,7 +85,7 @@ closed_stands_at rows kept id = ap (λ o. option_map_or closed o false) (account
     by (Some a) = flag_stands a
 
 -- whether both accounts of a pending transfer are closed, by their rows
-pub closed_by_rows : {A : Type 0} (rows : Rows A) → IsKept rows → (t p : Transfer) (d c : AccountRow) → find (λ a. a.created.id == p.debit_account_id) rows.accounts.items ≡ Some d → find (λ a. a.created.id == p.credit_account_id) rows.accounts.items ≡ Some c
+pub closed_by_rows : {A : Type 0} (rows : Rows A) → AreRowsKept rows → (t p : Transfer) (d c : AccountRow) → find (λ a. a.created.id == p.debit_account_id) rows.accounts.items ≡ Some d → find (λ a. a.created.id == p.credit_account_id) rows.accounts.items ≡ Some c
     → (code : ℕ) → code ≡ first_of (closed_tests t (row_closed d) (row_closed c)) → code ≡ first_of (closed_tests t (closed_at (books_in rows) p.debit_account_id) (closed_at (books_in rows) p.credit_account_id))
 closed_by_rows rows kept t p d c d_is c_is code is =
     let debit = closed_stands_at rows kept p.debit_account_id ∙ ap (λ o. option_map_or row_closed o false) d_is in
@@ -102,7 +102,7 @@ named_same : (t p : Transfer) (s s' : State) → (pending p ≡ true → s ≡ s
 named_same t p s s' same = elim (pending p) as (λ b. (b ≡ true → s ≡ s') → (if not b then 26 else first_of (later (named_tests t p s))) ≡ (if not b then 26 else first_of (later (named_tests t p s')))) [ true ↦ λ same. ap (λ s. first_of (later (named_tests t p s))) (same refl) | false ↦ λ same. refl ] same
 
 -- a post or void and the row that it names
-pub named_row : {A : Type 0} (rows : Rows A) → IsKept rows → (id : ℕ) (p : TransferRow) → find (λ row. row.recorded.id == id) rows.transfers.items ≡ Some p → (t : Transfer) (named closed_code : ℕ)
+pub named_row : {A : Type 0} (rows : Rows A) → AreRowsKept rows → (id : ℕ) (p : TransferRow) → find (λ row. row.recorded.id == id) rows.transfers.items ≡ Some p → (t : Transfer) (named closed_code : ℕ)
     → named ≡ first_of (named_tests t p.recorded p.state) → closed_code ≡ first_of (closed_tests t (closed_at (books_in rows) p.recorded.debit_account_id) (closed_at (books_in rows) p.recorded.credit_account_id))
     → named_code (books_in rows) t (Some p.recorded) ≡ first_code (named ∷ closed_code ∷ [])
 named_row rows kept id p found t named closed_code named_is closed_is =
@@ -112,7 +112,7 @@ named_row rows kept id p found t named closed_code named_is closed_is =
     ap (λ n. first_code (n ∷ first_of (closed_tests t (closed_at B p.recorded.debit_account_id) (closed_at B p.recorded.credit_account_id)) ∷ [])) (sym same) ∙ ap (λ n. first_code (named ∷ n ∷ [])) (sym closed_is)
 
 -- a post or void that fits its pending transfer has found it
-pub pending_fits : {A : Type 0} (rows : Rows A) → IsKept rows → (p : TransferRow) (t : Transfer) → find (λ row. row.recorded.id == t.pending_id) rows.transfers.items ≡ Some p → resolves t ≡ true
+pub pending_fits : {A : Type 0} (rows : Rows A) → AreRowsKept rows → (p : TransferRow) (t : Transfer) → find (λ row. row.recorded.id == t.pending_id) rows.transfers.items ≡ Some p → resolves t ≡ true
     → first_of (resolve_own_tests t) ≡ 0 → first_of (named_tests t p.recorded p.state) ≡ 0 → FoundPending (books_in rows) (filled_from p.recorded t)
 pending_fits rows kept p t found resolving own named =
     let B = books_in rows in
@@ -172,7 +172,7 @@ pair_left : (B : Books) (t : Transfer) (time : ℕ) → first_of (two_party_own_
 pair_left B t time own = rw own (only (pair_code (account_now B t.debit_account_id) (account_now B t.credit_account_id) t time))
 
 -- its verdict, by the rows of its accounts
-pub verdict_by_rows : {A : Type 0} (rows : Rows A) → IsKept rows → (t : Transfer) (time : ℕ) → id_code (books_in rows) t ≡ 0 → resolves t ≡ false → first_of (two_party_own_tests t) ≡ 0
+pub verdict_by_rows : {A : Type 0} (rows : Rows A) → AreRowsKept rows → (t : Transfer) (time : ℕ) → id_code (books_in rows) t ≡ 0 → resolves t ≡ false → first_of (two_party_own_tests t) ≡ 0
     → transfer_verdict (books_in rows) t time ≡ pair_code (option_map row_now (account_row_at rows.accounts.items t.debit_account_id)) (option_map row_now (account_row_at rows.accounts.items t.credit_account_id)) t time
 verdict_by_rows rows kept t time free single own =
     let B = books_in rows in

@@ -18,7 +18,7 @@ use Rattle.tb_records.specs.Ordered.{put}
 use Rattle.tb_ledger.specs.Books.{Books}
 use Rattle.tb_ledger.specs.Verdicts.{account_verdict, recorded_account, transfer_verdict, recorded_transfer}
 
--- what a kind of event brings: whether it is linked to the next, its verdict, its record, and what its refusal leaves
+-- a kind of event: is it linked to the next, its verdict, and the books after it is recorded or refused
 pub record Kind (E : Type 0) : Type 0 where
   pub linked : E → Bool
   pub verdict : Books → E → ℕ → ℕ
@@ -56,8 +56,7 @@ transfer_events = record {
   refused = λ B t code. if is_final code then record B { failed = option_map (put (λ id. id) t.id) B.failed } else B;
 }
 
--- what an event of a chain is answered where another of it failed, and where the batch ends within it: both tables of results
--- have these codes
+-- an event's code where another of its chain failed, and where the batch ends within its chain
 abbrev pub chain_failed : ℕ
 chain_failed = transfer_result_code LinkedEventFailed
 
@@ -68,7 +67,7 @@ chain_open = transfer_result_code LinkedEventChainOpen
 abbrev pub Timed : Type 0 → Type 0
 Timed E = E × ℕ
 
--- an event that isn't accepted: its place, its code, and what comes after it
+-- the first event of a chain that isn't accepted
 pub record Failure (E : Type 0) : Type 0 where
   pub place : ℕ
   pub event : E
@@ -106,7 +105,7 @@ module _ {E : Type 0} (kind : Kind E) where
   -- an event and what comes after it in its chain: linked with nothing after it, the chain is open
   abbrev pub code_in_chain : Books → Timed E → List (Timed E) → ℕ
   code_in_chain B x [] = if kind.linked x.0 then chain_open else kind.verdict B x.0 x.1
-  code_in_chain B x (y ∷ ys) = kind.verdict B x.0 x.1
+  code_in_chain B x _ = kind.verdict B x.0 x.1
 
   -- the first event that isn't accepted after those before it
   abbrev pub failure_from : ℕ → Books → List (Timed E) → Option (Failure E)
@@ -124,7 +123,7 @@ module _ {E : Type 0} (kind : Kind E) where
   -- the code of an event that another event's failure undoes, and of all that come after
   abbrev pub undone_code : Timed E → List (Timed E) → ℕ
   undone_code x [] = if kind.linked x.0 then chain_open else chain_failed
-  undone_code x (y ∷ ys) = chain_failed
+  undone_code x _ = chain_failed
 
   abbrev pub undone : List (Timed E) → List ℕ
   undone [] = []
@@ -152,12 +151,9 @@ module _ {E : Type 0} (kind : Kind E) where
   abbrev pub batch_after : Books → List E → ℕ → Outcome
   batch_after B events T = chains_after (record B { time = T }) (chains (timed T events))
 
--- the reply: a pair (index, code) for each event whose code isn't 0, by rising index
-abbrev pub results_from : ℕ → List ℕ → List EventResult
-results_from index codes = map (λ x. record { index = x.0; result = x.1 }) (filter (λ x. not (x.1 == 0)) (enumerate_from index codes))
-
+-- the reply: index and code of each event whose code isn't 0
 abbrev pub results : List ℕ → List EventResult
-results codes = results_from 0 codes
+results codes = map (λ x. record { index = x.0; result = x.1 }) (filter (λ x. not (x.1 == 0)) (enumerate_from 0 codes))
 
 -- rows
 

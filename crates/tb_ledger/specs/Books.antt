@@ -1,5 +1,5 @@
 -- The books of a ledger, and what is read from them. Records never change, and no number here is kept: each is added up afresh.
-use Rattle.std.specs.Prelude.{ℕ, Bool, true, false, not, ◌&&◌, ◌||◌, ◌==◌, ◌+◌, ◌*◌, nat_le, List, [], Option, Some, None, if◌then◌else◌, find, sum_by, bit_and, bit_or}
+use Rattle.std.specs.Prelude.{ℕ, Bool, true, false, not, ◌&&◌, ◌||◌, ◌==◌, ◌+◌, ◌*◌, nat_le, List, [], Option, Some, None, if◌then◌else◌, find, sum_by, bit_or}
 use Rattle.std.specs.List.{list_any, filter_map}
 use Rattle.std.specs.Option.{option_map}
 use Rattle.tb_records.specs.declared.records.Account.{Account}
@@ -39,17 +39,13 @@ moved_to_two B = record B { failed = Some [] }
 
 -- flags
 
--- one of the mask's bits is set
-abbrev pub has : ℕ → ℕ → Bool
-has mask flags = not (bit_and flags mask == 0)
-
 abbrev pub debits_limited : Account → Bool
 debits_limited a = account_has account.DebitsMustNotExceedCredits a
 
 abbrev pub credits_limited : Account → Bool
 credits_limited a = account_has account.CreditsMustNotExceedDebits a
 
--- an account as it is now has this flag exactly where it is closed
+-- of an account as it is now: it is closed
 abbrev pub closed : Account → Bool
 closed a = account_has account.Closed a
 
@@ -112,27 +108,19 @@ state_of B p = state_by (resolver B p) (is_due B.time p)
 
 abbrev pub is_open : State → Bool
 is_open Open = true
-is_open Posted = false
-is_open Voided = false
-is_open Expired = false
+is_open _ = false
 
 abbrev pub is_posted : State → Bool
 is_posted Posted = true
-is_posted Open = false
-is_posted Voided = false
-is_posted Expired = false
+is_posted _ = false
 
 abbrev pub is_voided : State → Bool
 is_voided Voided = true
-is_voided Open = false
-is_voided Posted = false
-is_voided Expired = false
+is_voided _ = false
 
 abbrev pub is_expired : State → Bool
 is_expired Expired = true
-is_expired Open = false
-is_expired Posted = false
-is_expired Voided = false
+is_expired _ = false
 
 -- a pending transfer that is neither resolved nor expired
 abbrev pub holds : Books → Transfer → Bool
@@ -142,37 +130,23 @@ holds B t = pending t && is_open (state_of B t)
 abbrev pub moves : Transfer → Bool
 moves t = not (pending t) && not (voids t)
 
--- the two sides of a transfer: the account that it debits, the account that it credits
-abbrev pub debit : Transfer → ℕ
-debit t = t.debit_account_id
-
-abbrev pub credit : Transfer → ℕ
-credit t = t.credit_account_id
-
--- what a transfer gives to a sum of the account id on a side: its amount, where it counts
-abbrev pub share : (Transfer → ℕ) → ℕ → Transfer → Bool → ℕ
-share side id t counts = if (side t == id) && counts then t.amount else 0
-
--- the two sums of the account id on a side: what pending transfers hold, and what was moved for good
-abbrev pub pending_on : (Transfer → ℕ) → Books → ℕ → ℕ
-pending_on side B id = sum_by (λ t. share side id t (holds B t)) B.transfers
-
-abbrev pub posted_on : (Transfer → ℕ) → Books → ℕ → ℕ
-posted_on side B id = sum_by (λ t. share side id t (moves t)) B.transfers
+-- the amounts of the transfers that count, of those with the account id on a side
+abbrev pub sum_on : (Transfer → ℕ) → (Transfer → Bool) → Books → ℕ → ℕ
+sum_on side counts B id = sum_by (λ t. if (side t == id) && counts t then t.amount else 0) B.transfers
 
 -- the four sums of an account
 
 abbrev pub debits_pending : Books → ℕ → ℕ
-debits_pending = pending_on debit
+debits_pending B = sum_on (λ t. t.debit_account_id) (holds B) B
 
 abbrev pub debits_posted : Books → ℕ → ℕ
-debits_posted = posted_on debit
+debits_posted B = sum_on (λ t. t.debit_account_id) moves B
 
 abbrev pub credits_pending : Books → ℕ → ℕ
-credits_pending = pending_on credit
+credits_pending B = sum_on (λ t. t.credit_account_id) (holds B) B
 
 abbrev pub credits_posted : Books → ℕ → ℕ
-credits_posted = posted_on credit
+credits_posted B = sum_on (λ t. t.credit_account_id) moves B
 
 -- created closed, or held closed by a closing transfer
 abbrev pub stands_closed : Books → Account → Bool

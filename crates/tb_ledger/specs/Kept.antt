@@ -1,6 +1,6 @@
 -- What the ledger keeps of the books, and that it is what the books say.
 use Rattle.std.specs.Prelude.{ℕ, Bool, true, false, not, ◌≡◌, ◌<◌, ◌≤◌, ◌+◌, ◌-◌, ◌&&◌, ◌||◌, ◌==◌, List, [], map, sum_by, if◌then◌else◌, find, IsSome, bit_or, Some, None}
-use Rattle.tb_records.specs.declared.limits.TheConstants.{NANOSECONDS_PER_SECOND}
+use Rattle.tb_records.specs.declared.limits.TheConstants.{NANOSECONDS_PER_SECOND, AMOUNT_MAX, LAST_MOMENT}
 use Rattle.tb_records.specs.declared.records.Account.{Account}
 use Rattle.tb_records.specs.declared.records.Transfer.{Transfer}
 use Rattle.tb_records.specs.Ordered.{Each, changed}
@@ -11,11 +11,11 @@ use Rattle.tb_ledger.specs.declared.tables.accounts.AccountRow.{AccountRow}
 use Rattle.tb_ledger.specs.declared.tables.transfers.TransferRow.{TransferRow}
 use Rattle.tb_ledger.specs.declared.tables.rows.Rows.{Rows}
 use Rattle.tb_ledger.specs.declared.tables.timeouts.Timeout.{Timeout}
-use Rattle.tb_ledger.specs.Books.{Books, closed, debit, credit, share, pending, posts, moves, resolves, is_open, is_due, state_of, expires_at, closing_debit, closing_credit}
-use Rattle.tb_ledger.specs.Verdicts.{int_max, max_time}
+use Rattle.tb_ledger.specs.Books.{Books, closed, pending, posts, moves, resolves, is_open, is_due, state_of, expires_at, closing_debit, closing_credit}
 use Rattle.tb_ledger.specs.private.Timeouts.{timeout_key, AreTimeouts, with_timeout, without_timeout}
 use Rattle.tb_ledger.specs.Sound.{IdsRise, Sound}
 use Rattle.tb_ledger.specs.Tables.{Stored}
+use Rattle.tb_ledger.specs.Sides.{debit, credit, share}
 
 abbrev pub account_row_key : AccountRow → ℕ
 account_row_key a = a.created.id
@@ -76,7 +76,7 @@ pub record HasSide (side : Transfer → ℕ) (closes : Transfer → Bool) (trans
   pub pending : s.pending ≡ sum_by (pending_share side id) transfers
   pub posted : s.posted ≡ sum_by (posted_share side id) transfers
   pub held_closed : bit s.held_closed ≡ sum_by (closing_share side closes id) transfers
-  pub fit : s.pending + s.posted ≤ int_max
+  pub fit : s.pending + s.posted ≤ AMOUNT_MAX
 
 -- the debit side by some rows, the credit side by others: between two changes of a pair
 pub record HasBoth (ds cs : List TransferRow) (a : AccountRow) : Type 0 where
@@ -104,7 +104,7 @@ timeout_of t = record { at = expires_at t.recorded; id = t.recorded.id }
 
 -- its timeout is among others
 pub record IsListed (timeouts : List Timeout) (t : TransferRow) : Type 0 where
-  pub in_range : expires_at t.recorded ≤ max_time
+  pub in_range : expires_at t.recorded ≤ LAST_MOMENT
   pub there : find (λ d. timeout_key d == timeout_key (timeout_of t)) timeouts ≡ Some (timeout_of t)
 
 -- d is the timeout of a transfer that times out
@@ -129,7 +129,7 @@ unlisted t ts = if times_out t then without_timeout (timeout_of t) ts else ts
 
 -- where t times out, there is capacity for its timeout, which isn't there
 pub record CanList (t : TransferRow) (ts : Stored Timeout) : Type 0 where
-  pub in_range : expires_at t.recorded ≤ max_time
+  pub in_range : expires_at t.recorded ≤ LAST_MOMENT
   pub capacity : 0 < ts.spare
   pub absent : find (λ d. timeout_key d == timeout_key (timeout_of t)) ts.items ≡ None
 
@@ -138,7 +138,7 @@ abbrev pub lapses : ℕ → TransferRow → Bool
 lapses T t = row_holds t && is_due T t.recorded
 
 -- what stays true of the ledger's rows
-pub record IsLedger (accounts : List AccountRow) (transfers : List TransferRow) (failed : List ℕ) (keeps_failed : Bool) (timeouts : List Timeout) (time : ℕ) : Type 0 where
+pub record AreLedgerRows (accounts : List AccountRow) (transfers : List TransferRow) (failed : List ℕ) (keeps_failed : Bool) (timeouts : List Timeout) (time : ℕ) : Type 0 where
   pub kept : AreKept accounts transfers time
   pub index : IsIndex transfers timeouts
   -- profile 1 keeps no failed ids
@@ -146,8 +146,8 @@ pub record IsLedger (accounts : List AccountRow) (transfers : List TransferRow) 
   pub sound : Sound (books_of accounts transfers failed keeps_failed time)
   pub rising : IdsRise (books_of accounts transfers failed keeps_failed time)
 
-abbrev pub IsKept : {A : Type 0} → Rows A → Type 0
-IsKept rows = IsLedger rows.accounts.items rows.transfers.items rows.failed.items rows.keeps_failed rows.timeouts.items rows.time
+abbrev pub AreRowsKept : {A : Type 0} → Rows A → Type 0
+AreRowsKept rows = AreLedgerRows rows.accounts.items rows.transfers.items rows.failed.items rows.keeps_failed rows.timeouts.items rows.time
 
 -- of a transfer with this stamp no timeout has passed yet, since the shortest one is a second
 abbrev pub PrecedesTimeouts : {A : Type 0} → Rows A → ℕ → Type 0
@@ -197,7 +197,7 @@ state_given_by r = if posts r then Posted else Voided
 
 -- a side can take t: the sums fit, and where t closes it, nothing holds it closed
 abbrev pub CanTake : (Transfer → Bool) → Transfer → Side → Type 0
-CanTake closes t s = (s.pending + s.posted + t.amount ≤ int_max) × ((pending t && closes t) ≡ true → s.held_closed ≡ false)
+CanTake closes t s = (s.pending + s.posted + t.amount ≤ AMOUNT_MAX) × ((pending t && closes t) ≡ true → s.held_closed ≡ false)
 
 -- an account without sums and without what is reserved, as each one is created
 abbrev pub blank : Account → Account

@@ -1,4 +1,5 @@
 pub mod Books
+pub mod Sides
 pub mod Verdicts
 pub mod Batches
 pub mod Sound

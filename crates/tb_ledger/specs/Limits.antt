@@ -2,13 +2,13 @@
 -- No contract of this crate cites it.
 use Rattle.std.specs.Prelude.{◌≡◌, ℕ, true, ◌==◌, ◌+◌, ◌≤◌, map, sum_by, if◌then◌else◌}
 use Rattle.tb_records.specs.declared.records.Account.{Account}
+use Rattle.tb_records.specs.declared.limits.TheConstants.{AMOUNT_MAX}
 use Rattle.tb_ledger.specs.Books.{Books, debits_limited, credits_limited, as_it_stands}
-use Rattle.tb_ledger.specs.Verdicts.{int_max}
 
 -- of an account as it is now: its sums fit, debits_must_not_exceed_credits and credits_must_not_exceed_debits hold
 pub record KeepsLimits (a : Account) : Type 0 where
-  pub debits_fit : a.debits_pending + a.debits_posted ≤ int_max
-  pub credits_fit : a.credits_pending + a.credits_posted ≤ int_max
+  pub debits_fit : a.debits_pending + a.debits_posted ≤ AMOUNT_MAX
+  pub credits_fit : a.credits_pending + a.credits_posted ≤ AMOUNT_MAX
   pub debits_within : debits_limited a ≡ true → a.debits_pending + a.debits_posted ≤ a.credits_posted
   pub credits_within : credits_limited a ≡ true → a.credits_pending + a.credits_posted ≤ a.debits_posted
 

@@ -2,9 +2,10 @@
 use Rattle.std.specs.Prelude.{◌≡◌, ◌≢◌, ◌↔◌, ℕ, ◌+◌, ◌<◌, true, ◌&&◌, ◌==◌, if◌then◌else◌, Some}
 use Rattle.tb_records.specs.declared.records.Transfer.{Transfer}
 use Rattle.tb_records.specs.Ordered.{put, Each}
-use Rattle.tb_ledger.specs.Books.{Books, pending, posts, resolves, holds, expires_at, transfer_at, debit, credit, pending_on, posted_on}
+use Rattle.tb_ledger.specs.Books.{Books, pending, posts, resolves, holds, expires_at, transfer_at}
 use Rattle.tb_ledger.specs.Verdicts.{transfer_verdict, recorded_transfer}
 use Rattle.tb_ledger.specs.Sound.{transfer_key, IdsRise}
+use Rattle.tb_ledger.specs.Sides.{debit, credit, pending_on, posted_on}
 
 -- a pending transfer that no post or void names, and whose timeout, if it has one, is still to come
 pub record IsHeld (B : Books) (p : Transfer) : Type 0 where

@@ -4,8 +4,9 @@ use Rattle.std.specs.Option.{option_map}
 use Rattle.tb_records.specs.declared.records.Account.{Account}
 use Rattle.tb_records.specs.declared.records.Transfer.{Transfer}
 use Rattle.tb_records.specs.Ordered.{Each, Rising}
-use Rattle.tb_ledger.specs.Books.{Books, debits_limited, credits_limited, account_at, debit, credit, pending_on, posted_on}
-use Rattle.tb_ledger.specs.Verdicts.{int_max}
+use Rattle.tb_records.specs.declared.limits.TheConstants.{AMOUNT_MAX}
+use Rattle.tb_ledger.specs.Books.{Books, debits_limited, credits_limited, account_at}
+use Rattle.tb_ledger.specs.Sides.{debit, credit, pending_on, posted_on}
 
 -- the keys by which accounts and transfers are in order
 abbrev pub account_key : Account → ℕ
@@ -27,7 +28,7 @@ ledger_at accounts id = option_map (λ a. a.ledger) (find (λ a. a.id == id) acc
 -- on one side: each transfer's account is there and of its ledger, sums fit in 128 bits, and a limited account keeps to its limit
 pub record SideKept (side other : Transfer → ℕ) (limited : Account → Bool) (B : Books) : Type 0 where
   pub named : Each (λ t. ledger_at B.accounts (side t) ≡ Some t.ledger) B.transfers
-  pub fit : (id : ℕ) → pending_on side B id + posted_on side B id ≤ int_max
+  pub fit : (id : ℕ) → pending_on side B id + posted_on side B id ≤ AMOUNT_MAX
   pub within : (id : ℕ) (a : Account) → account_at B id ≡ Some a → limited a ≡ true → pending_on side B id + posted_on side B id ≤ posted_on other B id
 
 -- account ids rise, no transfer debits the account that it credits, and both sides are kept

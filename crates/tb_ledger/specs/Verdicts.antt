@@ -14,14 +14,15 @@ use Rattle.tb_records.specs.AccountFlags.{account_flags_reserved}
 use Rattle.tb_records.specs.AccountResults.{account_result_code}
 use Rattle.tb_records.specs.TransferFlags.{transfer_flags_reserved}
 use Rattle.tb_records.specs.TransferResults.{transfer_result_code}
+use Rattle.tb_records.specs.Flags.{has_flag}
 use Rattle.tb_ledger.specs.declared.tables.transfers.State.{State}
-use Rattle.tb_ledger.specs.Books.{Books, has, closed, debits_limited, credits_limited, pending, posts, voids, resolves, balancing_debit, balancing_credit, balancing, closing, transfer_at, state_of, is_posted, is_voided, is_expired, account_now}
+use Rattle.tb_ledger.specs.Books.{Books, closed, debits_limited, credits_limited, pending, posts, voids, resolves, balancing_debit, balancing_credit, balancing, closing, transfer_at, state_of, is_posted, is_voided, is_expired, account_now}
 
 -- a test of a table: its code, and whether it holds
 abbrev pub Test : Type 0
 Test = ℕ × Bool
 
--- a test of an account, and one of a transfer: the code is that of a result
+-- a test of an account, and one of a transfer, by the result
 abbrev pub account_test : CreateAccountResult → Bool → Test
 account_test result holds = (account_result_code result, holds)
 
@@ -37,13 +38,6 @@ abbrev pub first_code : List ℕ → ℕ
 first_code [] = 0
 first_code (code ∷ codes) = if code == 0 then first_code codes else code
 
--- the largest number of 128 bits: no id, and the most that an amount or a sum can be
-abbrev pub int_max : ℕ
-int_max = AMOUNT_MAX
-
-abbrev pub max_time : ℕ
-max_time = LAST_MOMENT
-
 abbrev pub is_not : ℕ → ℕ → Bool
 is_not x y = not (x == y)
 
@@ -53,9 +47,9 @@ abbrev pub account_own_tests : Account → List Test
 account_own_tests a =
     account_test account.TimestampMustBeZero (is_not a.timestamp 0)
     ∷ account_test account.ReservedField (is_not a.reserved 0)
-    ∷ account_test account.ReservedFlag (has account_flags_reserved a.flags)
+    ∷ account_test account.ReservedFlag (has_flag account_flags_reserved a.flags)
     ∷ account_test account.IdMustNotBeZero (a.id == 0)
-    ∷ account_test account.IdMustNotBeIntMax (a.id == int_max)
+    ∷ account_test account.IdMustNotBeIntMax (a.id == AMOUNT_MAX)
     ∷ []
 
 -- where the id is there, e is the account as it is now
@@ -82,12 +76,8 @@ account_new_tests a =
     ∷ account_test account.CodeMustNotBeZero (a.code == 0)
     ∷ []
 
--- present: the account of that id as it is now, if there is one
-abbrev pub account_code : Option Account → Account → ℕ
-account_code present a = first_code (first_of (account_own_tests a) ∷ first_of (account_exists_tests present a) ∷ first_of (account_new_tests a) ∷ [])
-
 abbrev pub account_verdict : Books → Account → ℕ
-account_verdict B a = account_code (account_now B a.id) a
+account_verdict B a = first_code (first_of (account_own_tests a) ∷ first_of (account_exists_tests (account_now B a.id) a) ∷ first_of (account_new_tests a) ∷ [])
 
 -- what is recorded of an account with verdict 0
 abbrev pub recorded_account : Account → ℕ → Account
@@ -98,20 +88,17 @@ recorded_account a time = record a { timestamp = time }
 abbrev pub transfer_own_tests : Transfer → List Test
 transfer_own_tests t =
     transfer_test transfer.TimestampMustBeZero (is_not t.timestamp 0)
-    ∷ transfer_test transfer.ReservedFlag (has transfer_flags_reserved t.flags)
+    ∷ transfer_test transfer.ReservedFlag (has_flag transfer_flags_reserved t.flags)
     ∷ transfer_test transfer.IdMustNotBeZero (t.id == 0)
-    ∷ transfer_test transfer.IdMustNotBeIntMax (t.id == int_max)
+    ∷ transfer_test transfer.IdMustNotBeIntMax (t.id == AMOUNT_MAX)
     ∷ []
 
--- a post or void takes the value of p, the pending transfer that it names, where its own is 0
+-- a post or void has the value of its pending transfer p where its own is 0
 abbrev pub given_or : ℕ → ℕ → ℕ
 given_or x y = if x == 0 then y else x
 
 abbrev pub filled_amount : Transfer → Transfer → ℕ
-filled_amount p t =
-    if posts t
-    then (if t.amount == int_max then p.amount else t.amount)
-    else (if t.amount == 0 then p.amount else t.amount)
+filled_amount p t = if t.amount == (if posts t then AMOUNT_MAX else 0) then p.amount else t.amount
 
 abbrev pub filled_from : Transfer → Transfer → Transfer
 filled_from p t = record t {
@@ -162,7 +149,7 @@ resolve_own_tests t =
     ∷ transfer_test transfer.FlagsAreMutuallyExclusive (balancing t)
     ∷ transfer_test transfer.FlagsAreMutuallyExclusive (closing t)
     ∷ transfer_test transfer.PendingIdMustNotBeZero (t.pending_id == 0)
-    ∷ transfer_test transfer.PendingIdMustNotBeIntMax (t.pending_id == int_max)
+    ∷ transfer_test transfer.PendingIdMustNotBeIntMax (t.pending_id == AMOUNT_MAX)
     ∷ transfer_test transfer.PendingIdMustBeDifferent (t.pending_id == t.id)
     ∷ transfer_test transfer.TimeoutReservedForPendingTransfer (is_not t.timeout 0)
     ∷ []
@@ -211,9 +198,9 @@ resolve_code B t = first_code (first_of (resolve_own_tests t) ∷ named_code B t
 abbrev pub two_party_own_tests : Transfer → List Test
 two_party_own_tests t =
     transfer_test transfer.DebitAccountIdMustNotBeZero (t.debit_account_id == 0)
-    ∷ transfer_test transfer.DebitAccountIdMustNotBeIntMax (t.debit_account_id == int_max)
+    ∷ transfer_test transfer.DebitAccountIdMustNotBeIntMax (t.debit_account_id == AMOUNT_MAX)
     ∷ transfer_test transfer.CreditAccountIdMustNotBeZero (t.credit_account_id == 0)
-    ∷ transfer_test transfer.CreditAccountIdMustNotBeIntMax (t.credit_account_id == int_max)
+    ∷ transfer_test transfer.CreditAccountIdMustNotBeIntMax (t.credit_account_id == AMOUNT_MAX)
     ∷ transfer_test transfer.AccountsMustBeDifferent (t.debit_account_id == t.credit_account_id)
     ∷ transfer_test transfer.PendingIdMustBeZero (is_not t.pending_id 0)
     ∷ transfer_test transfer.TimeoutReservedForPendingTransfer (not (pending t) && is_not t.timeout 0)
@@ -231,29 +218,26 @@ pair_tests d c t =
     ∷ transfer_test transfer.CreditAccountAlreadyClosed (closed c)
     ∷ []
 
--- what a balancing transfer may move at most
-abbrev pub debit_room : Account → ℕ
-debit_room d = d.credits_posted - (d.debits_posted + d.debits_pending)
-
-abbrev pub credit_room : Account → ℕ
-credit_room c = c.debits_posted - (c.credits_posted + c.credits_pending)
-
+-- a balancing transfer moves at most what its account has left
 abbrev pub balanced_debit : Account → Transfer → ℕ
-balanced_debit d t = if balancing_debit t then min t.amount (debit_room d) else t.amount
+balanced_debit d t = if balancing_debit t then min t.amount (d.credits_posted - (d.debits_posted + d.debits_pending)) else t.amount
 
 abbrev pub balanced_amount : Account → Account → Transfer → ℕ
-balanced_amount d c t = if balancing_credit t then min (balanced_debit d t) (credit_room c) else balanced_debit d t
+balanced_amount d c t =
+    if balancing_credit t
+    then min (balanced_debit d t) (c.debits_posted - (c.credits_posted + c.credits_pending))
+    else balanced_debit d t
 
 -- the two accounts as they are now, and the amount, balanced
 abbrev pub amount_tests : Account → Account → Transfer → ℕ → ℕ → List Test
 amount_tests d c t amount time =
-    transfer_test transfer.OverflowsDebitsPending (pending t && nat_lt int_max (d.debits_pending + amount))
-    ∷ transfer_test transfer.OverflowsCreditsPending (pending t && nat_lt int_max (c.credits_pending + amount))
-    ∷ transfer_test transfer.OverflowsDebitsPosted (nat_lt int_max (d.debits_posted + amount))
-    ∷ transfer_test transfer.OverflowsCreditsPosted (nat_lt int_max (c.credits_posted + amount))
-    ∷ transfer_test transfer.OverflowsDebits (nat_lt int_max (d.debits_pending + d.debits_posted + amount))
-    ∷ transfer_test transfer.OverflowsCredits (nat_lt int_max (c.credits_pending + c.credits_posted + amount))
-    ∷ transfer_test transfer.OverflowsTimeout (nat_lt max_time (time + t.timeout * NANOSECONDS_PER_SECOND))
+    transfer_test transfer.OverflowsDebitsPending (pending t && nat_lt AMOUNT_MAX (d.debits_pending + amount))
+    ∷ transfer_test transfer.OverflowsCreditsPending (pending t && nat_lt AMOUNT_MAX (c.credits_pending + amount))
+    ∷ transfer_test transfer.OverflowsDebitsPosted (nat_lt AMOUNT_MAX (d.debits_posted + amount))
+    ∷ transfer_test transfer.OverflowsCreditsPosted (nat_lt AMOUNT_MAX (c.credits_posted + amount))
+    ∷ transfer_test transfer.OverflowsDebits (nat_lt AMOUNT_MAX (d.debits_pending + d.debits_posted + amount))
+    ∷ transfer_test transfer.OverflowsCredits (nat_lt AMOUNT_MAX (c.credits_pending + c.credits_posted + amount))
+    ∷ transfer_test transfer.OverflowsTimeout (nat_lt LAST_MOMENT (time + t.timeout * NANOSECONDS_PER_SECOND))
     ∷ transfer_test transfer.ExceedsCredits (debits_limited d && nat_lt d.credits_posted (d.debits_pending + d.debits_posted + amount))
     ∷ transfer_test transfer.ExceedsDebits (credits_limited c && nat_lt c.debits_posted (c.credits_pending + c.credits_posted + amount))
     ∷ []
@@ -274,8 +258,7 @@ transfer_verdict B t time = first_code (id_code B t ∷ (if resolves t then reso
 -- the amount of a transfer between two accounts as they are now
 abbrev pub balanced_between : Option Account → Option Account → Transfer → ℕ
 balanced_between (Some d) (Some c) t = balanced_amount d c t
-balanced_between (Some d) None t = t.amount
-balanced_between None c t = t.amount
+balanced_between _ _ t = t.amount
 
 -- what is recorded of a transfer with verdict 0: filled or balanced, and stamped
 abbrev pub recorded_transfer : Books → Transfer → ℕ → Transfer

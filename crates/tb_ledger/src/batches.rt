@@ -3,7 +3,7 @@ ghost use Rattle.std.specs.Prelude.{◌≡◌, ℕ, ◌+◌, ◌==◌, true, fal
 ghost use Rattle.tb_ledger.specs.Batches.{chain_length};
 ghost use Rattle.tb_ledger.specs.private.Capacity.{Capacity, capacity_of, Uses};
 ghost use Rattle.tb_ledger.specs.private.Gathered.{AddsResults};
-ghost use Rattle.tb_ledger.specs.Kept.{books_in, IsKept};
+ghost use Rattle.tb_ledger.specs.Kept.{books_in, AreRowsKept};
 ghost use Rattle.tb_ledger.specs.private.Steps.{IsPrepared, StaysButFailed, TakesEvent, IsPreparedFor, LeavesAfter, TakesInChain, chain_from, chains_from};
 
 pub(crate) mod ahead;
@@ -63,12 +63,12 @@ pub trait Event: Copy {
 
     /// Notes what the event's refusal leaves behind.
     fn refuse<A: Allocator + Clone>(&self, rows: &mut Rows<A>, refusal: Self::Refusal)
-        requires kept { IsKept rows.old }
+        requires kept { AreRowsKept rows.old }
         requires capacity { HasCapacity 1 (capacity_of rows.old) }
         requires fresh { IsNew (books_in rows.old).failed self.now (code_of refusal) }
         ensures books { books_in rows.new
             ≡ kind.refused (books_in rows.old) self.now (code_of refusal) }
-        ensures kept { IsKept rows.new }
+        ensures kept { AreRowsKept rows.new }
         ensures stays { StaysButFailed rows.old rows.new }
         ensures uses { Uses 1 (capacity_of rows.old) (capacity_of rows.new) };
 
@@ -167,7 +167,7 @@ pub(crate) fn run_batch<E: Event, A: Allocator + Clone>(work: &mut Work<A>, even
     ensures books { books_in work.new.rows ≡ (chains_from E.kind (books_in work.old.rows) time events.now).books }
     ensures results { AddsResults 0 (chains_from E.kind (books_in work.old.rows) time events.now).codes
         work.old.results work.new.results }
-    ensures kept { IsKept work.new.rows }
+    ensures kept { AreRowsKept work.new.rows }
     ensures time { work.new.rows.time ≡ work.old.rows.time }
 {
     let mut rest = events;

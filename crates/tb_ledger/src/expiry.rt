@@ -1,7 +1,7 @@
 //! Pending transfers whose timeout has passed.
 ghost use Rattle.std.specs.Prelude.{◌≡◌, ◌≢◌, ◌≤◌, ◌==◌, true, false, find, Some, IsSome};
 ghost use Rattle.tb_ledger.specs.Books.{closing_debit, closing_credit};
-ghost use Rattle.tb_ledger.specs.Kept.{books_in, IsKept, IsTimeout, transfer_row_key, on_debits, on_credits, released, settled, accounts_released};
+ghost use Rattle.tb_ledger.specs.Kept.{books_in, AreRowsKept, IsTimeout, transfer_row_key, on_debits, on_credits, released, settled, accounts_released};
 ghost use Rattle.tb_ledger.specs.private.Steps.{KeepsRecords};
 ghost use Rattle.tb_ledger.specs.declared.tables.transfers.State.TheVariants.{Expired};
 ghost use Rattle.tb_records.specs.Ordered.{replaced};
@@ -117,9 +117,9 @@ fn look_ahead<A: Allocator + Clone>(rows: &mut Rows<A>, ended: usize)
 /// Moves the ledger on to `time`, a pending transfer after the other whose timeout has passed.
 #[inline(never)]
 fn expire_due<A: Allocator + Clone>(rows: &mut Rows<A>, time: u64)
-    requires kept { IsKept rows.old }
+    requires kept { AreRowsKept rows.old }
     requires later { rows.old.time ≤ time }
-    ensures kept { IsKept rows.new }
+    ensures kept { AreRowsKept rows.new }
     ensures books { books_in rows.new ≡ record (books_in rows.old) { time = time } }
     ensures records { KeepsRecords rows.old rows.new }
     ensures time { rows.new.time ≡ time }
@@ -138,9 +138,9 @@ fn expire_due<A: Allocator + Clone>(rows: &mut Rows<A>, time: u64)
 /// of these. Most entries find none.
 #[inline(always)]
 pub fn expire<A: Allocator + Clone>(rows: &mut Rows<A>, time: u64)
-    requires kept { IsKept rows.old }
+    requires kept { AreRowsKept rows.old }
     requires later { rows.old.time ≤ time }
-    ensures kept { IsKept rows.new }
+    ensures kept { AreRowsKept rows.new }
     ensures books { books_in rows.new ≡ record (books_in rows.old) { time = time } }
     ensures records { KeepsRecords rows.old rows.new }
     ensures time { rows.new.time ≡ time }

@@ -1,14 +1,13 @@
 //! The ledger: its books, kept in rows.
 ghost use Rattle.std.specs.Prelude.{◌≡◌, ◌↔◌, ◌+◌, ◌<◌, ◌≤◌, ◌++◌, max, length, IsTrue, IfOk, OnOk, OnErr, vec_len, vec_capacity};
-ghost use Rattle.tb_records.specs.declared.limits.TheConstants.{ITEMS_MAX};
+ghost use Rattle.tb_records.specs.declared.limits.TheConstants.{ITEMS_MAX, LAST_MOMENT};
 ghost use Rattle.tb_ledger.specs.Batches.{account_events, batch_after, results, transfer_events};
 ghost use Rattle.tb_ledger.specs.Books.{account_now, empty_books, found_accounts, found_transfers, moved_to_two, profile_of, transfer_at};
 ghost use Rattle.tb_ledger.specs.private.Capacity.{HasTransfers, capacity_of};
 ghost use Rattle.tb_ledger.specs.private.Entering.{CanEnter};
-ghost use Rattle.tb_ledger.specs.Kept.{books_in, IsKept};
+ghost use Rattle.tb_ledger.specs.Kept.{books_in, AreRowsKept};
 ghost use Rattle.tb_ledger.specs.Sound.{IdsRise};
 ghost use Rattle.tb_ledger.specs.Tables.{IsShortSearch};
-ghost use Rattle.tb_ledger.specs.Verdicts.{max_time};
 
 use crate::batches::{Event, run_batch};
 use crate::expiry::expire;
@@ -34,13 +33,13 @@ pub struct Ledger<A: Allocator + Clone> {
 
 impl<A: Allocator + Clone> Model for Ledger<A> {
     ghost use Rattle.tb_ledger.specs.Books.{Books};
-    ghost use Rattle.tb_ledger.specs.Kept.{books_in, IsKept};
+    ghost use Rattle.tb_ledger.specs.Kept.{books_in, AreRowsKept};
 
     ghost Value = { Books };
 
     ghost view = { λ l. books_in l.work.rows };
 
-    ghost invariant = { λ l. IsKept l.work.rows };
+    ghost invariant = { λ l. AreRowsKept l.work.rows };
 }
 
 /// Makes capacity for `n` transfers: for their timeouts too, and for as many failed ids where these are kept.
@@ -49,8 +48,8 @@ fn reserve_transfers<A: Allocator + Clone>(
     alloc: &A,
     n: usize,
 ) -> Result<(), AllocError>
-    requires { IsKept rows.old }
-    ensures kept { IsKept rows.new }
+    requires { AreRowsKept rows.old }
+    ensures kept { AreRowsKept rows.new }
     ensures books { books_in rows.new ≡ books_in rows.old }
     ensures ok { OnOk result (HasTransfers n (capacity_of rows.new)) }
 {
@@ -71,10 +70,10 @@ fn enter<E: Event, A: Allocator + Clone>(
     t: u64,
     events: &[E],
 ) -> Result<Vec<EventResult>, AllocError>
-    requires kept { IsKept work.old.rows }
+    requires kept { AreRowsKept work.old.rows }
     requires capacity { E.HasCapacity (length events.now) (capacity_of work.old.rows) }
     requires entry { CanEnter work.old.rows.time (length events.now) t }
-    ensures kept { IsKept work.new.rows }
+    ensures kept { AreRowsKept work.new.rows }
     ensures books { OnOk result
         (books_in work.new.rows ≡ (batch_after E.kind (books_in work.old.rows) events.now t).books) }
     ensures results { IfOk result
@@ -182,7 +181,7 @@ impl<A: Allocator + Clone> Ledger<A> {
     /// pending sums.
     pub fn expire(&mut self, t: u64)
         requires later { self.old.time < t }
-        requires in_range { t ≤ max_time }
+        requires in_range { t ≤ LAST_MOMENT }
         ensures { self.new ≡ record self.old { time = t } }
     {
         expire(&mut self.work.rows, t);
@@ -199,7 +198,7 @@ impl<A: Allocator + Clone> Ledger<A> {
     ) -> Result<Vec<EventResult>, AllocError>
         requires count { length events.now ≤ ITEMS_MAX }
         requires later { self.old.time + max (length events.now) 1 ≤ t }
-        requires in_range { t ≤ max_time }
+        requires in_range { t ≤ LAST_MOMENT }
         ensures books { OnOk result (self.new ≡ (batch_after account_events self.old events.now t).books) }
         ensures results { IfOk result
             (λ r. r.items ≡ results (batch_after account_events self.old events.now t).codes) }
@@ -219,7 +218,7 @@ impl<A: Allocator + Clone> Ledger<A> {
     ) -> Result<Vec<EventResult>, AllocError>
         requires count { length events.now ≤ ITEMS_MAX }
         requires later { self.old.time + max (length events.now) 1 ≤ t }
-        requires in_range { t ≤ max_time }
+        requires in_range { t ≤ LAST_MOMENT }
         ensures books { OnOk result (self.new ≡ (batch_after transfer_events self.old events.now t).books) }
         ensures results { IfOk result
             (λ r. r.items ≡ results (batch_after transfer_events self.old events.now t).codes) }

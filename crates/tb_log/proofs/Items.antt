@@ -10,8 +10,8 @@ use Rattle.tb_machine.proofs.Running.{sends_none, sends_then}
 use Rattle.tb_log.specs.declared.faults.LogFault.{LogFault}
 use Rattle.tb_log.specs.declared.faults.LogFault.TheVariants.{NoMemory}
 use Rattle.tb_log.specs.Format.{content_of, checksum_of, summed}
-use Rattle.tb_log.specs.Following.{Following, begun, Item, Entry, with_item, item_bytes, given_to, IsAnswered, after_items, bytes_of, given, AllAnswered}
-use Rattle.tb_log.specs.Follows.{ItemFits, Refuses, Halts, Ended, Followed}
+use Rattle.tb_log.specs.Following.{Following, begun_following, Item, Entry, with_item, item_bytes, given_to, IsItemAnswered, after_items, bytes_of, given, AllAnswered}
+use Rattle.tb_log.specs.Follows.{ItemFits, RefusesNextItem, Halts, Ended, Followed}
 use Rattle.tb_log.specs.Steps.{ReadsOnly, ServesEntry, TakesItem, TakesNone}
 use Rattle.tb_log.proofs.Taking.{takes_then}
 
@@ -42,7 +42,7 @@ given_snoc F (i ∷ is) item =
     ap (λ (bs : List ℕ). given_to F i ++ bs) (given_snoc (with_item F i) is item)
     ∙ sym (append_assoc (given_to F i) (given (with_item F i) is) (given_to (after_items (with_item F i) is) item))
 
-all_answered_snoc : (F : Following) (items : List Item) (item : Item) → AllAnswered F items → IsAnswered (after_items F items) item → AllAnswered F (items ++ item ∷ [])
+all_answered_snoc : (F : Following) (items : List Item) (item : Item) → AllAnswered F items → IsItemAnswered (after_items F items) item → AllAnswered F (items ++ item ∷ [])
 all_answered_snoc F [] item all one = (one, tt)
 all_answered_snoc F (i ∷ is) item all one = (all.0, all_answered_snoc (with_item F i) is item all.1 one)
 
@@ -50,11 +50,11 @@ all_answered_snoc F (i ∷ is) item all one = (all.0, all_answered_snoc (with_it
 pub record Working (profile : Profile) (clients_max : ℕ) (k : ℕ) (F : Following) (before middle : Input) (start made : Output) : Type 0 where
   pub items : List Item
   pub count : length items ≡ k
-  pub state : F ≡ after_items (begun profile clients_max) items
+  pub state : F ≡ after_items (begun_following profile clients_max) items
   pub fit : Each ItemFits items
-  pub read : ReadsOnly (bytes_of (begun profile clients_max) items) before middle
-  pub answered : AllAnswered (begun profile clients_max) items
-  pub sent : Sent (given (begun profile clients_max) items) start made
+  pub read : ReadsOnly (bytes_of (begun_following profile clients_max) items) before middle
+  pub answered : AllAnswered (begun_following profile clients_max) items
+  pub sent : Sent (given (begun_following profile clients_max) items) start made
 
 takes_none : (i : Input) → ReadsOnly [] i i
 takes_none i = record { consumed = none i.left; counted = refl }
@@ -65,7 +65,7 @@ takes_none i = record { consumed = none i.left; counted = refl }
 
 module _ (profile : Profile) (clients_max : ℕ) where
   abbrev F0 : Following
-  F0 = begun profile clients_max
+  F0 = begun_following profile clients_max
 
   pub working_none : (F : Following) (i : Input) (o : Output) → F ≡ F0 → Working profile clients_max 0 F i i o o
   working_none F i o is = record { items = []; count = refl; state = is; fit = tt; read = takes_none i; answered = tt; sent = sends_none o }
@@ -93,7 +93,7 @@ module _ (profile : Profile) (clients_max : ℕ) where
           read = subst (λ (bs : List ℕ). ReadsOnly bs before after) (sym (bytes_snoc F0 w.items taken.item))
               (takes_then (bytes_of F0 w.items) (item_bytes at taken.item) before middle after w.read
               (subst (λ (K : Following). ReadsOnly (item_bytes K taken.item) middle after) w.state taken.read));
-          answered = all_answered_snoc F0 w.items taken.item w.answered (subst (λ (K : Following). IsAnswered K taken.item) w.state taken.answered);
+          answered = all_answered_snoc F0 w.items taken.item w.answered (subst (λ (K : Following). IsItemAnswered K taken.item) w.state taken.answered);
           sent = subst (λ (bs : List ℕ). Sent bs start next) (sym (given_snoc F0 w.items taken.item))
               (sends_then (given F0 w.items) (given_to at taken.item) start made next w.sent
               (subst (λ (K : Following). Sent (given_to K taken.item) made next) w.state taken.sent));
@@ -112,8 +112,8 @@ module _ (profile : Profile) (clients_max : ℕ) where
       ended = end;
     }
 
-    pub worked_into : (fault : LogFault) (after : Input) (written : Output) → Refuses fault F middle after made written → Followed profile clients_max (Err fault) before after start written
-    worked_into fault after written refuses = ended (Err fault) after written (inl (subst (λ (K : Following). Refuses fault K middle after made written) w.state refuses))
+    pub worked_into : (fault : LogFault) (after : Input) (written : Output) → RefusesNextItem fault F middle after made written → Followed profile clients_max (Err fault) before after start written
+    worked_into fault after written refuses = ended (Err fault) after written (inl (subst (λ (K : Following). RefusesNextItem fault K middle after made written) w.state refuses))
 
     pub worked_halted : (fault : LogFault) → Halts fault w.items → Followed profile clients_max (Err fault) before middle start made
     worked_halted fault halts = ended (Err fault) middle made (inr (halts, refl, refl))

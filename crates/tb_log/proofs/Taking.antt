@@ -10,17 +10,17 @@ use Rattle.tb_log.specs.declared.faults.LogFault.{LogFault}
 use Rattle.tb_log.specs.declared.faults.LogFault.TheVariants.{Device, NoMemory, Short, Damaged}
 use Rattle.tb_log.specs.declared.entries.Head.{Head}
 use Rattle.tb_log.specs.Format.{content_max, numbers, checksum_of, summed, number_bytes}
-use Rattle.tb_log.specs.Entries.{ReaderFails, head_fault, ReadsEntry, IsShort, LacksMemory, IsDamaged, IsNoPairs, RefusesEntry}
-use Rattle.tb_log.specs.Steps.{Filled, ReadsOnly, EndsWithin, Misses, head_bytes, ReadsContent, MissesContent}
+use Rattle.tb_log.specs.Entries.{ReaderFails, head_fault, ReadsEntry, IsShort, LacksEntryMemory, IsDamaged, IsNoPairs, RefusesEntry}
+use Rattle.tb_log.specs.Steps.{IsFilledBy, ReadsOnly, EndsWithin, Misses, head_bytes, ReadsContent, MissesContent}
 
 -- a buffer that was filled whole
-pub all_filled : (n : ℕ) (buffer : List ℕ) (before after : Input) → length buffer ≤ n → Filled n buffer before after → ReadsOnly buffer before after
+pub all_filled : (n : ℕ) (buffer : List ℕ) (before after : Input) → length buffer ≤ n → IsFilledBy n buffer before after → ReadsOnly buffer before after
 all_filled n buffer before after long filled = record {
   consumed = subst (Consumes before.left after.left) (take_all n buffer long) filled.bytes;
   counted = filled.counted;
 }
 
-pub none_filled : (buffer : List ℕ) (before after : Input) → Filled 0 buffer before after → ReadsOnly [] before after
+pub none_filled : (buffer : List ℕ) (before after : Input) → IsFilledBy 0 buffer before after → ReadsOnly [] before after
 none_filled buffer before after filled = record { consumed = filled.bytes; counted = filled.counted }
 
 one_byte : (xs : List ℕ) → length xs ≡ 1 → xs ≡ slice_index xs 0 ∷ []
@@ -28,7 +28,7 @@ one_byte [] long = absurd (omega arith)
 one_byte (x ∷ []) long = refl
 one_byte (x ∷ y ∷ ys) long = absurd (omega arith)
 
-pub one_filled : (n : ℕ) (buffer : List ℕ) (before after : Input) → length buffer ≡ 1 → 1 ≤ n → Filled n buffer before after → ReadsOnly (slice_index buffer 0 ∷ []) before after
+pub one_filled : (n : ℕ) (buffer : List ℕ) (before after : Input) → length buffer ≡ 1 → 1 ≤ n → IsFilledBy n buffer before after → ReadsOnly (slice_index buffer 0 ∷ []) before after
 one_filled n buffer before after long some filled =
     subst (λ (bs : List ℕ). ReadsOnly bs before after) (one_byte buffer long) (all_filled n buffer before after (omega arith) filled)
 
@@ -69,7 +69,7 @@ pub misses_by : (n : ℕ) (fault : LogFault) (a b : Input) → ReaderFails fault
 misses_by n fault a b breaks = inl breaks
 
 -- a buffer that was not filled whole
-pub cut_short : (n : ℕ) (buffer : List ℕ) (a b : Input) → n < length buffer → Filled n buffer a b → Misses (length buffer) Short a b
+pub cut_short : (n : ℕ) (buffer : List ℕ) (a b : Input) → n < length buffer → IsFilledBy n buffer a b → Misses (length buffer) Short a b
 cut_short n buffer a b short filled = inr (record {
   bytes = take n buffer;
   few = omega (arith, short, length-take n buffer);
@@ -170,7 +170,7 @@ module _ (head : Head) (last : ℕ) (a b c : Input) (numbered : ReadsOnly (head_
   }
 
   -- there was no memory for the content
-  no_room : (fault : LogFault) → fault ≡ NoMemory → c ≡ b → LacksMemory fault last a c
+  no_room : (fault : LogFault) → fault ≡ NoMemory → c ≡ b → LacksEntryMemory fault last a c
   no_room fault is same = record {
     long = head.length;
     sum = head.checksum;

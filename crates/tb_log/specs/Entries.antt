@@ -67,7 +67,7 @@ pub record IsWrong (fault : LogFault) (last : ℕ) (before after : Input) : Type
   pub counted : after.failed ≡ before.failed
 
 -- there was no memory for its content: no byte behind its numbers was read
-pub record LacksMemory (fault : LogFault) (last : ℕ) (before after : Input) : Type 0 where
+pub record LacksEntryMemory (fault : LogFault) (last : ℕ) (before after : Input) : Type 0 where
   pub long : ℕ
   pub sum : ℕ
   pub fits : long ≤ content_max
@@ -92,19 +92,19 @@ pair_fault position frame.Device = NoMemory
 pair_fault position fault = BadEntry position fault
 
 -- the content begins with these pairs
-pub record BeginsWith (ps : List Pair) (content left : List ℕ) : Type 0 where
+pub record BeginsWithPairs (ps : List Pair) (content left : List ℕ) : Type 0 where
   pub spelled : content ≡ content_of ps ++ left
   pub fit : Each IsTimed ps
 
 -- the content is pairs
 abbrev pub IsPairs : List ℕ → Type 0
-IsPairs content = (ps : List Pair) × BeginsWith ps content []
+IsPairs content = (ps : List Pair) × BeginsWithPairs ps content []
 
 -- behind pairs with which the content begins comes what is no pair
 pub record IsNoPairs (fault : LogFault) (position : ℕ) (content : List ℕ) : Type 0 where
   pub pairs : List Pair
   pub left : List ℕ
-  pub front : BeginsWith pairs content left
+  pub front : BeginsWithPairs pairs content left
   pub cause : FrameFault
   pub rest : List ℕ
   pub read : TimedAnswered (Err cause) left rest
@@ -117,4 +117,4 @@ pub record IsBad (fault : LogFault) (last : ℕ) (before after : Input) : Type 0
 
 abbrev pub RefusesEntry : LogFault → ℕ → Input → Input → Type 0
 RefusesEntry fault last before after =
-    ReaderFails fault before after ⊎ IsWrong fault last before after ⊎ IsDamaged fault last before after ⊎ IsBad fault last before after ⊎ IsShort fault last before after ⊎ LacksMemory fault last before after
+    ReaderFails fault before after ⊎ IsWrong fault last before after ⊎ IsDamaged fault last before after ⊎ IsBad fault last before after ⊎ IsShort fault last before after ⊎ LacksEntryMemory fault last before after

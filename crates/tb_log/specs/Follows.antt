@@ -7,24 +7,21 @@ use Rattle.tb_records.specs.ReplyFrames.{IsReply}
 use Rattle.tb_records.specs.Inputs.{IsTimed, timed_bytes}
 use Rattle.tb_records.specs.Transport.{Input, Output, Sent, CutOff}
 use Rattle.tb_machine.specs.Histories.{State}
-use Rattle.tb_machine.specs.Scripts.{Pair, has_time}
-use Rattle.tb_machine.specs.Runs.{is_new_in, IsTimely}
+use Rattle.tb_machine.specs.Scripts.{Pair}
+use Rattle.tb_machine.specs.Runs.{IsUntimely, IsTimely}
 use Rattle.tb_log.specs.declared.faults.LogFault.{LogFault}
 use Rattle.tb_log.specs.declared.faults.LogFault.TheVariants.{Device, NoMemory, UnknownKind, TimeExhausted, TooMany}
-use Rattle.tb_log.specs.Format.{content_max, content_of, entry_bytes, question_bytes, reply_item, standing_item}
-use Rattle.tb_log.specs.Following.{Following, begun, answer_of, with_pair, with_content, AreAnswered, replies_from, Item, Entry, Question, after_items, bytes_of, given, AllAnswered}
+use Rattle.tb_log.specs.Format.{content_max, content_of, log_entry_bytes, question_bytes, reply_item, standing_item}
+use Rattle.tb_log.specs.Following.{Following, begun_following, pair_answer, with_logged_pair, with_content, AreAnswered, numbered_replies, Item, Entry, Question, after_items, bytes_of, given, AllAnswered}
 use Rattle.tb_log.specs.Entries.{ReaderFails, IsPairs, RefusesEntry}
 
 -- one pair of an entry
 
-abbrev pub IsUntimely : State → Pair → Type 0
-IsUntimely S p = (is_new_in S p ≡ true) × (has_time S p ≡ false)
-
 -- a pair is answered with its index; where the writer failed, a prefix of the answer was written, and on any other fault nothing
 abbrev pub AnswersIndexed : ℕ → Result (Unit {0}) LogFault → Following → Following → Pair → Output → Output → Type 0
 AnswersIndexed index (Ok done) F G p before after =
-    IsTimely F.state p × IsReply (answer_of F p) × (G ≡ with_pair F p) × Sent (reply_item F.position index (answer_of F p)) before after
-AnswersIndexed index (Err Device) F G p before after = CutOff (reply_item F.position index (answer_of F p)) before after
+    IsTimely F.state p × IsReply (pair_answer F p) × (G ≡ with_logged_pair F p) × Sent (reply_item F.position index (pair_answer F p)) before after
+AnswersIndexed index (Err Device) F G p before after = CutOff (reply_item F.position index (pair_answer F p)) before after
 AnswersIndexed index (Err NoMemory) F G p before after = after ≡ before
 AnswersIndexed index (Err (TimeExhausted at)) F G p before after = (at ≡ F.position) × IsUntimely F.state p × (after ≡ before)
 AnswersIndexed index (Err fault) F G p before after = ⊥
@@ -35,9 +32,9 @@ AnswersIndexed index (Err fault) F G p before after = ⊥
 pub record ServesItems (ps : List Pair) (F G : Following) (content left : List ℕ) (before after : Output) : Type 0 where
   pub spelled : content ≡ content_of ps ++ left
   pub fit : Each IsTimed ps
-  pub state : G ≡ fold with_pair F ps
+  pub state : G ≡ fold with_logged_pair F ps
   pub answered : AreAnswered F ps
-  pub sent : Sent (replies_from F 0 ps) before after
+  pub sent : Sent (numbered_replies F 0 ps) before after
 
 -- the next pair cannot be answered
 pub record IsUnanswered (fault : LogFault) (index : ℕ) (F : Following) (left : List ℕ) (before after : Output) : Type 0 where
@@ -84,7 +81,7 @@ pub record IsStopped (fault : LogFault) (F : Following) (before after : Input) (
   pub content : List ℕ
   pub few : length content ≤ content_max
   pub whole : IsPairs content
-  pub read : Consumes before.left after.left (entry_bytes (F.position + 1) content)
+  pub read : Consumes before.left after.left (log_entry_bytes (F.position + 1) content)
   pub counted : after.failed ≡ before.failed
   pub stops : Stops fault (with_content F content) content start written
 
@@ -95,8 +92,8 @@ pub record LeavesQuestion (fault : LogFault) (F : Following) (before after : Inp
   pub failed : ((fault ≡ NoMemory) × (written ≡ start)) ⊎ ((fault ≡ Device) × CutOff (standing_item F.position F.log F.replies) start written)
 
 -- a fault of the next item
-abbrev pub Refuses : LogFault → Following → Input → Input → Output → Output → Type 0
-Refuses fault F before after start written =
+abbrev pub RefusesNextItem : LogFault → Following → Input → Input → Output → Output → Type 0
+RefusesNextItem fault F before after start written =
     ((ReaderFails fault before after ⊎ IsUnknown fault before after ⊎ IsEntryRefused fault F before after) × (written ≡ start))
     ⊎ IsStopped fault F before after start written
     ⊎ LeavesQuestion fault F before after start written
@@ -112,7 +109,7 @@ abbrev pub Ended : Result ℕ LogFault → List Item → Following → Input →
 Ended (Ok position) items F before after start written =
     (position ≡ F.position) × Consumes before.left after.left [] × IsAtEnd after.left × (after.failed ≡ before.failed) × (written ≡ start)
 Ended (Err fault) items F before after start written =
-    Refuses fault F before after start written
+    RefusesNextItem fault F before after start written
     ⊎ (Halts fault items × (after ≡ before) × (written ≡ start))
 
 -- a whole run: some items were read and answered, and then it ended
@@ -121,8 +118,8 @@ pub record Followed (profile : Profile) (clients_max : ℕ) (result : Result ℕ
   pub middle : Input
   pub made : Output
   pub fit : Each ItemFits items
-  pub read : Consumes before.left middle.left (bytes_of (begun profile clients_max) items)
+  pub read : Consumes before.left middle.left (bytes_of (begun_following profile clients_max) items)
   pub counted : middle.failed ≡ before.failed
-  pub answered : AllAnswered (begun profile clients_max) items
-  pub sent : Sent (given (begun profile clients_max) items) start made
-  pub ended : Ended result items (after_items (begun profile clients_max) items) middle after made written
+  pub answered : AllAnswered (begun_following profile clients_max) items
+  pub sent : Sent (given (begun_following profile clients_max) items) start made
+  pub ended : Ended result items (after_items (begun_following profile clients_max) items) middle after made written

@@ -34,8 +34,8 @@ checksum_of position content = checksum (numbers position (length content) ++ co
 abbrev pub summed : ℕ → ℕ → List ℕ → List ℕ
 summed position sum content = numbers position (length content) ++ number_bytes 4 sum ++ content
 
-abbrev pub entry_bytes : ℕ → List ℕ → List ℕ
-entry_bytes position content = 1 ∷ summed position (checksum_of position content) content
+abbrev pub log_entry_bytes : ℕ → List ℕ → List ℕ
+log_entry_bytes position content = 1 ∷ summed position (checksum_of position content) content
 
 abbrev pub question_bytes : List ℕ
 question_bytes = 2 ∷ []
@@ -53,11 +53,11 @@ reply_item position index answer = placed position index (reply_bytes answer)
 abbrev pub standing_item : ℕ → List ℕ → List ℕ → List ℕ
 standing_item position log replies = 2 ∷ number_bytes 8 position ++ log ++ replies
 
--- chained hashes
+-- chained_hash hashes
 
 abbrev pub no_hash : List ℕ
 no_hash = replicate 32 0
 
 -- the hash of what came before with one part more
-abbrev pub chained : List ℕ → List ℕ → List ℕ
-chained hash bytes = sha256 (hash ++ bytes)
+abbrev pub chained_hash : List ℕ → List ℕ → List ℕ
+chained_hash hash bytes = sha256 (hash ++ bytes)

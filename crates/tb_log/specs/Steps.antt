@@ -8,19 +8,19 @@ use Rattle.tb_records.specs.Inputs.{IsTimed}
 use Rattle.tb_records.specs.Transport.{Input, Output, Sent, CutOff}
 use Rattle.tb_machine.specs.Histories.{State, answer_to}
 use Rattle.tb_machine.specs.Scripts.{Pair, after_pair}
-use Rattle.tb_machine.specs.Runs.{IsTimely, answer_bytes}
+use Rattle.tb_machine.specs.Runs.{IsUntimely, IsTimely, answer_bytes}
 use Rattle.tb_log.specs.declared.faults.LogFault.{LogFault}
 use Rattle.tb_log.specs.declared.faults.LogFault.TheVariants.{Device, NoMemory, Damaged, TimeExhausted}
 use Rattle.tb_log.specs.declared.entries.Head.{Head}
 use Rattle.tb_log.specs.Format.{content_of, numbers, checksum_of, standing_item, number_bytes}
-use Rattle.tb_log.specs.Following.{Following, with_content, Item, Entry, with_item, item_bytes, given_to, IsAnswered}
+use Rattle.tb_log.specs.Following.{Following, with_content, Item, Entry, with_item, item_bytes, given_to, IsItemAnswered}
 use Rattle.tb_log.specs.Entries.{ReaderFails, IsCutShort, IsPairs, ReadsEntry, RefusesEntry}
-use Rattle.tb_log.specs.Follows.{AnswersIndexed, IsUntimely, ServesItems, Stops, ItemFits, Refuses}
+use Rattle.tb_log.specs.Follows.{AnswersIndexed, ServesItems, Stops, ItemFits, RefusesNextItem}
 
 -- reading
 
 -- the first n bytes of a buffer came from the reader: all of it, or all that was left
-pub record Filled (n : ℕ) (buffer : List ℕ) (before after : Input) : Type 0 where
+pub record IsFilledBy (n : ℕ) (buffer : List ℕ) (before after : Input) : Type 0 where
   pub within : n ≤ length buffer
   pub bytes : Consumes before.left after.left (take n buffer)
   pub end : n < length buffer → IsAtEnd after.left
@@ -42,12 +42,12 @@ abbrev pub Misses : ℕ → LogFault → Input → Input → Type 0
 Misses n fault before after = ReaderFails fault before after ⊎ EndsWithin n fault before after
 
 -- the n bytes of a value were read
-abbrev pub Reads : {X : Type 0} → ℕ → (X → List ℕ) → Result X LogFault → Input → Input → Type 0
-Reads n bytes_of result before after = MatchResult result (λ x. ReadsOnly (bytes_of x) before after) (λ fault. Misses n fault before after)
+abbrev pub ReadsValue : {X : Type 0} → ℕ → (X → List ℕ) → Result X LogFault → Input → Input → Type 0
+ReadsValue n bytes_of result before after = MatchResult result (λ x. ReadsOnly (bytes_of x) before after) (λ fault. Misses n fault before after)
 
 -- all bytes of a buffer were read
-abbrev pub Fills : List ℕ → Result (Unit {0}) LogFault → Input → Input → Type 0
-Fills buffer result before after = Reads (length buffer) (λ _. buffer) result before after
+abbrev pub FillsBuffer : List ℕ → Result (Unit {0}) LogFault → Input → Input → Type 0
+FillsBuffer buffer result before after = ReadsValue (length buffer) (λ _. buffer) result before after
 
 -- bytes into memory that is taken before the first is read
 abbrev pub ReadsBytes : ℕ → Result (Vec ℕ Global) LogFault → Input → Input → Type 0
@@ -55,14 +55,14 @@ ReadsBytes n (Ok bytes) before after = ReadsOnly bytes.items before after
 ReadsBytes n (Err fault) before after = Misses n fault before after ⊎ ((fault ≡ NoMemory) × (after ≡ before))
 
 -- the first byte of an item was read, or there is none
-abbrev pub Begins : Result (Option ℕ) LogFault → Input → Input → Type 0
-Begins (Ok None) before after = ReadsOnly [] before after × IsAtEnd after.left
-Begins (Ok (Some kind)) before after = ReadsOnly (kind ∷ []) before after
-Begins (Err fault) before after = ReaderFails fault before after
+abbrev pub BeginsItem : Result (Option ℕ) LogFault → Input → Input → Type 0
+BeginsItem (Ok None) before after = ReadsOnly [] before after × IsAtEnd after.left
+BeginsItem (Ok (Some kind)) before after = ReadsOnly (kind ∷ []) before after
+BeginsItem (Err fault) before after = ReaderFails fault before after
 
 -- what is wrong with an entry's numbers is answered, and nothing else
-abbrev pub Judges : Result (Unit {0}) LogFault → Option LogFault → Type 0
-Judges result wrong = MatchOption wrong (result ≡ Ok tt) (λ fault. result ≡ Err fault)
+abbrev pub JudgesNumbers : Result (Unit {0}) LogFault → Option LogFault → Type 0
+JudgesNumbers result wrong = MatchOption wrong (result ≡ Ok tt) (λ fault. result ≡ Err fault)
 
 abbrev pub head_bytes : Head → List ℕ
 head_bytes head = numbers head.position head.length ++ number_bytes 4 head.checksum
@@ -100,22 +100,22 @@ NoFrame position (TimeExhausted at) p S = (at ≡ position) × IsUntimely S p
 NoFrame position fault p S = ⊥
 
 -- a pair is answered over a writer
-abbrev pub Replies : {W : Type 0} → (W → Output) → ℕ → Result (Unit {0}) LogFault → Following → Following → Pair → W → W → Type 0
-Replies output index result F G p writer later = AnswersIndexed index result F G p (output writer) (output later)
+abbrev pub RepliesToPair : {W : Type 0} → (W → Output) → ℕ → Result (Unit {0}) LogFault → Following → Following → Pair → W → W → Type 0
+RepliesToPair output index result F G p writer later = AnswersIndexed index result F G p (output writer) (output later)
 
 -- bytes were written, or the device failed and left a prefix of them
-abbrev pub Writes : Result (Unit {0}) LogFault → List ℕ → Output → Output → Type 0
-Writes (Ok done) bytes before after = Sent bytes before after
-Writes (Err Device) bytes before after = CutOff bytes before after
-Writes (Err fault) bytes before after = ⊥
+abbrev pub WritesBytes : Result (Unit {0}) LogFault → List ℕ → Output → Output → Type 0
+WritesBytes (Ok done) bytes before after = Sent bytes before after
+WritesBytes (Err Device) bytes before after = CutOff bytes before after
+WritesBytes (Err fault) bytes before after = ⊥
 
-abbrev pub standing_of : Following → List ℕ
-standing_of F = standing_item F.position F.log F.replies
+abbrev pub follower_standing : Following → List ℕ
+follower_standing F = standing_item F.position F.log F.replies
 
 -- a question was answered, or there was no memory, or the device failed
 abbrev pub WritesStanding : Result (Unit {0}) LogFault → Following → Output → Output → Type 0
-WritesStanding (Ok done) F before after = Sent (standing_of F) before after
-WritesStanding (Err Device) F before after = CutOff (standing_of F) before after
+WritesStanding (Ok done) F before after = Sent (follower_standing F) before after
+WritesStanding (Err Device) F before after = CutOff (follower_standing F) before after
 WritesStanding (Err NoMemory) F before after = after ≡ before
 WritesStanding (Err fault) F before after = ⊥
 
@@ -138,7 +138,7 @@ pub record ServesEntry (F G : Following) (before after : Input) (start written :
   pub pairs : List Pair
   pub read : ReadsEntry (content_of pairs) F.position before after
   pub fit : Each IsTimed pairs
-  pub answered : IsAnswered F (Entry pairs)
+  pub answered : IsItemAnswered F (Entry pairs)
   pub state : G ≡ with_item F (Entry pairs)
   pub sent : Sent (given_to F (Entry pairs)) start written
 
@@ -152,7 +152,7 @@ pub record TakesItem (F G : Following) (before after : Input) (start written : O
   pub item : Item
   pub fit : ItemFits item
   pub read : ReadsOnly (item_bytes F item) before after
-  pub answered : IsAnswered F item
+  pub answered : IsItemAnswered F item
   pub state : G ≡ with_item F item
   pub sent : Sent (given_to F item) start written
 
@@ -166,4 +166,4 @@ pub record TakesNone (F G : Following) (before after : Input) (start written : O
 abbrev pub TakesNextPair : Result Bool LogFault → Following → Following → Input → Input → Output → Output → Type 0
 TakesNextPair (Ok true) F G before after start written = TakesItem F G before after start written
 TakesNextPair (Ok false) F G before after start written = TakesNone F G before after start written
-TakesNextPair (Err fault) F G before after start written = Refuses fault F before after start written
+TakesNextPair (Err fault) F G before after start written = RefusesNextItem fault F before after start written

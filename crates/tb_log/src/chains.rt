@@ -1,6 +1,6 @@
 //! Hashes of parts that came one after another.
 ghost use Rattle.std.specs.Prelude.{◌≡◌};
-ghost use Rattle.tb_log.specs.Format.{no_hash, chained};
+ghost use Rattle.tb_log.specs.Format.{no_hash, chained_hash};
 
 use sha2::{Digest, Sha256};
 use std::marker::Model;
@@ -37,7 +37,7 @@ impl Chain {
 
     /// Adds a part.
     pub fn add(&mut self, bytes: &[u8])
-        ensures { self.new ≡ chained self.old bytes.now }
+        ensures { self.new ≡ chained_hash self.old bytes.now }
     {
         let mut hasher = Sha256::new();
         hasher.update(&self.hash);

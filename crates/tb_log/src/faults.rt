@@ -1,6 +1,6 @@
 //! Why a follower ends before its log does.
 ghost use Rattle.std.specs.Prelude.{◌≡◌, Some};
-ghost use Rattle.tb_log.specs.Faults.{fault_name, fault_text};
+ghost use Rattle.tb_log.specs.Faults.{log_fault_name, log_fault_text};
 
 use std::alloc::AllocError;
 use std::fmt;
@@ -37,7 +37,7 @@ pub enum LogFault {
 impl LogFault {
     /// The fault's name, as a message shows it.
     pub fn name(self) -> &'static str
-        ensures { result.now ≡ fault_name self }
+        ensures { result.now ≡ log_fault_name self }
     {
         match self {
             LogFault::Device => "Device",
@@ -66,7 +66,7 @@ impl From<AllocError> for LogFault {
 }
 
 impl fmt::Display for LogFault {
-    ghost output = { λ fault. Some (fault_text fault) };
+    ghost output = { λ fault. Some (log_fault_text fault) };
 
     fn fmt<W: fmt::Write>(&self, f: &mut fmt::Formatter<W>) -> fmt::Result {
         match *self {

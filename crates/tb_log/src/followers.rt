@@ -1,8 +1,8 @@
 //! A follower: a machine, the position of the last entry, and the hashes of the log and of the replies.
 ghost use Rattle.std.specs.Prelude.{◌≡◌, ◌+◌, IfOk, IfErr};
 ghost use Rattle.tb_log.specs.Format.{placed};
-ghost use Rattle.tb_log.specs.Following.{begun, with_content};
-ghost use Rattle.tb_log.specs.Steps.{Frames, NoFrame, Replies, standing_of, WritesStanding, Writes};
+ghost use Rattle.tb_log.specs.Following.{begun_following, with_content};
+ghost use Rattle.tb_log.specs.Steps.{Frames, NoFrame, RepliesToPair, follower_standing, WritesStanding, WritesBytes};
 
 use crate::chains::Chain;
 use crate::faults::LogFault;
@@ -30,7 +30,7 @@ impl<A: Allocator + Clone> Model for Follower<A> {
 
 /// Writes bytes: Device where the writer fails or takes nothing.
 fn write<W: Sink>(writer: &mut W, bytes: &[u8]) -> Result<(), LogFault>
-    ensures { Writes result bytes.now (W.output writer.old) (W.output writer.new) }
+    ensures { WritesBytes result bytes.now (W.output writer.old) (W.output writer.new) }
 {
     put_all(writer, bytes).map_err(|_| LogFault::Device)
 }
@@ -77,7 +77,7 @@ impl<A: Allocator + Clone> Follower<A> {
         profile: Profile,
         clients_max: ClientsMax,
     ) -> Result<Follower<A>, AllocError>
-        ensures { IfOk result (λ follower. follower ≡ begun profile clients_max) }
+        ensures { IfOk result (λ follower. follower ≡ begun_following profile clients_max) }
     {
         Ok(Follower {
             machine: Machine::new_in(global, alloc, profile, clients_max)?,
@@ -119,7 +119,7 @@ impl<A: Allocator + Clone> Follower<A> {
         moment: u64,
         request: Request,
     ) -> Result<(), LogFault>
-        ensures { Replies W.output index result self.old self.new (moment, request) writer.old writer.new }
+        ensures { RepliesToPair W.output index result self.old self.new (moment, request) writer.old writer.new }
     {
         let frame = frame_of(global, &mut self.machine, self.position, moment, request)?;
         let line = numbered(global, self.position, index, &frame)?;
@@ -131,7 +131,7 @@ impl<A: Allocator + Clone> Follower<A> {
     #[tactic(auto, using(crate::proofs::Numbers::eight_written))]
     pub fn standing(&self, global: Global) -> Result<Vec<u8>, AllocError>
         ensures { IfOk result
-            (λ line. line.items ≡ standing_of self.now) }
+            (λ line. line.items ≡ follower_standing self.now) }
     {
         let mut line = Vec::new(global);
         line.push(2)?;

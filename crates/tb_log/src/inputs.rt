@@ -2,7 +2,7 @@
 ghost use Rattle.std.specs.Prelude.{◌≡◌, vec_len, IfOk, IfErr};
 ghost use Rattle.tb_log.specs.Entries.{ReaderFails};
 ghost use Rattle.tb_log.specs.Format.{number_bytes};
-ghost use Rattle.tb_log.specs.Steps.{Filled, Fills, Reads, ReadsBytes, Begins};
+ghost use Rattle.tb_log.specs.Steps.{IsFilledBy, FillsBuffer, ReadsValue, ReadsBytes, BeginsItem};
 
 use crate::faults::LogFault;
 use byteorder::{ByteOrder, LittleEndian};
@@ -12,7 +12,7 @@ use tb_records::Source;
 /// Fills the buffer, and returns how many of its bytes were filled: fewer than all only at the end of the input.
 fn fill<S: Source>(source: &mut S, buffer: &mut [u8]) -> Result<usize, LogFault>
     ensures filled { IfOk result
-        (λ n. Filled n buffer.new (S.input source.old) (S.input source.new)) }
+        (λ n. IsFilledBy n buffer.new (S.input source.old) (S.input source.new)) }
     ensures lost { IfErr result (λ f. ReaderFails f (S.input source.old) (S.input source.new)) }
 {
     let mut filled = 0;
@@ -29,7 +29,7 @@ fn fill<S: Source>(source: &mut S, buffer: &mut [u8]) -> Result<usize, LogFault>
 /// Fills the buffer. Short where the input ends before.
 #[tactic(auto, using(crate::proofs::Taking::all_filled, crate::proofs::Taking::cut_short, crate::proofs::Taking::misses_by))]
 fn fill_all<S: Source>(source: &mut S, buffer: &mut [u8]) -> Result<(), LogFault>
-    ensures { Fills buffer.new result (S.input source.old) (S.input source.new) }
+    ensures { FillsBuffer buffer.new result (S.input source.old) (S.input source.new) }
 {
     if fill(source, buffer)? < buffer.len() {
         return Err(LogFault::Short);
@@ -40,7 +40,7 @@ fn fill_all<S: Source>(source: &mut S, buffer: &mut [u8]) -> Result<(), LogFault
 /// The byte that begins the next item; None where the input ends before it.
 #[tactic(auto, using(crate::proofs::Taking::none_filled, crate::proofs::Taking::one_filled))]
 pub fn kind_from<S: Source>(source: &mut S) -> Result<Option<u8>, LogFault>
-    ensures { Begins result (S.input source.old) (S.input source.new) }
+    ensures { BeginsItem result (S.input source.old) (S.input source.new) }
 {
     let mut bytes = [0; 1];
     let bytes: &mut [u8] = &mut bytes;
@@ -53,7 +53,7 @@ pub fn kind_from<S: Source>(source: &mut S) -> Result<Option<u8>, LogFault>
 /// A number of 8 bytes.
 #[tactic(auto, using(crate::proofs::Numbers::eight_bytes, crate::proofs::Taking::missed_whole))]
 pub(crate) fn u64_from<S: Source>(source: &mut S) -> Result<u64, LogFault>
-    ensures { Reads 8 (number_bytes 8) result (S.input source.old) (S.input source.new) }
+    ensures { ReadsValue 8 (number_bytes 8) result (S.input source.old) (S.input source.new) }
 {
     let mut bytes = [0; 8];
     let bytes: &mut [u8] = &mut bytes;
@@ -64,7 +64,7 @@ pub(crate) fn u64_from<S: Source>(source: &mut S) -> Result<u64, LogFault>
 /// A number of 4 bytes.
 #[tactic(auto, using(crate::proofs::Numbers::four_bytes, crate::proofs::Taking::missed_whole))]
 pub(crate) fn u32_from<S: Source>(source: &mut S) -> Result<u32, LogFault>
-    ensures { Reads 4 (number_bytes 4) result (S.input source.old) (S.input source.new) }
+    ensures { ReadsValue 4 (number_bytes 4) result (S.input source.old) (S.input source.new) }
 {
     let mut bytes = [0; 4];
     let bytes: &mut [u8] = &mut bytes;

@@ -8,7 +8,7 @@ use Rattle.tb_sessions.specs.declared.classes.Class.TheVariants.{Repeat}
 use Rattle.tb_sessions.specs.Judged.{row_of, class_of}
 use Rattle.tb_machine.specs.declared.entries.Entry.{Entry}
 use Rattle.tb_machine.specs.Histories.{State, is_lawful, IsLegal, after, answer_by, answer_to}
-use Rattle.tb_machine.specs.Scripts.{Pair, entry_of, is_entered, with_pair, accepted, replies_from}
+use Rattle.tb_machine.specs.Scripts.{Pair, entry_of, is_entered, accepted, replies_from, grown}
 use Rattle.tb_machine.specs.Runs.{Spell}
 use Rattle.tb_records.specs.Inputs.{IsTimed}
 use Rattle.tb_machine.specs.ScriptLaws.{AreLawful, AcceptedIsLegal, IsGiven, HasRefusal, AreOf, RepliesAreOfHistory, ServedAreLawful}
@@ -20,14 +20,14 @@ use Rattle.tb_machine.proofs.MarkLegal.{legal_with_at, accepted_is_legal_with}
 use Rattle.tb_machine.proofs.PairAnswers.{answer_after, answer_refused, repeated_or_not}
 
 module _ (profile : Profile) (clients_max : ℕ) where
-  pub legal_with : (h : List Entry) (p : Pair) → IsLegal profile clients_max h → IsTrue (is_lawful p.1) → IsLegal profile clients_max (with_pair profile clients_max h p)
+  pub legal_with : (h : List Entry) (p : Pair) → IsLegal profile clients_max h → IsTrue (is_lawful p.1) → IsLegal profile clients_max (grown (after profile clients_max) h p)
   legal_with h p legal lawful = legal_with_at profile clients_max None h p legal (λ _. lawful)
 
   -- a history goes on
   Goes : List Entry → List Entry → Type 0
   Goes h m = (more : List Entry) × (m ≡ h ++ more)
 
-  goes_with : (h : List Entry) (p : Pair) → Goes h (with_pair profile clients_max h p)
+  goes_with : (h : List Entry) (p : Pair) → Goes h (grown (after profile clients_max) h p)
   unfolding Goes
   goes_with h p = parts (is_entered (after profile clients_max h) p)
     where
@@ -40,7 +40,7 @@ module _ (profile : Profile) (clients_max : ℕ) where
   goes_on h [] = ([], sym (append-nil h))
   goes_on h (p ∷ ps) =
       let one = goes_with h p in
-      let rest = goes_on (with_pair profile clients_max h p) ps in
+      let rest = goes_on (grown (after profile clients_max) h p) ps in
       (one.0 ++ rest.0, rest.1 ∙ ap (λ l. l ++ rest.0) one.1 ∙ append_assoc h one.0 rest.0)
 
   -- what is given stays given
@@ -92,8 +92,8 @@ module _ (profile : Profile) (clients_max : ℕ) where
           }
 
   answered_one : (h : List Entry) (p : Pair) → IsLegal profile clients_max h → IsTrue (is_lawful p.1)
-      → IsGiven profile clients_max (with_pair profile clients_max h p) p.1 (answer_to (after profile clients_max (with_pair profile clients_max h p)) p.1)
-      ⊎ HasRefusal p.1 (answer_to (after profile clients_max (with_pair profile clients_max h p)) p.1)
+      → IsGiven profile clients_max (grown (after profile clients_max) h p) p.1 (answer_to (after profile clients_max (grown (after profile clients_max) h p)) p.1)
+      ⊎ HasRefusal p.1 (answer_to (after profile clients_max (grown (after profile clients_max) h p)) p.1)
   answered_one h p legal lawful = parts (is_entered (after profile clients_max h) p)
     where
       parts : (b : Bool) → let m = cond b (h ++ entry_of (after profile clients_max h) p ∷ []) h in
@@ -109,7 +109,7 @@ module _ (profile : Profile) (clients_max : ℕ) where
   replies_of : (h : List Entry) (ps : List Pair) → IsLegal profile clients_max h → AreLawful ps → AreOf profile clients_max (accepted profile clients_max h ps) ps (replies_from profile clients_max h ps)
   replies_of h [] legal lawful = tt
   replies_of h (p ∷ ps) legal lawful =
-      let m = with_pair profile clients_max h p in (
+      let m = grown (after profile clients_max) h p in (
         answered_on m (accepted profile clients_max m ps) p.1 (answer_to (after profile clients_max m) p.1) (goes_on m ps) (answered_one h p legal lawful.0),
         replies_of m ps (legal_with h p legal lawful.0) lawful.1,
       )

@@ -11,18 +11,20 @@ use Rattle.tb_records.specs.declared.limits.Profile.TheVariants.{One, Two}
 use Rattle.tb_records.specs.declared.records.Account.{Account}
 use Rattle.tb_records.specs.declared.records.Transfer.{Transfer}
 use Rattle.tb_records.specs.Frames.{BodyFits}
-use Rattle.tb_records.specs.Messages.{count, item_count, items_max}
+use Rattle.tb_records.specs.Messages.{count, item_count}
 use Rattle.tb_records.specs.Ordered.{Each, put}
 use Rattle.tb_records.specs.RecordBytes.{IsAccount, IsTransfer, IsResult}
 use Rattle.tb_records.specs.ReplyFrames.{ReplyBodyFits}
+use Rattle.tb_records.specs.declared.limits.TheConstants.{ITEMS_MAX, LAST_MOMENT, AMOUNT_MAX}
 use Rattle.tb_records.proofs.ByKey.{each-find, each-put}
 use Rattle.tb_ledger.specs.Books.{Books, empty_books, posts, resolves, balancing_debit, balancing_credit, account_at, account_now, as_it_stands, stands_closed, transfer_at}
-use Rattle.tb_ledger.specs.Verdicts.{max_time, recorded_account, given_or, filled_amount, filled_from, filled, debit_room, credit_room, balanced_debit, balanced_amount, balanced_between, recorded_transfer}
-use Rattle.tb_ledger.specs.Batches.{Kind, Timed, Failure, is_final, account_events, transfer_events, timed_from, timed, joined, chains, failure_from, all_recorded, chain_outcome, chain_after, chains_after, batch_after, results_from}
+use Rattle.tb_ledger.specs.Verdicts.{recorded_account, given_or, filled_amount, filled_from, filled, balanced_debit, balanced_amount, balanced_between, recorded_transfer}
+use Rattle.tb_ledger.specs.Batches.{Kind, Timed, Failure, is_final, account_events, transfer_events, timed_from, timed, joined, chains, failure_from, all_recorded, chain_outcome, chain_after, chains_after, batch_after}
 use Rattle.tb_ledger.specs.Limits.{KeepsLimits}
 use Rattle.tb_ledger.specs.Sound.{Sound}
 use Rattle.tb_ledger.proofs.ChainLaws.{length-batch}
 use Rattle.tb_ledger.proofs.SoundLaws.{sound_later, sound_limits}
+use Rattle.tb_ledger.proofs.Common.{results_from}
 use Rattle.tb_machine.specs.Histories.{at_time, executed, found}
 use Rattle.tb_machine.proofs.CodesFit.{short_account, short_transfer, short_batch, results_fit}
 
@@ -88,7 +90,7 @@ fit_empty One = record { accounts = tt; transfers = tt }
 fit_empty Two = record { accounts = tt; transfers = tt }
 
 -- an account that is stamped
-stamped_account : (a : Account) (time : ℕ) → IsAccount a → time ≤ max_time → IsAccount (recorded_account a time)
+stamped_account : (a : Account) (time : ℕ) → IsAccount a → time ≤ LAST_MOMENT → IsAccount (recorded_account a time)
 stamped_account a time is in_range = record {
   id = is.id;
   debits_pending = is.debits_pending;
@@ -105,7 +107,7 @@ stamped_account a time is in_range = record {
   timestamp = omega arith;
 }
 
-fit_account : (B : Books) (a : Account) (time : ℕ) → RecordsFit B → IsAccount a → time ≤ max_time → RecordsFit (account_events.recorded B a time)
+fit_account : (B : Books) (a : Account) (time : ℕ) → RecordsFit B → IsAccount a → time ≤ LAST_MOMENT → RecordsFit (account_events.recorded B a time)
 fit_account B a time fits is in_range = record {
   accounts = each-put (λ (a : Account). a.id) IsAccount (recorded_account a time) B.accounts (stamped_account a time is in_range) fits.accounts;
   transfers = fits.transfers;
@@ -121,13 +123,11 @@ given_fits x y top mine its = by (x == 0)
     by false = mine
 
 amount_fits : (p t : Transfer) (top : ℕ) → p.amount < top → t.amount < top → filled_amount p t < top
-amount_fits p t top its mine = by (posts t) (t.amount == 340282366920938463463374607431768211455) (t.amount == 0)
+amount_fits p t top its mine = by (t.amount == (if posts t then AMOUNT_MAX else 0))
   where
-    by : (b whole none : Bool) → (if b then (if whole then p.amount else t.amount) else (if none then p.amount else t.amount)) < top
-    by true true none = its
-    by true false none = mine
-    by false whole true = its
-    by false whole false = mine
+    by : (b : Bool) → (if b then p.amount else t.amount) < top
+    by true = its
+    by false = mine
 
 filled_fits : (B : Books) (t : Transfer) → RecordsFit B → IsTransfer t → IsTransfer (filled B t)
 filled_fits B t fits is = by (resolves t) (transfer_at B t.pending_id) refl
@@ -159,14 +159,14 @@ filled_fits B t fits is = by (resolves t) (transfer_at B t.pending_id) refl
 debit_most : (d : Account) (t : Transfer) → balanced_debit d t ≤ t.amount
 debit_most d t = by (balancing_debit t)
   where
-    by : (b : Bool) → (if b then min t.amount (debit_room d) else t.amount) ≤ t.amount
+    by : (b : Bool) → (if b then min t.amount (d.credits_posted - (d.debits_posted + d.debits_pending)) else t.amount) ≤ t.amount
     by true = omega arith
     by false = omega arith
 
 balanced_most : (d c : Account) (t : Transfer) → balanced_amount d c t ≤ t.amount
 balanced_most d c t = by (balancing_credit t) (debit_most d t)
   where
-    by : (b : Bool) → balanced_debit d t ≤ t.amount → (if b then min (balanced_debit d t) (credit_room c) else balanced_debit d t) ≤ t.amount
+    by : (b : Bool) → balanced_debit d t ≤ t.amount → (if b then min (balanced_debit d t) (c.debits_posted - (c.credits_posted + c.credits_pending)) else balanced_debit d t) ≤ t.amount
     by true most = omega arith
     by false most = most
 
@@ -176,7 +176,7 @@ between_most (Some d) None t = omega arith
 between_most (Some d) (Some c) t = balanced_most d c t
 
 -- a transfer that is stamped, with another amount
-stamped_transfer : (t : Transfer) (amount time : ℕ) → IsTransfer t → amount < 2 ^ 128 → time ≤ max_time → IsTransfer (record t { amount = amount; timestamp = time })
+stamped_transfer : (t : Transfer) (amount time : ℕ) → IsTransfer t → amount < 2 ^ 128 → time ≤ LAST_MOMENT → IsTransfer (record t { amount = amount; timestamp = time })
 stamped_transfer t amount time is few in_range = record {
   id = is.id;
   debit_account_id = is.debit_account_id;
@@ -193,7 +193,7 @@ stamped_transfer t amount time is few in_range = record {
   timestamp = omega arith;
 }
 
-recorded_fits : (B : Books) (t : Transfer) (time : ℕ) → RecordsFit B → IsTransfer t → time ≤ max_time → IsTransfer (recorded_transfer B t time)
+recorded_fits : (B : Books) (t : Transfer) (time : ℕ) → RecordsFit B → IsTransfer t → time ≤ LAST_MOMENT → IsTransfer (recorded_transfer B t time)
 recorded_fits B t time fits is in_range = by (resolves t) (between_most (account_now B t.debit_account_id) (account_now B t.credit_account_id) t)
   where
     by : (b : Bool) → balanced_between (account_now B t.debit_account_id) (account_now B t.credit_account_id) t ≤ t.amount
@@ -203,7 +203,7 @@ recorded_fits B t time fits is in_range = by (resolves t) (between_most (account
         let amount = is.amount in
         stamped_transfer t (balanced_between (account_now B t.debit_account_id) (account_now B t.credit_account_id) t) time is (omega arith) in_range
 
-fit_transfer : (B : Books) (t : Transfer) (time : ℕ) → RecordsFit B → IsTransfer t → time ≤ max_time → RecordsFit (transfer_events.recorded B t time)
+fit_transfer : (B : Books) (t : Transfer) (time : ℕ) → RecordsFit B → IsTransfer t → time ≤ LAST_MOMENT → RecordsFit (transfer_events.recorded B t time)
 fit_transfer B t time fits is in_range = record {
   accounts = fits.accounts;
   transfers = each-put (λ (t : Transfer). t.id) IsTransfer (recorded_transfer B t time) B.transfers (recorded_fits B t time fits is in_range) fits.transfers;
@@ -220,7 +220,7 @@ at_any_time : (B : Books) (time : ℕ) → RecordsFit B → RecordsFit (at_time 
 at_any_time B time fits = record { accounts = fits.accounts; transfers = fits.transfers }
 
 -- what is executed of a body that fits
-pub fit_executed : (B : Books) (body : Body) (time : ℕ) → BodyFits body → count body ≤ time → time ≤ max_time → RecordsFit B → RecordsFit (executed B body time)
+pub fit_executed : (B : Books) (body : Body) (time : ℕ) → BodyFits body → count body ≤ time → time ≤ LAST_MOMENT → RecordsFit B → RecordsFit (executed B body time)
 fit_executed B (CreateAccounts events) time body few in_range fits =
     kept_batch account_events IsAccount time RecordsFit (λ B a at kept is low. fit_account B a at kept is (omega arith)) (λ B a code kept. kept) B events (omega arith) (each_of_all IsAccount events body) (at_any_time B time fits)
 fit_executed B (CreateTransfers events) time body few in_range fits =
@@ -274,11 +274,11 @@ account_fits B sound fits id a is = by (account_at B id) refl is
 transfer_fits : (B : Books) → RecordsFit B → (id : ℕ) (t : Transfer) → transfer_at B id ≡ Some t → IsTransfer t
 transfer_fits B fits id t is = each-find IsTransfer (λ (other : Transfer). other.id == id) t B.transfers fits.transfers is
 
-results_of : {E : Type 0} (kind : Kind E) (B : Books) (events : List E) (T : ℕ) → ((B : Books) (e : E) (time : ℕ) → kind.verdict B e time ≤ 99) → length events ≤ items_max → All IsResult (results_from 0 (batch_after kind B events T).codes)
+results_of : {E : Type 0} (kind : Kind E) (B : Books) (events : List E) (T : ℕ) → ((B : Books) (e : E) (time : ℕ) → kind.verdict B e time ≤ 99) → length events ≤ ITEMS_MAX → All IsResult (results_from 0 (batch_after kind B events T).codes)
 results_of kind B events T verdict few = all_of_each IsResult _ (results_fit 0 (batch_after kind B events T).codes (omega (arith, length-batch kind B events T)) (short_batch kind verdict B events T))
 
 -- what the reply to a body says
-pub found_fits : (B : Books) (body : Body) (time : ℕ) → item_count body ≤ items_max → B.time ≤ time → Sound B → RecordsFit B → ReplyBodyFits (found B body time)
+pub found_fits : (B : Books) (body : Body) (time : ℕ) → item_count body ≤ ITEMS_MAX → B.time ≤ time → Sound B → RecordsFit B → ReplyBodyFits (found B body time)
 found_fits B Register time few later sound fits = tt
 found_fits B (CreateAccounts events) time few later sound fits = results_of account_events B events time short_account few
 found_fits B (CreateTransfers events) time few later sound fits = results_of transfer_events B events time short_transfer few

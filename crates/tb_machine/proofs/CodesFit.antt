@@ -7,8 +7,9 @@ use Rattle.tb_records.specs.declared.records.EventResult.{EventResult}
 use Rattle.tb_records.specs.Ordered.{Each}
 use Rattle.tb_records.specs.RecordBytes.{IsResult}
 use Rattle.tb_ledger.specs.Books.{Books, resolves, account_now, transfer_at, state_of}
-use Rattle.tb_ledger.specs.Verdicts.{Test, first_of, first_code, account_own_tests, account_exists_tests, account_new_tests, account_code, transfer_own_tests, transfer_exists_tests, failed_tests, filled, id_code, resolve_own_tests, named_tests, closed_tests, closed_at, named_code, resolve_code, two_party_own_tests, pair_tests, amount_tests, balanced_amount, pair_code, single_code}
-use Rattle.tb_ledger.specs.Batches.{Kind, Timed, Failure, account_events, transfer_events, timed, chains, code_in_chain, failure_from, undone_code, undone, chain_outcome, chain_after, chains_after, batch_after, results_from}
+use Rattle.tb_ledger.specs.Verdicts.{Test, first_of, first_code, account_own_tests, account_exists_tests, account_new_tests, transfer_own_tests, transfer_exists_tests, failed_tests, filled, id_code, resolve_own_tests, named_tests, closed_tests, closed_at, named_code, resolve_code, two_party_own_tests, pair_tests, amount_tests, balanced_amount, pair_code, single_code}
+use Rattle.tb_ledger.specs.Batches.{Kind, Timed, Failure, account_events, transfer_events, timed, chains, code_in_chain, failure_from, undone_code, undone, chain_outcome, chain_after, chains_after, batch_after}
+use Rattle.tb_ledger.proofs.Common.{results_from}
 use Rattle.tb_machine.proofs.Rows.{some_one}
 use Rattle.tb_machine.proofs.Judging.{both_of}
 
@@ -42,16 +43,13 @@ codes_short (code ∷ codes) each = by (code == 0) each.0 (codes_short codes eac
 
 -- verdicts
 
-code_of_account : (present : Option Account) (a : Account) → IsShort (account_code present a)
-code_of_account present a = codes_short (first_of (account_own_tests a) ∷ first_of (account_exists_tests present a) ∷ first_of (account_new_tests a) ∷ [])
-    (first_short (account_own_tests a) refl, (first_short (account_exists_tests present a) (there present), (first_short (account_new_tests a) refl, tt)))
+pub short_account : (B : Books) (a : Account) (time : ℕ) → IsShort (account_events.verdict B a time)
+short_account B a time = codes_short (first_of (account_own_tests a) ∷ first_of (account_exists_tests (account_now B a.id) a) ∷ first_of (account_new_tests a) ∷ [])
+    (first_short (account_own_tests a) refl, (first_short (account_exists_tests (account_now B a.id) a) (there (account_now B a.id)), (first_short (account_new_tests a) refl, tt)))
   where
     there : (o : Option Account) → short (account_exists_tests o a) ≡ true
     there None = refl
     there (Some e) = refl
-
-pub short_account : (B : Books) (a : Account) (time : ℕ) → IsShort (account_events.verdict B a time)
-short_account B a time = code_of_account (account_now B a.id) a
 
 short_id : (B : Books) (t : Transfer) → IsShort (id_code B t)
 short_id B t = codes_short (first_of (transfer_own_tests t) ∷ first_of (transfer_exists_tests (transfer_at B t.id) (filled B t)) ∷ first_of (failed_tests B.failed t) ∷ [])

@@ -13,8 +13,8 @@ use Rattle.tb_records.specs.Messages.{Answer}
 use Rattle.tb_records.specs.Ordered.{Each}
 use Rattle.tb_records.specs.ReplyFrames.{reply_bytes, IsReply}
 use Rattle.tb_records.specs.Transport.{Input, Output, Sent}
+use Rattle.tb_records.specs.declared.limits.TheConstants.{LAST_MOMENT}
 use Rattle.tb_ledger.specs.Books.{profile_of}
-use Rattle.tb_ledger.specs.Verdicts.{max_time}
 use Rattle.tb_sessions.specs.declared.rows.Row.{Row}
 use Rattle.tb_sessions.specs.Judged.{row_of}
 use Rattle.tb_machine.specs.declared.entries.Entry.{Entry}
@@ -191,7 +191,7 @@ unfolding replaying_none
 replay_nowhere head before middle o answer counted = worked_halted (replaying_none head (start head.profile head.clients_max) before middle o refl answer counted) (refl, refl)
 
 -- a history has fewer entries than can be counted
-pub replay_bounded : (k n : ℕ) (S : State) (before middle : Input) (first written : Output) → Replaying k S before middle first written → n ≡ S.commit → n ≤ max_time → k ≤ 9223372036854775808
+pub replay_bounded : (k n : ℕ) (S : State) (before middle : Input) (first written : Output) → Replaying k S before middle first written → n ≡ S.commit → n ≤ LAST_MOMENT → k ≤ 9223372036854775808
 replay_bounded k n S before middle first written r is at_most = by r.items.place r.stands.few
   where
     commit : S.commit ≡ length r.items.history

@@ -5,8 +5,8 @@ use Rattle.tb_records.specs.declared.limits.Profile.TheVariants.{One}
 use Rattle.tb_records.specs.DumpBytes.{head_bytes, mark_bytes, entry_bytes, IsClients}
 use Rattle.tb_records.specs.Inputs.{IsTimed}
 use Rattle.tb_records.specs.Transport.{Input, Output, Sent}
+use Rattle.tb_records.specs.declared.limits.TheConstants.{LAST_MOMENT}
 use Rattle.tb_ledger.specs.Books.{profile_of}
-use Rattle.tb_ledger.specs.Verdicts.{max_time}
 use Rattle.tb_sessions.specs.declared.rows.Row.{Row}
 use Rattle.tb_sessions.specs.Judged.{row_of}
 use Rattle.tb_machine.specs.declared.entries.Entry.{Entry}
@@ -14,7 +14,7 @@ use Rattle.tb_machine.specs.Histories.{State, start, step, to_two, row_at}
 use Rattle.tb_machine.specs.Scripts.{Pair, entry_of, has_time}
 use Rattle.tb_machine.specs.Runs.{Reads, is_new_in, PairAnswered}
 use Rattle.tb_machine.specs.Dumps.{dumped, history_bytes, IsDumpedEntry, IsPlace, DumpSpells, after_with, place_in, after_at}
-use Rattle.tb_machine.specs.DumpRuns.{marks_at, mark_before, changed_profile, added_bytes, DumpsPair, history_of, DumpsHistory}
+use Rattle.tb_machine.specs.DumpRuns.{marks_at, mark_before, changed_profile, added_bytes, DumpsPair, history_made, DumpsHistory}
 use Rattle.tb_machine.proofs.Rows.{some_one, each_snoc}
 use Rattle.tb_machine.proofs.Lawful.{executed_time}
 use Rattle.tb_machine.proofs.Running.{reads_none, reads_one, reads_snoc, sends_none, history_snoc, times_snoc, Working, Joined, Joins}
@@ -148,10 +148,10 @@ module _ (clients_max : ℕ) (at : Option ℕ) where
   -- a dump's loop: k pairs were dumped
 
   abbrev pub Stands : ℕ → List Pair → Type 0
-  Stands k ps = (length ps ≡ k) × Kept (history_of clients_max at ps)
+  Stands k ps = (length ps ≡ k) × Kept (history_made clients_max at ps)
 
   abbrev pub Dumping : ℕ → State → Input → Input → Output → Output → Type 0
-  Dumping = Working Reads (DumpsHistory clients_max at) (λ ps. behind (history_of clients_max at ps)) Stands
+  Dumping = Working Reads (DumpsHistory clients_max at) (λ ps. behind (history_made clients_max at ps)) Stands
 
   pub dumping_none : (S : State) (i : Input) (first written : Output) → IsClients clients_max → S ≡ start One clients_max → Sent (head_bytes One clients_max) first written → Dumping 0 S i i first written
   dumping_none S i first written few is sent = record {
@@ -184,10 +184,10 @@ module _ (clients_max : ℕ) (at : Option ℕ) where
   module _ (k : ℕ) (ps : List Pair) (T : State) (bytes : List ℕ) (before after : Input) (written next : Output) (p : Pair) (stands : Stands k ps) (gives : DumpsHistory clients_max at ps bytes)
       (read : Reads (ps ++ p ∷ []) before after) where
     abbrev h : List Entry
-    h = history_of clients_max at ps
+    h = history_made clients_max at ps
 
     abbrev Goal : Type 0
-    Goal = Joined Reads (DumpsHistory clients_max at) (λ qs. behind (history_of clients_max at qs)) Stands (k + 1) T bytes before after written next
+    Goal = Joined Reads (DumpsHistory clients_max at) (λ qs. behind (history_made clients_max at qs)) Stands (k + 1) T bytes before after written next
 
     more : length (ps ++ p ∷ []) ≡ k + 1
     more = omega (arith, stands.0, length-append ps (p ∷ []))
@@ -195,7 +195,7 @@ module _ (clients_max : ℕ) (at : Option ℕ) where
     -- a pair that is not new
     joins_known : is_new_in (behind h) p ≡ false → T ≡ behind h → next ≡ written → Goal
     joins_known known stays silent =
-        let same : history_of clients_max at (ps ++ p ∷ []) ≡ h = history_snoc behind ps p ∙ ap (λ b. cond (b && has_time (behind h) p) (h ++ entry_of (behind h) p ∷ []) h) known in
+        let same : history_made clients_max at (ps ++ p ∷ []) ≡ h = history_snoc behind ps p ∙ ap (λ b. cond (b && has_time (behind h) p) (h ++ entry_of (behind h) p ∷ []) h) known in
         record {
           items = ps ++ p ∷ [];
           state_is = stays ∙ ap behind (sym same);
@@ -215,8 +215,8 @@ module _ (clients_max : ℕ) (at : Option ℕ) where
     joins_new fits new timely stepped sent =
         let e : Entry = entry_of (behind h) p in
         let kept : Kept h = stands.1 in
-        let same : history_of clients_max at (ps ++ p ∷ []) ≡ h ++ e ∷ [] = history_snoc behind ps p ∙ ap (λ b. cond b (h ++ e ∷ []) h) (ap (λ b. b && has_time (behind h) p) new ∙ timely) in
-        let in_range : e.time ≤ max_time = leb-true e.time max_time timely in
+        let same : history_made clients_max at (ps ++ p ∷ []) ≡ h ++ e ∷ [] = history_snoc behind ps p ∙ ap (λ b. cond b (h ++ e ∷ []) h) (ap (λ b. b && has_time (behind h) p) new ∙ timely) in
+        let in_range : e.time ≤ LAST_MOMENT = leb-true e.time LAST_MOMENT timely in
         record {
           items = ps ++ p ∷ [];
           state_is = stepped ∙ ap (λ n. step (changed_profile (marks_at at n) (behind h)) e) kept.count ∙ sym (at_snoc clients_max at h e) ∙ ap behind (sym same);
@@ -233,7 +233,7 @@ module _ (clients_max : ℕ) (at : Option ℕ) where
           sent = subst (λ n. Sent (mark_before (marks_at at n) ++ dumped e) written next) kept.count sent;
         }
 
-  pub dumping_joins : Joins Reads (DumpsHistory clients_max at) (λ ps. behind (history_of clients_max at ps)) Stands PairAnswered (DumpsPair at)
+  pub dumping_joins : Joins Reads (DumpsHistory clients_max at) (λ ps. behind (history_made clients_max at ps)) Stands PairAnswered (DumpsPair at)
   dumping_joins k ps T bytes before middle after written next stands read gives n =
       let p = n.item in
       let all = reads_snoc ps p before middle after read (reads_one p middle after n.read.1 n.read.2) in

@@ -1,12 +1,13 @@
 -- What a class says of a client's row and a request, and what it says of an entry that it may come next.
-use Rattle.std.proofs.Common.{◌≡◌, ◌+◌, ◌<◌, ◌≤◌, ◌⊎◌, inl, inr, Bool, true, false, ◌&&◌, cond, [], ◌∷◌, Option, Some, None, refl, ap, IsTrue, arith, eqb, ltb, leb, eqb-true, ltb-false, lt-ltb, leb-true, eq-eqb, le-leb, ⊎_elim}
+use Rattle.std.proofs.Common.{◌≡◌, ◌+◌, ◌<◌, ◌≤◌, ◌⊎◌, inl, inr, Bool, true, false, ◌&&◌, cond, Option, Some, None, refl, ap, IsTrue, arith, eqb, ltb, leb, eqb-true, ltb-false, lt-ltb, leb-true, eq-eqb, le-leb, ⊎_elim}
 use Rattle.tb_records.specs.Messages.{Message, is_register}
 use Rattle.tb_records.specs.Same.{same_body}
-use Rattle.tb_ledger.specs.Verdicts.{max_time}
+use Rattle.tb_records.specs.declared.limits.TheConstants.{LAST_MOMENT}
 use Rattle.tb_sessions.specs.declared.rows.Row.{Row}
 use Rattle.tb_sessions.specs.declared.classes.Class.{Class}
 use Rattle.tb_sessions.specs.declared.classes.Class.TheVariants.{New, Repeat, NoSession, SessionTooLow, NewerSession, Older, Collision, NewerRequest}
-use Rattle.tb_sessions.specs.Judged.{first_class, class_by, class_of}
+use Rattle.tb_sessions.specs.Judged.{class_of}
+use Rattle.tb_sessions.proofs.ByRow.{class_by}
 use Rattle.tb_machine.specs.declared.entries.Entry.{Entry}
 use Rattle.tb_machine.specs.Histories.{State, least_time, is_new, is_lawful, fits}
 
@@ -19,7 +20,7 @@ new_of New e = refl
 new_of class e = absurd cc
 
 abbrev by_lines : (low newer older same other next : Bool) → Class
-by_lines low newer older same other next = first_class NewerRequest ((low, SessionTooLow) ∷ (newer, NewerSession) ∷ (older, Older) ∷ (same, Repeat) ∷ (other, Collision) ∷ (next, New) ∷ [])
+by_lines low newer older same other next = cond low SessionTooLow (cond newer NewerSession (cond older Older (cond same Repeat (cond other Collision (cond next New NewerRequest)))))
 
 new_line : (low newer older same other next : Bool) → by_lines low newer older same other next ≡ New → (low ≡ false) × (newer ≡ false) × (next ≡ true)
 new_line false false false false false true e = (refl, refl, refl)
@@ -32,7 +33,7 @@ repeat_line low newer older same other next e = absurd cc
 
 -- the class of a request whose client has a row: it is a register or not, and the row's last request is a register or not
 abbrev by_row : (register first low newer older same other next : Bool) → Class
-by_row register first low newer older same other next = cond register (first_class Older ((first, Repeat) ∷ [])) (by_lines low newer older same other next)
+by_row register first low newer older same other next = cond register (cond first Repeat Older) (by_lines low newer older same other next)
 
 new_row : (register first low newer older same other next : Bool) → by_row register first low newer older same other next ≡ New → (register ≡ false) × (low ≡ false) × (newer ≡ false) × (next ≡ true)
 new_row true true low newer older same other next e = absurd cc
@@ -137,7 +138,7 @@ out_by (Some row) r numbered later = inr (low_row (is_register r.body) (first ro
 pub record MayCome (S : State) (e : Entry) : Type 0 where
   pub commit : e.commit ≡ S.commit + 1
   pub late_enough : least_time S e.request ≤ e.time
-  pub in_range : e.time ≤ max_time
+  pub in_range : e.time ≤ LAST_MOMENT
   pub lawful : IsTrue (is_lawful e.request)
   pub new : class_of S.rows e.request ≡ New
 
@@ -145,16 +146,16 @@ pub may_come : (S : State) (e : Entry) → IsTrue (fits S e) → MayCome S e
 may_come S e legal =
     let a = both_of _ (is_new (class_of S.rows e.request)) legal in
     let b = both_of _ (is_lawful e.request) a.0 in
-    let d = both_of _ (leb e.time max_time) b.0 in
+    let d = both_of _ (leb e.time LAST_MOMENT) b.0 in
     let f = both_of (eqb e.commit (S.commit + 1)) (leb (least_time S e.request) e.time) d.0 in
     record {
       commit = eqb-true e.commit (S.commit + 1) f.0;
       late_enough = leb-true (least_time S e.request) e.time f.1;
-      in_range = leb-true e.time max_time d.1;
+      in_range = leb-true e.time LAST_MOMENT d.1;
       lawful = b.1;
       new = new_of (class_of S.rows e.request) a.1;
     }
 
 -- a new request with a time for it may come next
 pub comes : (S : State) (e : Entry) → MayCome S e → IsTrue (fits S e)
-comes S e may = rw (eq-eqb e.commit (S.commit + 1) may.commit, le-leb (least_time S e.request) e.time may.late_enough, le-leb e.time max_time may.in_range, may.lawful, may.new) refl
+comes S e may = rw (eq-eqb e.commit (S.commit + 1) may.commit, le-leb (least_time S e.request) e.time may.late_enough, le-leb e.time LAST_MOMENT may.in_range, may.lawful, may.new) refl

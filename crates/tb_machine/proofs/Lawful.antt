@@ -6,7 +6,8 @@ use Rattle.tb_records.specs.declared.bodies.Body.TheVariants.{Register, CreateAc
 use Rattle.tb_records.specs.declared.bodies.ReplyBody.{ReplyBody}
 use Rattle.tb_records.specs.declared.replies.Status.TheVariants as status
 use Rattle.tb_records.specs.declared.faults.FrameFault.TheVariants as fault
-use Rattle.tb_records.specs.Messages.{Message, operation, item_count, items_max, is_register, first_fault, answered, kind_of, kind_for, answer_count, IsLawful, IsRight}
+use Rattle.tb_records.specs.Messages.{Message, operation, item_count, is_register, first_fault, answered, kind_of, kind_for, answer_count, IsLawful, IsRight}
+use Rattle.tb_records.specs.declared.limits.TheConstants.{ITEMS_MAX}
 use Rattle.tb_ledger.specs.Books.{Books, account_now, transfer_at}
 use Rattle.tb_ledger.specs.Batches.{account_events, transfer_events}
 use Rattle.tb_ledger.proofs.ResultLaws.{length-results}
@@ -19,7 +20,7 @@ pub record LawfulNumbers (r : Message) : Type 0 where
   pub register : is_register r.body ≡ true → r.request ≡ 0
   pub session : is_register r.body ≡ true → r.session ≡ 0
   pub numbered : is_register r.body ≡ false → r.request ≢ 0
-  pub few : item_count r.body ≤ items_max
+  pub few : item_count r.body ≤ ITEMS_MAX
 
 lines : (client register session number many : Bool)
     → first_fault ((client, fault.ClientZero) ∷ (register && not (session && number), fault.RegisterNumbers) ∷ (not register && number, fault.RequestZero) ∷ (many, fault.TooMany) ∷ []) ≡ None
@@ -30,13 +31,13 @@ lines client register session number many e = absurd cc
 
 pub lawful_numbers : (r : Message) → IsLawful r → LawfulNumbers r
 lawful_numbers r lawful =
-    let line = lines (eqb r.client 0) (is_register r.body) (eqb r.session 0) (eqb r.request 0) (ltb items_max (item_count r.body)) lawful in
+    let line = lines (eqb r.client 0) (is_register r.body) (eqb r.session 0) (eqb r.request 0) (ltb ITEMS_MAX (item_count r.body)) lawful in
     record {
       client = apart line.0;
       register = λ is. eqb-true r.request 0 (line.1 is).1;
       session = λ is. eqb-true r.session 0 (line.1 is).0;
       numbered = λ is. apart (line.2 is);
-      few = ltb-false items_max (item_count r.body) line.3;
+      few = ltb-false ITEMS_MAX (item_count r.body) line.3;
     }
   where
     apart : {a b : ℕ} → eqb a b ≡ false → a ≢ b
@@ -45,7 +46,7 @@ lawful_numbers r lawful =
 -- the reply of a register names the session that it made, any other's a session from before its commit
 pub right_answer : (client session request commit : ℕ) (body : Body) (answer : ReplyBody) → client ≢ 0 → session ≢ 0
     → (is_register body ≡ true → (request ≡ 0) × (session ≡ commit)) → (is_register body ≡ false → (request ≢ 0) × (session < commit))
-    → kind_of answer ≡ kind_for (operation body) → answer_count answer ≤ items_max
+    → kind_of answer ≡ kind_for (operation body) → answer_count answer ≤ ITEMS_MAX
     → IsRight (answered client session request (operation body) status.Reply commit answer)
 right_answer client session request commit body answer some began register numbered kind few = by body register numbered kind
   where
@@ -55,8 +56,8 @@ right_answer client session request commit body answer some began register numbe
     some_session : eqb session 0 ≡ false
     some_session = ne_eqb session 0 began
 
-    not_many : ltb items_max (answer_count answer) ≡ false
-    not_many = le-ltb items_max (answer_count answer) few
+    not_many : ltb ITEMS_MAX (answer_count answer) ≡ false
+    not_many = le-ltb ITEMS_MAX (answer_count answer) few
 
     by : (body : Body) → (is_register body ≡ true → (request ≡ 0) × (session ≡ commit)) → (is_register body ≡ false → (request ≢ 0) × (session < commit)) → kind_of answer ≡ kind_for (operation body) → IsRight (answered client session request (operation body) status.Reply commit answer)
     by Register register numbered kind = let is = register refl in rw (some_client, eq-eqb request 0 is.0, some_session, eq-eqb session commit is.1, kind, not_many) refl

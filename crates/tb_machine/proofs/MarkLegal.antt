@@ -4,18 +4,18 @@ use Rattle.std.proofs.lemmas.Bool.Decides.{nat_tests}
 use Rattle.tb_records.specs.declared.limits.Profile.{Profile}
 use Rattle.tb_records.specs.declared.limits.Profile.TheVariants.{One}
 use Rattle.tb_records.specs.Ordered.{Each}
+use Rattle.tb_records.specs.declared.limits.TheConstants.{LAST_MOMENT}
 use Rattle.tb_machine.specs.declared.entries.Entry.{Entry}
 use Rattle.tb_machine.specs.declared.restoring.RestoreFault.{RestoreFault}
 use Rattle.tb_machine.specs.declared.restoring.Unfit.{Unfit}
 use Rattle.tb_machine.specs.declared.restoring.Unfit.TheVariants.{Commit, Time, NotNew, NoMemory}
-use Rattle.tb_ledger.specs.Verdicts.{max_time}
 use Rattle.tb_sessions.specs.Judged.{class_of}
 use Rattle.tb_machine.specs.Histories.{State, time_of, is_new, is_lawful, fits, after}
 use Rattle.tb_machine.specs.Scripts.{Pair, entry_of, has_time, is_entered, grown}
 use Rattle.tb_machine.specs.ScriptLaws.{AreLawful}
 use Rattle.tb_machine.specs.Dumps.{IsPlace, IsDumpedEntry, after_with, IsLegalWith, place_in, after_at, accepted_at}
 use Rattle.tb_machine.specs.MarkedLaws.{next_in, NextIsLegalWith, MovedIsLegalWith, AcceptedIsLegalWith, DumpedIsLegal}
-use Rattle.tb_machine.specs.Restoring.{cause_of, IsCause, IsBarred, RestoresNext, Restores, RestoresHistory}
+use Rattle.tb_machine.specs.Restoring.{cause_of, IsUnfitCause, IsBarred, RestoresNext, Restores, RestoresHistory}
 use Rattle.tb_machine.proofs.Judging.{both_of, new_of, MayCome, comes}
 use Rattle.tb_machine.proofs.Legal.{legal_snoc}
 use Rattle.tb_machine.proofs.DumpLaws.{each_split}
@@ -36,7 +36,7 @@ entry_comes S p lawful entered =
     record {
       commit = refl;
       late_enough = omega arith;
-      in_range = leb-true (time_of S p.0 p.1) max_time parts.1;
+      in_range = leb-true (time_of S p.0 p.1) LAST_MOMENT parts.1;
       lawful = lawful;
       new = new_of (class_of S.rows p.1) parts.0;
     }
@@ -127,7 +127,7 @@ module _ (profile : Profile) (clients_max : ℕ) (mark : Option ℕ) (h : List E
     numbered : (after_with profile clients_max mark h).commit ≡ length h
     numbered = (whole_alike profile clients_max mark h).commit ∙ (reached_with profile clients_max mark h legal).count
 
-    is_barred : (cause : Unfit) → IsCause cause (cause_of (after_with profile clients_max mark h) e) → IsBarred profile clients_max mark h e cause
+    is_barred : (cause : Unfit) → IsUnfitCause cause (cause_of (after_with profile clients_max mark h) e) → IsBarred profile clients_max mark h e cause
     is_barred NoMemory none = legal_with_snoc profile clients_max mark h e place legal (passes (after_with profile clients_max mark h) e lawful none)
     is_barred Commit is = barred Commit is
     is_barred Time is = barred Time is

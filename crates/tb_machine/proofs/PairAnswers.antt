@@ -1,5 +1,5 @@
 -- One pair: what its entry leaves for its request, and the answers that the rows give.
-use Rattle.std.proofs.Common.{◌≡◌, ◌≢◌, ◌⊎◌, inl, inr, ℕ, ◌+◌, Bool, true, false, cond, ◌&&◌, ◌==◌, List, [], ◌∷◌, is_some, Option, Some, None, Result, Ok, Err, OnOk, refl, sym, ap, ◌∙◌, subst, arith, eqb, ltb, eq-eqb}
+use Rattle.std.proofs.Common.{◌≡◌, ◌≢◌, ◌⊎◌, inl, inr, ℕ, ◌+◌, Bool, true, false, cond, ◌&&◌, ◌==◌, List, is_some, Option, Some, None, Result, Ok, Err, OnOk, refl, sym, ap, ◌∙◌, subst, arith, eqb, ltb, eq-eqb}
 use Rattle.std.proofs.lemmas.Bool.Decides.{nat_tests}
 use Rattle.tb_records.specs.Messages.{Message, Answer, is_register, status_code, IsLawful}
 use Rattle.tb_records.specs.Same.{same_body}
@@ -8,8 +8,9 @@ use Rattle.tb_records.specs.Ordered.{put, replaced}
 use Rattle.tb_sessions.specs.declared.rows.Row.{Row}
 use Rattle.tb_sessions.specs.declared.classes.Class.{Class}
 use Rattle.tb_sessions.specs.declared.classes.Class.TheVariants.{New, Repeat, SessionTooLow, NewerSession, Older, Collision, NewerRequest}
-use Rattle.tb_sessions.specs.Judged.{client_of, row_of, first_class, class_beside, class_by, class_of}
+use Rattle.tb_sessions.specs.Judged.{row_of, class_beside, class_of, client_of}
 use Rattle.tb_sessions.specs.Admission.{driven_out, without, admitted}
+use Rattle.tb_sessions.proofs.ByRow.{class_by}
 use Rattle.tb_machine.specs.declared.entries.Entry.{Entry}
 use Rattle.tb_machine.specs.Histories.{State, is_new, session_of, row_at, reply_at, step, status_of, refusal, answer_by, answer_to}
 use Rattle.tb_machine.specs.Scripts.{Pair, entry_of, has_time, after_pair}
@@ -39,7 +40,7 @@ row_after S e = row_admitted S.clients_max S.rows (row_at S e)
 
 by_lines_repeat : (register first low newer older same other next : Bool)
     → (register ≡ true → first ≡ true) → (register ≡ false → (low ≡ false) × (newer ≡ false) × (older ≡ false) × (same ≡ true))
-    → cond register (first_class Older ((first, Repeat) ∷ [])) (first_class NewerRequest ((low, SessionTooLow) ∷ (newer, NewerSession) ∷ (older, Older) ∷ (same, Repeat) ∷ (other, Collision) ∷ (next, New) ∷ [])) ≡ Repeat
+    → cond register (cond first Repeat Older) (cond low SessionTooLow (cond newer NewerSession (cond older Older (cond same Repeat (cond other Collision (cond next New NewerRequest)))))) ≡ Repeat
 by_lines_repeat true true low newer older same other next one all = refl
 by_lines_repeat true false low newer older same other next one all = let e : false ≡ true = one refl in absurd cc
 by_lines_repeat false first true newer older same other next one all = let e = (all refl).0 in absurd cc

@@ -3,15 +3,15 @@ use Rattle.std.proofs.Common.{◌≡◌, ℕ, ◌+◌, ◌≤◌, max, inl, inr,
 use Rattle.tb_records.specs.declared.limits.Profile.{Profile}
 use Rattle.tb_records.specs.Messages.{Message, is_register}
 use Rattle.tb_records.specs.Ordered.{Each}
+use Rattle.tb_records.specs.declared.limits.TheConstants.{LAST_MOMENT}
 use Rattle.tb_records.proofs.ByKey.{each-map}
-use Rattle.tb_ledger.specs.Verdicts.{max_time}
 use Rattle.tb_sessions.specs.declared.classes.Class.TheVariants.{New}
 use Rattle.tb_sessions.specs.Judged.{row_of, class_of}
 use Rattle.tb_machine.specs.declared.entries.Entry.{Entry}
 use Rattle.tb_machine.specs.Histories.{State, time_of, is_new, step, IsLegal, after, answer_to}
-use Rattle.tb_machine.specs.Scripts.{Pair, entry_of, has_time, is_entered, after_pair, with_pair, accepted, replies_from, replies_to}
+use Rattle.tb_machine.specs.Scripts.{Pair, entry_of, has_time, is_entered, after_pair, accepted, replies_from, replies_to, grown}
 use Rattle.tb_machine.specs.Runs.{HasTimes}
-use Rattle.tb_machine.specs.ReplicaLaws.{FromHere, Prefix, IsIn, IsKept, SameAgain, CopyChangesNothing, ticks, all_ticks, Timely}
+use Rattle.tb_machine.specs.ReplicaLaws.{FromHere, ReplyPrefix, IsIn, IsOfKeptClient, SameAgain, CopyChangesNothing, ticks, all_ticks, Timely}
 use Rattle.tb_machine.proofs.Legal.{fold_append}
 use Rattle.tb_machine.proofs.Judging.{both_of, new_of}
 use Rattle.tb_machine.proofs.Lawful.{executed_time}
@@ -22,12 +22,12 @@ use Rattle.tb_machine.proofs.Running.{after_with_pair}
 -- a script in two parts
 
 pub from_here : FromHere
-from_here profile clients_max h ps qs = fold_append (with_pair profile clients_max) h ps qs
+from_here profile clients_max h ps qs = fold_append (grown (after profile clients_max)) h ps qs
 
-pub prefix : Prefix
+pub prefix : ReplyPrefix
 prefix profile clients_max h [] qs = refl
 prefix profile clients_max h (p ∷ ps) qs =
-    let m = with_pair profile clients_max h p in
+    let m = grown (after profile clients_max) h p in
     ap (λ l. answer_to (after profile clients_max m) p.1 ∷ l) (prefix profile clients_max m ps qs)
 
 -- a request that comes again
@@ -45,11 +45,11 @@ module _ (profile : Profile) (clients_max : ℕ) (h : List Entry) (p : Pair) (le
       (subst (λ (l : List Entry). class_of (after profile clients_max l).rows there.entry.request ≡ New) there.whole
       (subst (λ (r : Message). class_of S.rows r ≡ New) (sym there.request) new))))
 
-  never_new : IsKept S p.1 → class_of S.rows p.1 ≡ New → ⊥
+  never_new : IsOfKeptClient S p.1 → class_of S.rows p.1 ≡ New → ⊥
   never_new (inl numbered) new = let is = again new in absurd cc
   never_new (inr row) new = let is = again new in let found = row.1 in absurd cc
 
-  unchanged : IsKept S p.1 → with_pair profile clients_max h p ≡ h
+  unchanged : IsOfKeptClient S p.1 → grown (after profile clients_max) h p ≡ h
   unchanged kept = by (is_entered S p) refl
     where
       by : (b : Bool) → is_entered S p ≡ b → cond b (h ++ entry_of S p ∷ []) h ≡ h
@@ -62,7 +62,7 @@ same_again profile clients_max h p legal there kept = unchanged profile clients_
 pub copy_changes_nothing : CopyChangesNothing
 copy_changes_nothing profile clients_max ps qs p lawful there kept =
     let h = accepted profile clients_max [] ps in
-    let same : with_pair profile clients_max h p ≡ h = unchanged profile clients_max h p (accepted_is_legal profile clients_max ps lawful) there kept in (
+    let same : grown (after profile clients_max) h p ≡ h = unchanged profile clients_max h p (accepted_is_legal profile clients_max ps lawful) there kept in (
       prefix profile clients_max [] ps qs,
       prefix profile clients_max [] ps (p ∷ qs)
           ∙ ap (λ (l : List Entry). replies_to profile clients_max ps ++ answer_to (after profile clients_max l) p.1 ∷ replies_from profile clients_max l qs) same,
@@ -81,13 +81,13 @@ time_on S p = by (is_entered S p)
     by false = omega arith
 
 module _ (profile : Profile) (clients_max : ℕ) where
-  times : (h : List Entry) (ps : List Pair) (latest : ℕ) → (after profile clients_max h).books.time ≤ latest → Each (λ (p : Pair). p.0 ≤ latest) ps → latest + all_ticks ps ≤ max_time → HasTimes (after profile clients_max) h ps
+  times : (h : List Entry) (ps : List Pair) (latest : ℕ) → (after profile clients_max h).books.time ≤ latest → Each (λ (p : Pair). p.0 ≤ latest) ps → latest + all_ticks ps ≤ LAST_MOMENT → HasTimes (after profile clients_max) h ps
   times h [] latest behind early within = tt
   times h (p ∷ ps) latest behind early within =
       let S : State = after profile clients_max h in
       let low : time_of S p.0 p.1 ≤ latest + ticks p = omega (arith, early.0, behind) in (
-        λ new. le-leb (time_of S p.0 p.1) max_time (omega (arith, low, within)),
-        times (with_pair profile clients_max h p) ps (latest + ticks p)
+        λ new. le-leb (time_of S p.0 p.1) LAST_MOMENT (omega (arith, low, within)),
+        times (grown (after profile clients_max) h p) ps (latest + ticks p)
             (subst (λ (T : State). T.books.time ≤ latest + ticks p) (sym (after_with_pair profile clients_max h p)) (omega (arith, low, behind, time_on S p)))
             (each-map (λ (q : Pair). q.0 ≤ latest) (λ (q : Pair). q.0 ≤ latest + ticks p) ps (λ q le. omega (arith, le)) early.1)
             (omega (arith, within)),

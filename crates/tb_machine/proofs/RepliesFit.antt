@@ -9,7 +9,7 @@ use Rattle.tb_records.specs.declared.replies.Status.{Status}
 use Rattle.tb_records.specs.Frames.{IsRequest}
 use Rattle.tb_records.specs.Messages.{Message, Answer, operation, is_register, answered, status_code, IsRight}
 use Rattle.tb_records.specs.Ordered.{Each}
-use Rattle.tb_records.specs.ReplyFrames.{reply_bytes, reply_body_bytes, header_of_reply, IsReply}
+use Rattle.tb_records.specs.ReplyFrames.{reply_bytes, reply_body_bytes, IsReply, reply_header_bytes}
 use Rattle.tb_records.proofs.ReplyLaws.{one_reading}
 use Rattle.tb_records.proofs.ReplyPlaces.{length-reply_header}
 use Rattle.tb_ledger.specs.Sound.{Sound}
@@ -22,7 +22,7 @@ use Rattle.tb_sessions.proofs.LaterRows.{each_admitted}
 use Rattle.tb_machine.specs.declared.entries.Entry.{Entry}
 use Rattle.tb_machine.specs.Histories.{State, start, fits, row_at, reply_at, step, to_two, LegalFrom, IsLegal, after, status_of, refusal, answer_by, answer_to}
 use Rattle.tb_machine.specs.Dumps.{replies_along, marked_after, after_with, IsLegalWith, after_at, accepted_at}
-use Rattle.tb_machine.specs.Scripts.{Pair, entry_of, is_entered, grown, with_pair, replies_from, replies_to}
+use Rattle.tb_machine.specs.Scripts.{Pair, entry_of, is_entered, grown, replies_from, replies_to}
 use Rattle.tb_machine.specs.private.Sound.{IsSound}
 use Rattle.tb_machine.specs.ReplyLaws.{AreRequests, HoldRequests, RepliesFit, RepliesReadBack, AnswersFit, GivenFit, AcceptedAreRequests}
 use Rattle.tb_machine.proofs.Rows.{each_snoc, row_found}
@@ -190,7 +190,7 @@ module _ (profile : Profile) (clients_max : ℕ) where
   from_fit : (h : List Entry) (ps : List Pair) → IsLegal profile clients_max h → HoldRequests h → AreRequests ps → Each IsReply (replies_from profile clients_max h ps)
   from_fit h [] legal are requests = tt
   from_fit h (p ∷ ps) legal are requests =
-      let m = with_pair profile clients_max h p in
+      let m = grown (after profile clients_max) h p in
       let more = legal_with profile clients_max h p legal (ap is_none requests.0.lawful) in
       let holds = held_by (is_entered (after profile clients_max h) p) h (entry_of (after profile clients_max h) p) are requests.0 in (
         answer_fits (after profile clients_max m) p.1 (fitting_plain profile clients_max m more holds) requests.0,
@@ -207,7 +207,7 @@ replies_fit profile clients_max ps requests = from_fit profile clients_max [] ps
 
 frame_long : (a : Answer) (bytes : List ℕ) → length (reply_bytes a ++ bytes) ≢ 0
 frame_long a bytes none =
-    omega (arith, none, length-append (reply_bytes a) bytes, length-append (header_of_reply a (length (reply_body_bytes a.body))) (reply_body_bytes a.body), length-reply_header a.client a.session a.request a.operation (status_code a.status) (length (reply_body_bytes a.body)) a.commit)
+    omega (arith, none, length-append (reply_bytes a) bytes, length-append (reply_header_bytes a.client a.session a.request a.operation (status_code a.status) (length (reply_body_bytes a.body)) a.commit) (reply_body_bytes a.body), length-reply_header a.client a.session a.request a.operation (status_code a.status) (length (reply_body_bytes a.body)) a.commit)
 
 one_list : (xs ys : List Answer) → Each IsReply xs → Each IsReply ys → flat_map reply_bytes xs ≡ flat_map reply_bytes ys → xs ≡ ys
 one_list [] [] mine yours same = refl

@@ -10,7 +10,7 @@ use Rattle.tb_records.specs.Transport.{Input, Output, Sent}
 use Rattle.tb_machine.specs.declared.entries.Entry.{Entry}
 use Rattle.tb_machine.specs.declared.serving.RunFault.TheVariants as fault
 use Rattle.tb_machine.specs.Histories.{State, start, step, after, answer_to}
-use Rattle.tb_machine.specs.Scripts.{Pair, entry_of, is_entered, after_pair, grown, with_pair, accepted, replies_from, replies_to}
+use Rattle.tb_machine.specs.Scripts.{Pair, entry_of, is_entered, after_pair, grown, accepted, replies_from, replies_to}
 use Rattle.tb_machine.specs.Worked.{Next, GoesOn, EndsBy, Done, Worked}
 use Rattle.tb_machine.specs.Runs.{Spell, Reads, IsTimely, answer_bytes, AnswersPair, PairAnswered, HasTimes, state_after, Replies, Ran}
 use Rattle.tb_machine.proofs.Rows.{each_snoc}
@@ -164,7 +164,7 @@ module _ (state : List Entry → State) where
   times_snoc h (q ∷ qs) p times timely = (times.0, times_snoc (grown state h q) qs p times.1 timely)
 
 module _ (profile : Profile) (clients_max : ℕ) where
-  pub after_with_pair : (h : List Entry) (p : Pair) → after profile clients_max (with_pair profile clients_max h p) ≡ after_pair (after profile clients_max h) p
+  pub after_with_pair : (h : List Entry) (p : Pair) → after profile clients_max (grown (after profile clients_max) h p) ≡ after_pair (after profile clients_max h) p
   after_with_pair h p = parts (is_entered (after profile clients_max h) p)
     where
       parts : (b : Bool) → after profile clients_max (cond b (h ++ entry_of (after profile clients_max h) p ∷ []) h) ≡ cond b (step (after profile clients_max h) (entry_of (after profile clients_max h) p)) (after profile clients_max h)
@@ -177,7 +177,7 @@ module _ (profile : Profile) (clients_max : ℕ) where
   replies_snoc : (h : List Entry) (ps : List Pair) (p : Pair)
       → replies_from profile clients_max h (ps ++ p ∷ []) ≡ replies_from profile clients_max h ps ++ answer_to (after_pair (after profile clients_max (accepted profile clients_max h ps)) p) p.1 ∷ []
   replies_snoc h [] p = ap (λ (S : State). answer_to S p.1 ∷ []) (after_with_pair h p)
-  replies_snoc h (q ∷ qs) p = ap (λ l. answer_to (after profile clients_max (with_pair profile clients_max h q)) q.1 ∷ l) (replies_snoc (with_pair profile clients_max h q) qs p)
+  replies_snoc h (q ∷ qs) p = ap (λ l. answer_to (after profile clients_max (grown (after profile clients_max) h q)) q.1 ∷ l) (replies_snoc (grown (after profile clients_max) h q) qs p)
 
   -- a run's loop: k pairs were served
   abbrev pub Serving : ℕ → State → Input → Input → Output → Output → Type 0

@@ -8,7 +8,7 @@ use Rattle.tb_sessions.specs.declared.rows.Row.{Row}
 use Rattle.tb_sessions.specs.Judged.{row_of}
 use Rattle.tb_sessions.specs.Admission.{admitted}
 use Rattle.tb_machine.specs.declared.entries.Entry.{Entry}
-use Rattle.tb_machine.specs.Histories.{State, fits, is_lawful, session_of, body_at, reply_at, executed}
+use Rattle.tb_machine.specs.Histories.{State, fits, is_lawful, session_of, reply_at, executed, found}
 use Rattle.tb_machine.specs.private.Serving.{MayBeExecuted}
 use Rattle.tb_machine.specs.private.Sound.{IsNumbered, IsSound}
 use Rattle.tb_records.proofs.ByKey.{each-map}
@@ -58,7 +58,7 @@ module _ (S : State) (e : Entry) (sound : IsSound S) (comes : IsTrue (fits S e))
 
   -- the reply to it
   pub right_reply : IsRight (reply_at S e)
-  right_reply = right_answer e.request.client (session_of e) e.request.request e.commit e.request.body (body_at S e)
+  right_reply = right_answer e.request.client (session_of e) e.request.request e.commit e.request.body (found S.books e.request.body e.time)
       lawful.client (λ none. omega (arith, numbers.began))
       numbers.register (λ is. (lawful.numbered is, numbers.numbered is))
       (found_kind S.books e.request.body e.time) (let few = found_few S.books e.request.body e.time in omega (arith, few, lawful.few))

@@ -50,13 +50,13 @@ DumpsNext at = GoesOn PairAnswered (DumpsPair at)
 
 module _ (clients_max : ℕ) (at : Option ℕ) where
   -- the history that pairs make, by profile 1 up to the mark
-  abbrev pub history_of : List Pair → List Entry
-  history_of ps = accepted_at One clients_max at [] ps
+  abbrev pub history_made : List Pair → List Entry
+  history_made ps = accepted_at One clients_max at [] ps
 
   -- the bytes are the dump of the history of the pairs
   pub record DumpsHistory (ps : List Pair) (bytes : List ℕ) : Type 0 where
     pub times : HasTimes (after_at One clients_max at) [] ps
-    pub spelled : DumpSpells bytes One clients_max (history_of ps) (place_in at (history_of ps))
+    pub spelled : DumpSpells bytes One clients_max (history_made ps) (place_in at (history_made ps))
 
   -- the pairs were read; what was written is the dump of their history, and nothing else
   abbrev pub HasDumped : List Pair → Input → Input → Output → Output → Type 0
@@ -75,7 +75,7 @@ module _ (clients_max : ℕ) (at : Option ℕ) where
 
   -- some pairs were dumped, and then the script ended, or a fault came
   abbrev pub Begun : Result ℕ RunFault → Input → Input → Output → Output → Type 0
-  Begun = Worked Reads DumpsHistory (EndsBy PairAnswered (DumpsPair at) (λ ps. length (history_of ps)) (λ ps. after_at One clients_max at (history_of ps)) DumpHalts)
+  Begun = Worked Reads DumpsHistory (EndsBy PairAnswered (DumpsPair at) (λ ps. length (history_made ps)) (λ ps. after_at One clients_max at (history_made ps)) DumpHalts)
 
   -- a whole dump
   abbrev pub DumpRan : Result ℕ RunFault → Input → Input → Output → Output → Type 0

@@ -9,8 +9,8 @@ use Rattle.tb_records.specs.declared.replies.Status.{Status}
 use Rattle.tb_records.specs.declared.replies.Status.TheVariants as status
 use Rattle.tb_records.specs.declared.limits.Profile.{Profile}
 use Rattle.tb_records.specs.Messages.{Message, Answer, operation, count, is_register, number_fault, answered}
+use Rattle.tb_records.specs.declared.limits.TheConstants.{LAST_MOMENT}
 use Rattle.tb_ledger.specs.Books.{Books, empty_books, moved_to_two, found_accounts, found_transfers}
-use Rattle.tb_ledger.specs.Verdicts.{max_time}
 use Rattle.tb_ledger.specs.Batches.{account_events, transfer_events, batch_after, results}
 use Rattle.tb_sessions.specs.declared.rows.Row.{Row}
 use Rattle.tb_sessions.specs.declared.classes.Class.{Class}
@@ -35,7 +35,7 @@ start profile clients_max = record { clients_max = clients_max; commit = 0; book
 abbrev pub least_time : State → Message → ℕ
 least_time S r = S.books.time + max (count r.body) 1
 
--- the time of a request that comes at a moment: it gets one where this is at most 2^63 - 1
+-- the time of a request that comes at a moment
 abbrev pub time_of : State → ℕ → Message → ℕ
 time_of S moment r = max moment (least_time S r)
 
@@ -43,13 +43,7 @@ time_of S moment r = max moment (least_time S r)
 
 abbrev pub is_new : Class → Bool
 is_new New = true
-is_new Repeat = false
-is_new NoSession = false
-is_new SessionTooLow = false
-is_new NewerSession = false
-is_new Older = false
-is_new Collision = false
-is_new NewerRequest = false
+is_new _ = false
 
 -- its numbers keep the rules, as those of every request do
 abbrev pub is_lawful : Message → Bool
@@ -59,7 +53,7 @@ abbrev pub fits : State → Entry → Bool
 fits S e =
     e.commit == S.commit + 1
     && nat_le (least_time S e.request) e.time
-    && nat_le e.time max_time
+    && nat_le e.time LAST_MOMENT
     && is_lawful e.request
     && is_new (class_of S.rows e.request)
 
@@ -74,11 +68,9 @@ at_time B time = record B { time = time }
 
 -- the books after it: a register or a lookup moves the time alone
 abbrev pub executed : Books → Body → ℕ → Books
-executed B Register time = at_time B time
 executed B (CreateAccounts events) time = (batch_after account_events B events time).books
 executed B (CreateTransfers events) time = (batch_after transfer_events B events time).books
-executed B (LookupAccounts ids) time = at_time B time
-executed B (LookupTransfers ids) time = at_time B time
+executed B _ time = at_time B time
 
 -- what its reply says: a lookup finds records as they are at its time
 abbrev pub found : Books → Body → ℕ → ReplyBody
@@ -88,21 +80,12 @@ found B (CreateTransfers events) time = Results (results (batch_after transfer_e
 found B (LookupAccounts ids) time = Accounts (found_accounts (at_time B time) ids)
 found B (LookupTransfers ids) time = Transfers (found_transfers (at_time B time) ids)
 
-abbrev pub body_at : State → Entry → ReplyBody
-body_at S e = found S.books e.request.body e.time
-
-abbrev pub reply_with : Entry → ReplyBody → Answer
-reply_with e body = answered e.request.client (session_of e) e.request.request (operation e.request.body) status.Reply e.commit body
-
 abbrev pub reply_at : State → Entry → Answer
-reply_at S e = reply_with e (body_at S e)
+reply_at S e = answered e.request.client (session_of e) e.request.request (operation e.request.body) status.Reply e.commit (found S.books e.request.body e.time)
 
 -- the row of its client: the last request that was executed, and the reply to it
-abbrev pub row_with : Entry → ReplyBody → Row
-row_with e body = record { client = e.request.client; session = session_of e; request = e.request; reply = reply_with e body; commit = e.commit }
-
 abbrev pub row_at : State → Entry → Row
-row_at S e = row_with e (body_at S e)
+row_at S e = record { client = e.request.client; session = session_of e; request = e.request; reply = reply_at S e; commit = e.commit }
 
 abbrev pub step : State → Entry → State
 step S e = record {
@@ -136,7 +119,7 @@ module _ (profile : Profile) (clients_max : ℕ) where
 
 -- answers
 
--- the status that has the class's name: a repeat gets its reply, and a new request none yet
+-- the status that has the class's name
 abbrev pub status_of : Class → Status
 status_of New = status.NotYet
 status_of Repeat = status.Reply
@@ -147,7 +130,7 @@ status_of Older = status.Older
 status_of Collision = status.Collision
 status_of NewerRequest = status.NewerRequest
 
--- a refusal names what the request names, and has commit 0 and no body
+-- a refusal has commit 0 and no body
 abbrev pub refusal : Status → Message → Answer
 refusal status r = answered r.client r.session r.request (operation r.body) status 0 Empty
 

@@ -15,7 +15,7 @@ use Rattle.tb_machine.specs.HistoryLaws.{KeysDiffer, IsStoredIn, HasSession}
 use Rattle.tb_machine.specs.Dumps.{IsPlace, after_with, IsLegalWith, place_in, accepted_at}
 use Rattle.tb_machine.specs.Scripts.{Pair}
 use Rattle.tb_machine.specs.ScriptLaws.{AreLawful}
-use Rattle.tb_machine.specs.DumpRuns.{history_of, HasDumped}
+use Rattle.tb_machine.specs.DumpRuns.{history_made, HasDumped}
 
 -- the mark, where it is behind no more entries than these
 abbrev pub met : Option ℕ → List Entry → Option ℕ
@@ -85,4 +85,4 @@ AcceptedIsLegalWith = (profile : Profile) (clients_max : ℕ) (at : Option ℕ) 
 -- what a dump wrote, of whatever reader
 abbrev pub DumpedIsLegal : Type 0
 DumpedIsLegal = (clients_max : ℕ) (at : Option ℕ) (ps : List Pair) (before after : Input) (start written : Output) → HasDumped clients_max at ps before after start written
-    → IsLegalWith One clients_max (place_in at (history_of clients_max at ps)) (history_of clients_max at ps)
+    → IsLegalWith One clients_max (place_in at (history_made clients_max at ps)) (history_made clients_max at ps)

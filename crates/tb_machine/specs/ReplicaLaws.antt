@@ -3,12 +3,12 @@ use Rattle.std.specs.Prelude.{ℕ, false, ◌≡◌, ◌+◌, ◌≤◌, ◌⊎�
 use Rattle.tb_records.specs.declared.limits.Profile.{Profile}
 use Rattle.tb_records.specs.Messages.{Message, count, is_register}
 use Rattle.tb_records.specs.Ordered.{Each}
-use Rattle.tb_ledger.specs.Verdicts.{max_time}
+use Rattle.tb_records.specs.declared.limits.TheConstants.{LAST_MOMENT}
 use Rattle.tb_sessions.specs.declared.rows.Row.{Row}
 use Rattle.tb_sessions.specs.Judged.{row_of}
 use Rattle.tb_machine.specs.declared.entries.Entry.{Entry}
 use Rattle.tb_machine.specs.Histories.{State, IsLegal, after, answer_to}
-use Rattle.tb_machine.specs.Scripts.{Pair, with_pair, accepted, replies_from, replies_to}
+use Rattle.tb_machine.specs.Scripts.{Pair, accepted, replies_from, replies_to, grown}
 use Rattle.tb_machine.specs.ScriptLaws.{AreLawful}
 use Rattle.tb_machine.specs.Runs.{HasTimes, state_after}
 
@@ -20,8 +20,8 @@ FromHere = (profile : Profile) (clients_max : ℕ) (h : List Entry) (ps qs : Lis
     → accepted profile clients_max h (ps ++ qs) ≡ accepted profile clients_max (accepted profile clients_max h ps) qs
 
 -- the replies to both parts are those to the first, and then those to the second behind what the first made
-abbrev pub Prefix : Type 0
-Prefix = (profile : Profile) (clients_max : ℕ) (h : List Entry) (ps qs : List Pair)
+abbrev pub ReplyPrefix : Type 0
+ReplyPrefix = (profile : Profile) (clients_max : ℕ) (h : List Entry) (ps qs : List Pair)
     → replies_from profile clients_max h (ps ++ qs) ≡ replies_from profile clients_max h ps ++ replies_from profile clients_max (accepted profile clients_max h ps) qs
 
 -- a request that comes again
@@ -38,21 +38,21 @@ abbrev pub HasRow : State → ℕ → Type 0
 HasRow S client = (row : Row) × (row_of S.rows client ≡ Some row)
 
 -- the request is no register, or its client still has a row
-abbrev pub IsKept : State → Message → Type 0
-IsKept S r = (is_register r.body ≡ false) ⊎ HasRow S r.client
+abbrev pub IsOfKeptClient : State → Message → Type 0
+IsOfKeptClient S r = (is_register r.body ≡ false) ⊎ HasRow S r.client
 
 -- a pair whose request the history holds leaves the history as it is
 abbrev pub SameAgain : Type 0
 SameAgain = (profile : Profile) (clients_max : ℕ) (h : List Entry) (p : Pair) → IsLegal profile clients_max h
     → IsIn h p.1
-    → IsKept (after profile clients_max h) p.1
-    → with_pair profile clients_max h p ≡ h
+    → IsOfKeptClient (after profile clients_max h) p.1
+    → grown (after profile clients_max) h p ≡ h
 
 -- with such a pair between two parts of a script, all other replies stay, and so does the history
 abbrev pub CopyChangesNothing : Type 0
 CopyChangesNothing = (profile : Profile) (clients_max : ℕ) (ps qs : List Pair) (p : Pair) → AreLawful ps
     → IsIn (accepted profile clients_max [] ps) p.1
-    → IsKept (state_after profile clients_max ps) p.1
+    → IsOfKeptClient (state_after profile clients_max ps) p.1
     → let later = replies_from profile clients_max (accepted profile clients_max [] ps) qs in
     (replies_to profile clients_max (ps ++ qs) ≡ replies_to profile clients_max ps ++ later)
     × (replies_to profile clients_max (ps ++ p ∷ qs) ≡ replies_to profile clients_max ps ++ answer_to (state_after profile clients_max ps) p.1 ∷ later)
@@ -73,5 +73,5 @@ all_ticks (p ∷ ps) = ticks p + all_ticks ps
 abbrev pub Timely : Type 0
 Timely = (profile : Profile) (clients_max : ℕ) (h : List Entry) (ps : List Pair) (latest : ℕ) → (after profile clients_max h).books.time ≤ latest
     → Each (λ (p : Pair). p.0 ≤ latest) ps
-    → latest + all_ticks ps ≤ max_time
+    → latest + all_ticks ps ≤ LAST_MOMENT
     → HasTimes (after profile clients_max) h ps

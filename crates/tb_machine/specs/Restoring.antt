@@ -1,7 +1,7 @@
 -- What the restoring of a machine makes of the entries of a journal.
 use Rattle.std.specs.Prelude.{ℕ, Bool, not, ◌&&◌, ◌==◌, ◌≡◌, ◌+◌, nat_le, IsTrue, List, [], ◌∷◌, ◌++◌, length, codes, Option, Some, None, Result, Ok, Err, if◌then◌else◌}
 use Rattle.tb_records.specs.declared.limits.Profile.{Profile}
-use Rattle.tb_ledger.specs.Verdicts.{max_time}
+use Rattle.tb_records.specs.declared.limits.TheConstants.{LAST_MOMENT}
 use Rattle.tb_sessions.specs.Judged.{class_of}
 use Rattle.tb_machine.specs.declared.entries.Entry.{Entry}
 use Rattle.tb_machine.specs.declared.restoring.RestoreFault.{RestoreFault}
@@ -18,7 +18,7 @@ unfit_name NoMemory = codes "NoMemory"
 
 -- the time is late enough, and there is such a moment
 abbrev pub is_in_time : State → Entry → Bool
-is_in_time S e = nat_le (least_time S e.request) e.time && nat_le e.time max_time
+is_in_time S e = nat_le (least_time S e.request) e.time && nat_le e.time LAST_MOMENT
 
 -- the first test that an entry fails which may not come next
 abbrev pub cause_of : State → Entry → Option Unfit
@@ -29,14 +29,14 @@ cause_of S e =
     else None
 
 -- out of memory is reported only of an entry that may come next
-abbrev pub IsCause : Unfit → Option Unfit → Type 0
-IsCause NoMemory first = first ≡ None
-IsCause cause first = first ≡ Some cause
+abbrev pub IsUnfitCause : Unfit → Option Unfit → Type 0
+IsUnfitCause NoMemory first = first ≡ None
+IsUnfitCause cause first = first ≡ Some cause
 
 -- an entry that may come next is entered; of any other the place and the first test that it fails are reported
 abbrev pub Restores : Result (Unit {0}) RestoreFault → State → State → Entry → Type 0
 Restores (Ok done) S T e = IsTrue (fits S e) × (T ≡ step S e)
-Restores (Err fault) S T e = (T ≡ S) × (fault.place ≡ S.commit + 1) × IsCause fault.cause (cause_of S e)
+Restores (Err fault) S T e = (T ≡ S) × (fault.place ≡ S.commit + 1) × IsUnfitCause fault.cause (cause_of S e)
 
 -- the same by the history that was restored before: it is longer by the entry and legal, or no legal history goes on by it
 module _ (profile : Profile) (clients_max : ℕ) (mark : Option ℕ) (h : List Entry) (e : Entry) where

@@ -31,7 +31,11 @@ is_new_in S p = is_new (class_of S.rows p.1)
 
 -- where its request is new, there is a time for it
 abbrev pub IsTimely : State → Pair → Type 0
-IsTimely S p = is_new_in S p ≡ true → has_time S p ≡ true
+IsTimely S p = is_new (class_of S.rows p.1) ≡ true → has_time S p ≡ true
+
+-- a pair is new, and the end of time leaves no time for it
+abbrev pub IsUntimely : State → Pair → Type 0
+IsUntimely S p = (is_new_in S p ≡ true) × (has_time S p ≡ false)
 
 -- the spelling of the reply to a pair
 abbrev pub answer_bytes : State → Pair → List ℕ

@@ -10,7 +10,7 @@ use Rattle.tb_records.specs.declared.replies.Status.TheVariants as status
 use Rattle.tb_records.specs.declared.limits.Profile.TheVariants.{One, Two}
 use Rattle.tb_records.specs.Messages.{Message, Answer, asked, answered, status_code}
 use Rattle.tb_records.specs.Transport.{Input, Output}
-use Rattle.tb_ledger.specs.Verdicts.{int_max, max_time}
+use Rattle.tb_records.specs.declared.limits.TheConstants.{AMOUNT_MAX, LAST_MOMENT}
 use Rattle.tb_ledger.specs.Books.{profile_of}
 use Rattle.tb_machine.specs.declared.entries.Entry.{Entry}
 use Rattle.tb_machine.specs.declared.restoring.Unfit.TheVariants.{Commit, Time, NotNew}
@@ -23,17 +23,17 @@ use Rattle.tb_machine.specs.Restoring.{cause_of}
 use Rattle.tb_machine.specs.Scripts.{Pair, has_time, accepted, replies_from, replies_to}
 use Rattle.tb_machine.specs.ReplicaLaws.{all_ticks}
 
--- an account and a transfer as the rows write them
-abbrev account : ℕ → Account
-account id = record { id = id; debits_pending = 0; debits_posted = 0; credits_pending = 0; credits_posted = 0; user_data_128 = 0; user_data_64 = 0; user_data_32 = 0; reserved = 0; ledger = 700; code = 10; flags = 0; timestamp = 0 }
+-- an worked_account and a worked_transfer as the rows write them
+abbrev worked_account : ℕ → Account
+worked_account id = record { id = id; debits_pending = 0; debits_posted = 0; credits_pending = 0; credits_posted = 0; user_data_128 = 0; user_data_64 = 0; user_data_32 = 0; reserved = 0; ledger = 700; code = 10; flags = 0; timestamp = 0 }
 
-abbrev transfer : ℕ → ℕ → ℕ → ℕ → Transfer
-transfer id debit credit amount = record { id = id; debit_account_id = debit; credit_account_id = credit; amount = amount; pending_id = 0; user_data_128 = 0; user_data_64 = 0; user_data_32 = 0; timeout = 0; ledger = 700; code = 10; flags = 0; timestamp = 0 }
+abbrev worked_transfer : ℕ → ℕ → ℕ → ℕ → Transfer
+worked_transfer id debit credit amount = record { id = id; debit_account_id = debit; credit_account_id = credit; amount = amount; pending_id = 0; user_data_128 = 0; user_data_64 = 0; user_data_32 = 0; timeout = 0; ledger = 700; code = 10; flags = 0; timestamp = 0 }
 
 abbrev register : ℕ → Message
 register client = asked client 0 0 Register
 
--- a request for no account
+-- a request for no worked_account
 abbrev empty_lookup : ℕ → ℕ → ℕ → Message
 empty_lookup client session number = asked client session number (LookupAccounts [])
 
@@ -51,18 +51,18 @@ summary answer = (status_code answer.status, answer.session, answer.commit)
 abbrev summaries : ℕ → List Message → List (ℕ × ℕ × ℕ)
 summaries clients_max rs = map summary (replies_to One clients_max (script rs))
 
-abbrev entered : ℕ → List Message → ℕ
-entered clients_max rs = length (accepted One clients_max [] (script rs))
+abbrev entered_count : ℕ → List Message → ℕ
+entered_count clients_max rs = length (accepted One clients_max [] (script rs))
 
 -- client 7's first requests
 abbrev accounts : Message
-accounts = asked 7 1 1 (CreateAccounts (account 1 ∷ account 2 ∷ []))
+accounts = asked 7 1 1 (CreateAccounts (worked_account 1 ∷ worked_account 2 ∷ []))
 
 abbrev lookup : Message
 lookup = asked 7 1 2 (LookupAccounts (2 ∷ 9 ∷ 1 ∷ []))
 
 abbrev transfers : ℕ → Message
-transfers amount = asked 7 1 3 (CreateTransfers (transfer 11 1 2 amount ∷ []))
+transfers amount = asked 7 1 3 (CreateTransfers (worked_transfer 11 1 2 amount ∷ []))
 
 abbrev first_requests : List Message
 first_requests = register 7 ∷ accounts ∷ lookup ∷ transfers 100 ∷ []
@@ -74,12 +74,12 @@ FirstRequests = replies_to One 2 (script (register 7 ∷ first_requests))
     ≡ answered 7 1 0 2 status.Reply 1 Empty
     ∷ answered 7 1 0 2 status.Reply 1 Empty
     ∷ answered 7 1 1 129 status.Reply 2 (Results [])
-    ∷ answered 7 1 2 131 status.Reply 3 (Accounts (record (account 2) { timestamp = 12 } ∷ record (account 1) { timestamp = 11 } ∷ []))
+    ∷ answered 7 1 2 131 status.Reply 3 (Accounts (record (worked_account 2) { timestamp = 12 } ∷ record (worked_account 1) { timestamp = 11 } ∷ []))
     ∷ answered 7 1 3 130 status.Reply 4 (Results [])
     ∷ []
 
 -- after them: the last request again, the one before it, the last with another amount, a number too great, a session too
--- great, a session too small, a client without a session; none of them is entered
+-- great, a session too small, a client without a session; none of them is entered_count
 abbrev refused_requests : List Message
 refused_requests =
     transfers 100
@@ -96,19 +96,19 @@ Refusals =
     (summaries 2 (first_requests ++ refused_requests)
     ≡ (0, 1, 1) ∷ (0, 1, 2) ∷ (0, 1, 3) ∷ (0, 1, 4)
     ∷ (0, 1, 4) ∷ (4, 1, 0) ∷ (5, 1, 0) ∷ (6, 1, 0) ∷ (3, 2, 0) ∷ (2, 0, 0) ∷ (1, 1, 0) ∷ [])
-    × (entered 2 (first_requests ++ refused_requests) ≡ 4)
+    × (entered_count 2 (first_requests ++ refused_requests) ≡ 4)
 
--- client 7 moves the greatest amount, 2^128 - 1, from account 1 to account 2, and 1 more, by which account 1's debits would
--- overflow: the second transfer is refused (49), and account 2's sum is the greatest that has a frame
+-- client 7 moves the greatest amount, 2^128 - 1, from worked_account 1 to worked_account 2, and 1 more, by which worked_account 1's debits would
+-- overflow: the second worked_transfer is refused (49), and worked_account 2's sum is the greatest that has a frame
 abbrev greatest : Message
-greatest = asked 7 1 2 (CreateTransfers (transfer 11 1 2 int_max ∷ transfer 12 1 2 1 ∷ []))
+greatest = asked 7 1 2 (CreateTransfers (worked_transfer 11 1 2 AMOUNT_MAX ∷ worked_transfer 12 1 2 1 ∷ []))
 
 abbrev pub GreatestSum : Type 0
 GreatestSum = replies_to One 2 (script (register 7 ∷ accounts ∷ greatest ∷ asked 7 1 3 (LookupAccounts (2 ∷ [])) ∷ []))
     ≡ answered 7 1 0 2 status.Reply 1 Empty
     ∷ answered 7 1 1 129 status.Reply 2 (Results [])
     ∷ answered 7 1 2 130 status.Reply 3 (Results (record { index = 1; result = 49 } ∷ []))
-    ∷ answered 7 1 3 131 status.Reply 4 (Accounts (record (account 2) { credits_posted = int_max; timestamp = 12 } ∷ []))
+    ∷ answered 7 1 3 131 status.Reply 4 (Accounts (record (worked_account 2) { credits_posted = AMOUNT_MAX; timestamp = 12 } ∷ []))
     ∷ []
 
 -- two places: client 9 drives out 8, whose reply has the least commit number, though 7 has the least session; 8 then
@@ -118,9 +118,9 @@ Eviction =
     summaries 2 (register 7 ∷ register 8 ∷ empty_lookup 7 1 1 ∷ register 9 ∷ empty_lookup 8 2 1 ∷ register 8 ∷ empty_lookup 8 2 1 ∷ register 7 ∷ empty_lookup 9 4 1 ∷ [])
     ≡ (0, 1, 1) ∷ (0, 2, 2) ∷ (0, 1, 3) ∷ (0, 4, 4) ∷ (1, 2, 0) ∷ (0, 5, 5) ∷ (2, 2, 0) ∷ (0, 6, 6) ∷ (1, 4, 0) ∷ []
 
--- the last moment can be the time of an entry: there is no time after it, nor for a later moment
+-- the last moment can be the time of an worked_entry: there is no time after it, nor for a later moment
 abbrev last_entry : List Pair
-last_entry = (max_time, register 7) ∷ []
+last_entry = (LAST_MOMENT, register 7) ∷ []
 
 abbrev pub EndOfTime : Type 0
 EndOfTime =
@@ -141,31 +141,31 @@ EvictionStorm =
     ≡ map (λ k. (0, k, k)) (range_with_len 1 100)
     ++ map (λ k. (1, k, 0)) (range_with_len 1 99)
     ++ ((0, 100, 101) ∷ (0, 102, 102) ∷ (2, 1, 0) ∷ (1, 100, 0) ∷ []))
-    × (entered 1 storm ≡ 102)
+    × (entered_count 1 storm ≡ 102)
 
--- an entry by its numbers
-abbrev entry : ℕ → ℕ → Message → Entry
-entry commit time r = record { commit = commit; time = time; request = r }
+-- an worked_entry by its numbers
+abbrev worked_entry : ℕ → ℕ → Message → Entry
+worked_entry commit time r = record { commit = commit; time = time; request = r }
 
 -- behind client 7's register at time 10: another commit number, a time that is no later, one above the last, a request that is
--- not new; the cause is the first of these; and an entry that follows
+-- not new; the cause is the first of these; and an worked_entry that follows
 abbrev pub UnfitEntries : Type 0
 UnfitEntries =
-    let S = after One 2 (entry 1 10 (register 7) ∷ []) in
-    (cause_of S (entry 1 11 (register 8)) ≡ Some Commit)
-    × (cause_of S (entry 3 0 (register 7)) ≡ Some Commit)
-    × (cause_of S (entry 2 10 (register 7)) ≡ Some Time)
-    × (cause_of S (entry 2 9223372036854775808 (register 8)) ≡ Some Time)
-    × (cause_of S (entry 2 11 (register 7)) ≡ Some NotNew)
-    × (cause_of S (entry 2 11 (register 8)) ≡ None)
+    let S = after One 2 (worked_entry 1 10 (register 7) ∷ []) in
+    (cause_of S (worked_entry 1 11 (register 8)) ≡ Some Commit)
+    × (cause_of S (worked_entry 3 0 (register 7)) ≡ Some Commit)
+    × (cause_of S (worked_entry 2 10 (register 7)) ≡ Some Time)
+    × (cause_of S (worked_entry 2 9223372036854775808 (register 8)) ≡ Some Time)
+    × (cause_of S (worked_entry 2 11 (register 7)) ≡ Some NotNew)
+    × (cause_of S (worked_entry 2 11 (register 8)) ≡ None)
 
--- a mark behind client 7's register: the next entry is executed by profile 2, the register by profile 1; the register sent
+-- a mark behind client 7's register: the next worked_entry is executed by profile 2, the register by profile 1; the register sent
 -- again still gets its reply
 abbrev pub MarkedHistory : Type 0
 MarkedHistory =
     (profile_of (next_in One 2 (Some 1) []).books ≡ One)
-    × (profile_of (next_in One 2 (Some 1) (entry 1 10 (register 7) ∷ [])).books ≡ Two)
-    × (summary (answer_to (after_with One 2 (Some 1) (entry 1 10 (register 7) ∷ entry 2 11 (register 8) ∷ [])) (register 7)) ≡ (0, 1, 1))
+    × (profile_of (next_in One 2 (Some 1) (worked_entry 1 10 (register 7) ∷ [])).books ≡ Two)
+    × (summary (answer_to (after_with One 2 (Some 1) (worked_entry 1 10 (register 7) ∷ worked_entry 2 11 (register 8) ∷ [])) (register 7)) ≡ (0, 1, 1))
 
 -- client 7's last two requests are answered behind the two before them, and refused without them
 abbrev first_part : List Message
@@ -180,9 +180,9 @@ ScriptInParts =
     (map summary (replies_from One 2 made (script second_part)) ≡ (0, 1, 3) ∷ (0, 1, 4) ∷ [])
     × (length (accepted One 2 made (script second_part)) ≡ 4)
     × (summaries 2 second_part ≡ (1, 1, 0) ∷ (1, 1, 0) ∷ [])
-    × (entered 2 second_part ≡ 0)
+    × (entered_count 2 second_part ≡ 0)
 
--- client 7's transfer comes again behind its next request: the copy is refused (4), and the last request is commit 6 with it
+-- client 7's worked_transfer comes again behind its next request: the copy is refused (4), and the last request is commit 6 with it
 -- and without it. In one place client 7's register comes again when client 8 has driven it out: it is new, and drives 8 out
 abbrev pub CopiesInAScript : Type 0
 CopiesInAScript =

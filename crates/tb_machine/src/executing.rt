@@ -1,11 +1,11 @@
 //! The steps of a machine: what a request does to the ledger, what its reply says, and the row that keeps both.
 ghost use Rattle.std.specs.Prelude.{◌≡◌, ◌+◌, ◌≤◌, max, OnOk, OnErr, ◌<◌, MatchResult, IsTrue, None, Some};
-ghost use Rattle.tb_records.specs.Messages.{count, item_count, items_max, operation, IsRight};
+ghost use Rattle.tb_records.specs.Messages.{count, item_count, operation, IsRight};
 ghost use Rattle.tb_records.specs.ReplyFrames.{reply_bytes, IsReply};
-ghost use Rattle.tb_ledger.specs.Verdicts.{max_time};
-ghost use Rattle.tb_machine.specs.Histories.{executed, reply_with, session_of, step, fits};
+ghost use Rattle.tb_records.specs.declared.limits.TheConstants.{ITEMS_MAX, LAST_MOMENT};
+ghost use Rattle.tb_machine.specs.Histories.{executed, session_of, step, fits};
 ghost use Rattle.tb_machine.specs.Judging.{IsDelivered, IfWhole, EntersAndReplies};
-ghost use Rattle.tb_machine.specs.private.Serving.{made, row_in, MayBeExecuted, DeliversReply, ExecutesBody, MakesRow, served_as, ServesPair, IfUnserved};
+ghost use Rattle.tb_machine.specs.private.Serving.{made_entry, row_in, MayBeExecuted, DeliversReply, ExecutesBody, MakesRow, served_as, ServesPair, IfUnserved, reply_with};
 
 use crate::entries::Entry;
 use crate::machines::Machine;
@@ -143,9 +143,9 @@ pub(crate) fn execute<A: Allocator + Clone>(
     time: u64,
     body: &Body,
 ) -> Result<ReplyBody, AllocError>
-    requires few { item_count body.now ≤ items_max }
+    requires few { item_count body.now ≤ ITEMS_MAX }
     requires later { ledger.old.time + max (count body.now) 1 ≤ time }
-    requires in_range { time ≤ max_time }
+    requires in_range { time ≤ LAST_MOMENT }
     ensures { ExecutesBody result ledger.old body.now time ledger.new }
 {
     match body {
@@ -261,10 +261,10 @@ pub(crate) fn serve_row<A: Allocator + Clone, W: Sink>(
     request: &mut Request,
     row: &mut Row,
 ) -> Result<Delivery, AllocError>
-    requires { MayBeExecuted ledger.old (made commit time request.old) }
+    requires { MayBeExecuted ledger.old (made_entry commit time request.old) }
     ensures books { OnOk result (ledger.new ≡ executed ledger.old request.old.body time) }
-    ensures row { OnOk result (row.new ≡ row_in ledger.old (made commit time request.old)) }
-    ensures delivery { DeliversReply result (row_in ledger.old (made commit time request.old)).reply (W.output writer.old)
+    ensures row { OnOk result (row.new ≡ row_in ledger.old (made_entry commit time request.old)) }
+    ensures delivery { DeliversReply result (row_in ledger.old (made_entry commit time request.old)).reply (W.output writer.old)
         (W.output writer.new) }
     ensures same_row { OnErr result (row.new ≡ row.old) }
     ensures same_ledger { OnErr result (ledger.new ≡ ledger.old) }

@@ -1,7 +1,7 @@
 //! The laws of legal histories, over the definitions alone. A call does nothing; its promise is the law.
 ghost use Rattle.tb_machine.specs.Dumps.{OneDump};
 ghost use Rattle.tb_machine.specs.ScriptLaws.{AcceptedIsLegal, RepliesAreOfHistory, ServedAreLawful};
-ghost use Rattle.tb_machine.specs.ReplicaLaws.{FromHere, Prefix, SameAgain, CopyChangesNothing, Timely};
+ghost use Rattle.tb_machine.specs.ReplicaLaws.{FromHere, ReplyPrefix, SameAgain, CopyChangesNothing, Timely};
 ghost use Rattle.tb_machine.specs.ReplyLaws.{RepliesFit, RepliesReadBack, AnswersFit, GivenFit, AcceptedAreRequests};
 ghost use Rattle.tb_machine.specs.MarkedLaws.{OneKeyWith, FirstReplyWith, NotNewAgainWith, StaysOutWith, LimitsHoldWith, LedgersBalanceWith};
 ghost use Rattle.tb_machine.specs.MarkedLaws.{NextIsLegalWith, MovedIsLegalWith, AcceptedIsLegalWith, DumpedIsLegal};
@@ -125,7 +125,7 @@ pub fn from_here()
 /// The replies to two parts of a script are those to the first, and then those to the second behind what the first made: so
 /// replicas at different places of one script never contradict each other.
 pub fn prefix()
-    ensures { Prefix }
+    ensures { ReplyPrefix }
 {}
 
 /// A pair whose request the history holds, and that is no register or whose client still has a row, changes nothing: so a

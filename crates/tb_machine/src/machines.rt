@@ -1,8 +1,8 @@
 //! The machine: a ledger and the sessions of its clients, which entries move on.
 ghost use Rattle.std.specs.Prelude.{◌≡◌, ◌↔◌, ◌+◌, ◌≤◌, ◌<◌, max, length, IfOk, MatchOption, IsTrue, None, Some};
 ghost use Rattle.tb_records.specs.Messages.{IsLawful};
+ghost use Rattle.tb_records.specs.declared.limits.TheConstants.{LAST_MOMENT};
 ghost use Rattle.tb_ledger.specs.Books.{account_now, profile_of, transfer_at, found_accounts, found_transfers};
-ghost use Rattle.tb_ledger.specs.Verdicts.{max_time};
 ghost use Rattle.tb_sessions.specs.Judged.{class_of, row_of};
 ghost use Rattle.tb_machine.specs.Histories.{start, to_two, fits, least_time, stored_reply};
 
@@ -70,7 +70,7 @@ impl<A: Allocator + Clone> Machine<A> {
     /// n, or 1 where there is no event. None where that is above `2^63 - 1`.
     pub fn next_time(&self, now: u64, n: u64) -> Option<u64>
         ensures { let time = max now (self.now.books.time + max n 1) in
-            MatchOption result (max_time < time) (λ t. (t ≡ time) × (t ≤ max_time)) }
+            MatchOption result (LAST_MOMENT < time) (λ t. (t ≡ time) × (t ≤ LAST_MOMENT)) }
     {
         let least = self.ledger.time().checked_add(n.max(1))?;
         let time = now.max(least);
@@ -105,7 +105,7 @@ impl<A: Allocator + Clone> Machine<A> {
     /// The number of the last entry; 0 before the first.
     pub fn commit(&self) -> u64
         ensures value { result ≡ self.now.commit }
-        ensures in_range { result ≤ max_time }
+        ensures in_range { result ≤ LAST_MOMENT }
     {
         self.commit
     }

@@ -4,20 +4,20 @@ use Rattle.std.proofs.KnownBytes.{Consumes-nil, Consumes-trans, Appends-nil, App
 use Rattle.std.proofs.lemmas.List.Concat.{flat_map-append}
 use Rattle.std.proofs.lemmas.List.Elements.{All-nil, All-cons, All-append}
 use Rattle.std.specs.Io.KnownBytes.{Consumes, Appends}
-use Rattle.tb_oracle.specs.Steps.{IsAnswer}
-use Rattle.tb_oracle.specs.Streams.{Exchange, Exchanged, IsExchange, ReadsStep, answers, steps}
+use Rattle.tb_oracle.specs.Steps.{IsStepAnswer}
+use Rattle.tb_oracle.specs.Streams.{Exchange, HasExchanged, IsExchange, ReadsStep, answers, steps}
 
 -- before the first step
-pub none_exchanged : (input output : Option (List ℕ)) → Exchanged [] input input output output
+pub none_exchanged : (input output : Option (List ℕ)) → HasExchanged [] input input output output
 none_exchanged input output = record { right = All-nil IsExchange; read = Consumes-nil input; written = Appends-nil output }
 
 -- one step more
 pub exchanged_more : (xs : List Exchange) (x : Exchange) (input left rest output written more : Option (List ℕ))
-    → Exchanged xs input left output written
+    → HasExchanged xs input left output written
     → ReadsStep x.head x.rest left rest
-    → IsAnswer x.head x.rest x.answer
+    → IsStepAnswer x.head x.rest x.answer
     → Appends written more x.answer
-    → Exchanged (xs ++ x ∷ []) input rest output more
+    → HasExchanged (xs ++ x ∷ []) input rest output more
 exchanged_more xs x input left rest output written more so_far reads answered writes = record {
   right = All-append IsExchange xs (x ∷ []) so_far.right (All-cons IsExchange x [] (record { step = reads.1; answered = answered }) (All-nil IsExchange));
   read = subst (Consumes input rest)

@@ -6,14 +6,14 @@ use Rattle.tb_caller.specs.Faults.{field_fault_name}
 use Rattle.tb_oracle.specs.declared.faults.OracleFault.{OracleFault}
 use Rattle.tb_oracle.specs.declared.faults.OracleFault.TheVariants.{Frame, Field, UnknownPhase, UnknownStep}
 
-abbrev pub fault_name : OracleFault → List ℕ
-fault_name (Frame f) = frame_fault_name f
-fault_name (Field f) = field_fault_name f
-fault_name UnknownPhase = codes "UnknownPhase"
-fault_name UnknownStep = codes "UnknownStep"
+abbrev pub oracle_fault_name : OracleFault → List ℕ
+oracle_fault_name (Frame f) = frame_fault_name f
+oracle_fault_name (Field f) = field_fault_name f
+oracle_fault_name UnknownPhase = codes "UnknownPhase"
+oracle_fault_name UnknownStep = codes "UnknownStep"
 
 -- 1 if a device or memory failed, 2 if the input is wrong
-abbrev pub fault_exit_status : OracleFault → ℕ
-fault_exit_status (Frame frame.Device) = 1
-fault_exit_status (Frame frame.NoMemory) = 1
-fault_exit_status other = 2
+abbrev pub oracle_exit_status : OracleFault → ℕ
+oracle_exit_status (Frame frame.Device) = 1
+oracle_exit_status (Frame frame.NoMemory) = 1
+oracle_exit_status other = 2

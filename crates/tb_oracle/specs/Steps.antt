@@ -19,11 +19,11 @@ use Rattle.tb_oracle.specs.declared.steps.Outcome.TheVariants.{Made, NoCall, Rep
 
 -- a client's fields
 
-abbrev pub phase_number : Phase → ℕ
-phase_number Unregistered = 0
-phase_number (Open r) = 1
-phase_number Idle = 2
-phase_number (Ended r) = 3
+abbrev pub phase_code : Phase → ℕ
+phase_code Unregistered = 0
+phase_code (Open r) = 1
+phase_code Idle = 2
+phase_code (Ended r) = 3
 
 -- the frame of the request that waits, or was left in doubt
 abbrev pub phase_frame : Phase → List ℕ
@@ -44,8 +44,8 @@ HasRequest (Ended r) = IsRequest r
 abbrev pub id_at : List ℕ → ℕ
 id_at head = little_number 16 head
 
-abbrev pub session_at : List ℕ → ℕ
-session_at head = little_number 8 (drop 16 head)
+abbrev pub step_session : List ℕ → ℕ
+step_session head = little_number 8 (drop 16 head)
 
 abbrev pub last_at : List ℕ → ℕ
 last_at head = little_number 4 (drop 24 head)
@@ -58,14 +58,14 @@ abbrev pub kind_at : List ℕ → ℕ
 kind_at head = slice_index head 29
 
 -- the length of the rest
-abbrev pub length_at : List ℕ → ℕ
-length_at head = little_number 8 (drop 30 head)
+abbrev pub rest_length : List ℕ → ℕ
+rest_length head = little_number 8 (drop 30 head)
 
 pub record HasFields (c : Client) (given head rest : List ℕ) : Type 0 where
   pub id : c.id ≡ id_at head
-  pub session : c.session ≡ session_at head
+  pub session : c.session ≡ step_session head
   pub last : c.last ≡ last_at head
-  pub phase : phase_number c.phase ≡ phase_at head
+  pub phase : phase_code c.phase ≡ phase_at head
   pub rest_is : rest ≡ phase_frame c.phase ++ given
   pub request : HasRequest c.phase
 
@@ -76,24 +76,24 @@ Calls (NoCall f) c d given = (r : Message) × Spells given r × (call_fault c r.
 Calls other c d given = ⊥
 
 -- what bytes that came make of a client
-abbrev pub Receives : Outcome → Client → Client → List ℕ → Type 0
-Receives (Reply h n) c d given = (a : Answer) × FoundReply (Ok (a, n)) given × (h ≡ heard c a) × (d ≡ received c a)
-Receives (NoReply f) c d given = (reply_fault given ≡ Some f) × (d ≡ c)
-Receives other c d given = ⊥
+abbrev pub ReceivesBytes : Outcome → Client → Client → List ℕ → Type 0
+ReceivesBytes (Reply h n) c d given = (a : Answer) × FoundReply (Ok (a, n)) given × (h ≡ heard c a) × (d ≡ received c a)
+ReceivesBytes (NoReply f) c d given = (reply_fault given ≡ Some f) × (d ≡ c)
+ReceivesBytes other c d given = ⊥
 
 abbrev pub Steps : ℕ → Outcome → Client → Client → List ℕ → Type 0
-Steps kind o c d given = ((kind ≡ 0) × Calls o c d given) ⊎ ((kind ≡ 1) × Receives o c d given)
+Steps kind o c d given = ((kind ≡ 0) × Calls o c d given) ⊎ ((kind ≡ 1) × ReceivesBytes o c d given)
 
 -- an answer
 
-abbrev pub call_code : CallFault → ℕ
-call_code call.NotRegistered = 6
-call_code call.Registered = 7
-call_code call.Unanswered = 8
-call_code call.Ended = 9
-call_code call.NoNumber = 10
-call_code (call.Frame f) = 11
-call_code call.NoMemory = 12
+abbrev pub call_fault_code : CallFault → ℕ
+call_fault_code call.NotRegistered = 6
+call_fault_code call.Registered = 7
+call_fault_code call.Unanswered = 8
+call_fault_code call.Ended = 9
+call_fault_code call.NoNumber = 10
+call_fault_code (call.Frame f) = 11
+call_fault_code call.NoMemory = 12
 
 abbrev pub outcome_code : Outcome → ℕ
 outcome_code Made = 0
@@ -102,7 +102,7 @@ outcome_code (Reply hearing.Ended n) = 2
 outcome_code (Reply hearing.Refused n) = 3
 outcome_code (Reply hearing.Other n) = 4
 outcome_code (NoReply f) = 5
-outcome_code (NoCall f) = call_code f
+outcome_code (NoCall f) = call_fault_code f
 
 -- the length of the reply's frame
 abbrev pub reply_length : Outcome → ℕ
@@ -112,18 +112,18 @@ reply_length (Reply h n) = n
 reply_length (NoReply f) = 0
 
 -- the outcome with the client's fields after it: a head of 46 bytes, and the frame of the client's request
-abbrev pub answer_bytes : Outcome → Client → List ℕ
-answer_bytes o d =
+abbrev pub step_answer_bytes : Outcome → Client → List ℕ
+step_answer_bytes o d =
     little_bytes 16 d.id
     ++ little_bytes 8 d.session
     ++ little_bytes 4 d.last
-    ++ phase_number d.phase
+    ++ phase_code d.phase
     ∷ outcome_code o
     ∷ little_bytes 8 (length (phase_frame d.phase))
     ++ little_bytes 8 (reply_length o)
     ++ phase_frame d.phase
 
-pub record IsAnswer (head rest answer : List ℕ) : Type 0 where
+pub record IsStepAnswer (head rest answer : List ℕ) : Type 0 where
   pub before : Client
   pub after : Client
   pub given : List ℕ
@@ -131,7 +131,7 @@ pub record IsAnswer (head rest answer : List ℕ) : Type 0 where
   pub fields : HasFields before given head rest
   pub right : field_fault before ≡ None
   pub is : Steps (kind_at head) outcome before after given
-  pub answer_is : answer ≡ answer_bytes outcome after
+  pub answer_is : answer ≡ step_answer_bytes outcome after
 
 -- why a step has none
 
@@ -149,16 +149,16 @@ IsFault (fault.Frame f) head rest =
 
 -- the parts of an answer
 
-abbrev pub ReadsPhase : Result (Phase × ℕ) OracleFault → ℕ → List ℕ → Type 0
-ReadsPhase (Ok (p, n)) number rest = (phase_number p ≡ number) × (n ≤ length rest) × (take n rest ≡ phase_frame p) × HasRequest p
-ReadsPhase (Err fault.UnknownPhase) number rest = 3 < number
-ReadsPhase (Err (fault.Frame frame.NoMemory)) number rest = Unit {0}
-ReadsPhase (Err (fault.Frame f)) number rest = request_fault rest ≡ Some f
-ReadsPhase (Err other) number rest = ⊥
+abbrev pub ReadsPhaseFields : Result (Phase × ℕ) OracleFault → ℕ → List ℕ → Type 0
+ReadsPhaseFields (Ok (p, n)) number rest = (phase_code p ≡ number) × (n ≤ length rest) × (take n rest ≡ phase_frame p) × HasRequest p
+ReadsPhaseFields (Err fault.UnknownPhase) number rest = 3 < number
+ReadsPhaseFields (Err (fault.Frame frame.NoMemory)) number rest = Unit {0}
+ReadsPhaseFields (Err (fault.Frame f)) number rest = request_fault rest ≡ Some f
+ReadsPhaseFields (Err other) number rest = ⊥
 
-abbrev pub ReadsClient : Result (Client × ℕ) OracleFault → List ℕ → List ℕ → Type 0
-ReadsClient (Ok (c, n)) head rest = (n ≤ length rest) × HasFields c (drop n rest) head rest × (field_fault c ≡ None)
-ReadsClient (Err f) head rest = IsFault f head rest
+abbrev pub ReadsClientFields : Result (Client × ℕ) OracleFault → List ℕ → List ℕ → Type 0
+ReadsClientFields (Ok (c, n)) head rest = (n ≤ length rest) × HasFields c (drop n rest) head rest × (field_fault c ≡ None)
+ReadsClientFields (Err f) head rest = IsFault f head rest
 
 abbrev pub TakesCall : Result Outcome OracleFault → Client → Client → List ℕ → Type 0
 TakesCall (Ok o) c d given = Calls o c d given
@@ -167,5 +167,5 @@ TakesCall (Err (fault.Frame f)) c d given = IsNoRequest f given
 TakesCall (Err other) c d given = ⊥
 
 abbrev pub TakesReply : Result Outcome OracleFault → Client → Client → List ℕ → Type 0
-TakesReply (Ok o) c d given = Receives o c d given
+TakesReply (Ok o) c d given = ReceivesBytes o c d given
 TakesReply (Err f) c d given = f ≡ fault.Frame frame.NoMemory

@@ -1,7 +1,7 @@
 //! The steps of a reader, answered one after another.
 ghost use Rattle.std.specs.Prelude.{◌≡◌, IfErr, IfOk, MatchOption, length};
-ghost use Rattle.tb_oracle.specs.Steps.{length_at};
-ghost use Rattle.tb_oracle.specs.Streams.{IsOfReading, ReadsHead, ReadsNone, ReadsRest, ReadsStep, AnswersSteps};
+ghost use Rattle.tb_oracle.specs.Steps.{rest_length};
+ghost use Rattle.tb_oracle.specs.Streams.{IsOfReading, ReadsStepHead, ReadsNone, ReadsRest, ReadsStep, AnswersSteps};
 
 use crate::faults::{OracleFault, fault_of};
 use crate::steps::answer;
@@ -16,7 +16,7 @@ const LENGTH_MAX: u64 = 1 << 22;
 /// Reads the head of the next step. False if the input ends before it.
 fn read_head<R: Read>(reader: &mut R, head: &mut [u8]) -> Result<bool, OracleFault>
     requires { length head.old ≡ 38 }
-    ensures read { ReadsHead result head.new (R.remaining reader.old) (R.remaining reader.new) }
+    ensures read { ReadsStepHead result head.new (R.remaining reader.old) (R.remaining reader.new) }
     ensures fault { IfErr result IsOfReading }
     ensures long { length head.new ≡ 38 }
 {
@@ -34,7 +34,7 @@ fn read_head<R: Read>(reader: &mut R, head: &mut [u8]) -> Result<bool, OracleFau
 /// The length of what follows a head.
 fn length_at(head: &[u8]) -> u64
     requires { length head.now ≡ 38 }
-    ensures { result ≡ length_at head.now }
+    ensures { result ≡ rest_length head.now }
 {
     LittleEndian::read_u64(&head[30..])
 }

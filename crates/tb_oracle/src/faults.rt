@@ -1,6 +1,6 @@
 //! Why the program ends before its input does.
 ghost use Rattle.std.specs.Prelude.{◌≡◌};
-ghost use Rattle.tb_oracle.specs.Faults.{fault_name, fault_exit_status};
+ghost use Rattle.tb_oracle.specs.Faults.{oracle_fault_name, oracle_exit_status};
 ghost use Rattle.tb_oracle.specs.Streams.{IsOfReading};
 
 use std::alloc::AllocError;
@@ -25,7 +25,7 @@ pub enum OracleFault {
 impl OracleFault {
     /// The fault's name, as its line shows it.
     pub fn name(self) -> &'static str
-        ensures { result.now ≡ fault_name self }
+        ensures { result.now ≡ oracle_fault_name self }
     {
         match self {
             OracleFault::Frame(fault) => fault.name(),
@@ -37,7 +37,7 @@ impl OracleFault {
 
     /// 1 if a device or memory failed, 2 if the input is wrong.
     pub fn exit_status(self) -> u8
-        ensures { result ≡ fault_exit_status self }
+        ensures { result ≡ oracle_exit_status self }
     {
         match self {
             OracleFault::Frame(FrameFault::Device | FrameFault::NoMemory) => 1,
@@ -48,9 +48,9 @@ impl OracleFault {
 
 impl fmt::Display for OracleFault {
     ghost use Rattle.std.specs.Prelude.{Some};
-    ghost use Rattle.tb_oracle.specs.Faults.{fault_name};
+    ghost use Rattle.tb_oracle.specs.Faults.{oracle_fault_name};
 
-    ghost output = { λ fault. Some (fault_name fault) };
+    ghost output = { λ fault. Some (oracle_fault_name fault) };
 
     fn fmt<W: fmt::Write>(&self, f: &mut fmt::Formatter<W>) -> fmt::Result {
         f.write_str(self.name())

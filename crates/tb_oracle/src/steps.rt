@@ -9,7 +9,7 @@
 //!   rest (8).
 //! - An answer's has the outcome (1, `Outcome`), the length of the frame (8), and the length of the reply's frame (8).
 ghost use Rattle.std.specs.Prelude.{◌≡◌, IfOk, IfErr, length};
-ghost use Rattle.tb_oracle.specs.Steps.{id_at, session_at, last_at, phase_number, phase_frame, call_code, outcome_code, reply_length, answer_bytes, IsAnswer, IsFault, ReadsPhase, ReadsClient, TakesCall, TakesReply};
+ghost use Rattle.tb_oracle.specs.Steps.{id_at, step_session, last_at, phase_code, phase_frame, call_fault_code, outcome_code, reply_length, step_answer_bytes, IsStepAnswer, IsFault, ReadsPhaseFields, ReadsClientFields, TakesCall, TakesReply};
 
 use crate::faults::OracleFault;
 use byteorder::{ByteOrder, LittleEndian};
@@ -59,7 +59,7 @@ impl Outcome {
 
 /// The number of a call that makes no request.
 fn call_code(fault: CallFault) -> u8
-    ensures { result ≡ call_code fault }
+    ensures { result ≡ call_fault_code fault }
 {
     match fault {
         CallFault::NotRegistered => 6,
@@ -74,7 +74,7 @@ fn call_code(fault: CallFault) -> u8
 
 /// The number of a phase.
 fn phase_number(phase: &Phase) -> u8
-    ensures { result ≡ phase_number phase.now }
+    ensures { result ≡ phase_code phase.now }
 {
     match phase {
         Phase::Unregistered => 0,
@@ -86,7 +86,7 @@ fn phase_number(phase: &Phase) -> u8
 
 /// The phase of a number, with the request whose frame the bytes begin with, and the length of that frame.
 fn phase_in(alloc: Global, number: u8, bytes: &[u8]) -> Result<(Phase, usize), OracleFault>
-    ensures { ReadsPhase result number bytes.now }
+    ensures { ReadsPhaseFields result number bytes.now }
 {
     match number {
         0 => Ok((Phase::Unregistered, 0)),
@@ -107,7 +107,7 @@ fn phase_in(alloc: Global, number: u8, bytes: &[u8]) -> Result<(Phase, usize), O
 fn numbers_at(head: &[u8]) -> (u128, u64, u32)
     requires { length head.now ≡ 38 }
     ensures id { result.0 ≡ id_at head.now }
-    ensures session { result.1 ≡ session_at head.now }
+    ensures session { result.1 ≡ step_session head.now }
     ensures last { result.2 ≡ last_at head.now }
 {
     let id = LittleEndian::read_u128(head);
@@ -119,7 +119,7 @@ fn numbers_at(head: &[u8]) -> (u128, u64, u32)
 /// The client of a step, and the place of what is given in the rest.
 fn client_in(alloc: Global, head: &[u8], rest: &[u8]) -> Result<(Caller, usize), OracleFault>
     requires { length head.now ≡ 38 }
-    ensures { ReadsClient result head.now rest.now }
+    ensures { ReadsClientFields result head.now rest.now }
 {
     let (phase, length) = match phase_in(alloc, head[28], rest) {
         Ok(read) => read,
@@ -175,7 +175,7 @@ fn frame_of(alloc: Global, caller: &Caller) -> Result<Vec<u8>, AllocError>
 
 /// The bytes of an outcome, with the client's fields after it.
 fn answer_of(alloc: Global, outcome: Outcome, caller: &Caller) -> Result<Vec<u8>, AllocError>
-    ensures { IfOk result (λ bytes. bytes.items ≡ answer_bytes outcome caller.now) }
+    ensures { IfOk result (λ bytes. bytes.items ≡ step_answer_bytes outcome caller.now) }
 {
     let frame = frame_of(alloc, caller)?;
     let mut bytes = Vec::new(alloc);
@@ -193,7 +193,7 @@ fn answer_of(alloc: Global, outcome: Outcome, caller: &Caller) -> Result<Vec<u8>
 /// What a step makes of the client, and the client's fields after it, as bytes.
 pub fn answer(alloc: Global, head: &[u8], rest: &[u8]) -> Result<Vec<u8>, OracleFault>
     requires { length head.now ≡ 38 }
-    ensures answer { IfOk result (λ bytes. IsAnswer head.now rest.now bytes.items) }
+    ensures answer { IfOk result (λ bytes. IsStepAnswer head.now rest.now bytes.items) }
     ensures fault { IfErr result (λ f. IsFault f head.now rest.now) }
 {
     let (mut caller, place) = match client_in(alloc, head, rest) {

@@ -1,7 +1,7 @@
 -- The table of a request that is entered, from what its calls answer.
 use Rattle.std.proofs.Common.{◌≡◌, inl, inr, length, length-append, ℕ, ◌+◌, max, true, List, [], ◌∷◌, ◌++◌, Result, Ok, Err, is_none, refl, sym, ap, ◌∙◌, subst, arith, IsTrue, leb-true}
 use Rattle.tb_records.specs.Messages.{Message, IsLawful}
-use Rattle.tb_ledger.specs.Verdicts.{max_time}
+use Rattle.tb_records.specs.declared.limits.TheConstants.{LAST_MOMENT}
 use Rattle.tb_sessions.specs.declared.classes.Class.TheVariants.{New}
 use Rattle.tb_sessions.specs.Judged.{class_of}
 use mathlib.Core.List.{IsPrefix}
@@ -19,7 +19,7 @@ use Rattle.tb_published.specs.private.Entering.{EntersBy}
 use Rattle.tb_published.specs.Openings.{Opening, LegalIn, after_in}
 use Rattle.tb_published.specs.private.Prefixes.{Prefix}
 use Rattle.tb_published.specs.private.PostedEntries.{TwoCopies}
-use Rattle.tb_published.specs.Taking.{Enters, TakesRequest, ShowsAll}
+use Rattle.tb_published.specs.Taking.{Enters, TakesRequest, ShowsHistory}
 use Rattle.tb_published.specs.private.Ties.{Ties}
 use Rattle.tb_published.proofs.Prefixes.{prefix_trans, prefix_whole}
 
@@ -28,7 +28,7 @@ pub fits_new : (S : State) (now : ℕ) (r : Message) (e : Entry) → IsLawful r 
 fits_new S now r e lawful new time is = subst (λ (e : Entry). IsTrue (fits S e)) (sym is) (comes S (entry_of S (now, r)) (record {
   commit = refl;
   late_enough = omega arith;
-  in_range = leb-true (max now (least_time S r)) max_time time;
+  in_range = leb-true (max now (least_time S r)) LAST_MOMENT time;
   lawful = ap is_none lawful;
   new = new;
 }))
@@ -74,7 +74,7 @@ module _ {o : Opening} {h : List Entry} {S : State} {offered : Prefix} {copies :
 
 -- what is entered behind all that is shown, and can't be shown then
 module _ (o : Opening) (h : List Entry) (r : Message) (now : ℕ) where
-  pub takes_unshown : (t : Taken) (f : TakeFault) (m s : List Entry) → Enters o h r now (Ok t) m → IsPrefix h s → ShowsAll (Err f) m s → TakesRequest o h r now (Err f) m s
+  pub takes_unshown : (t : Taken) (f : TakeFault) (m s : List Entry) → Enters o h r now (Ok t) m → IsPrefix h s → ShowsHistory (Err f) m s → TakesRequest o h r now (Err f) m s
   takes_unshown (taken.Committed c) (fault.Unpublished d) m s by pre ends =
       let count : length m ≡ length h + 1 = ap length by.3 ∙ length-append h (entry_of (after_in o h) (now, r) ∷ []) in
       let same : c ≡ d = omega (arith, by.2, ends.0, count) in

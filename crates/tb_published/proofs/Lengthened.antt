@@ -5,7 +5,7 @@ use Rattle.tb_machine.specs.declared.entries.Entry.{Entry}
 use Rattle.tb_machine.specs.Histories.{fits, step}
 use Rattle.tb_machine.proofs.Legal.{after_snoc, legal_front, legal_at}
 use Rattle.tb_published.specs.Openings.{Opening, LegalIn, after_in}
-use Rattle.tb_published.specs.private.Prefixes.{Prefix, Agree, state_of, EndsWith}
+use Rattle.tb_published.specs.private.Prefixes.{Prefix, Agree, prefix_state, EndsWith}
 use Rattle.tb_published.proofs.Prefixes.{prefix_shorter, prefix_whole}
 use Rattle.tb_published.proofs.Shown.{shorter_begins}
 
@@ -23,7 +23,7 @@ pub next_state : (o : Opening) (h m : List Entry) (e : Entry) → m ≡ h ++ e �
 next_state o h m e is = ap (after_in o) is ∙ after_snoc o.profile o.clients_max h e
 
 pub comes : (l m : Prefix) (e : Entry) → m.opening ≡ l.opening → LegalIn m.opening m.list → Agree l m → EndsWith m.list e
-    → length m.list ≡ length l.list + 1 → IsTrue (fits (state_of l) e) × (state_of m ≡ step (state_of l) e)
+    → length m.list ≡ length l.list + 1 → IsTrue (fits (prefix_state l) e) × (prefix_state m ≡ step (prefix_state l) e)
 comes l m e same legal agree ends len =
     let pre = (shorter_begins l m agree (omega arith)).1 in
     let is = one_more l.list m.list e pre ends len in (

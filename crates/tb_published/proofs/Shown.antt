@@ -5,8 +5,8 @@ use lib.ListN.{get_elem?}
 use Rattle.crossbeam_utils.specs.Register.{Admits, Turns, TurnsAt, Forks, Merges}
 use Rattle.atomic_table.proofs.Lists.{at_set, at_snoc}
 use Rattle.tb_published.specs.private.Prefixes.{Prefix, Agree, IsPrefixOf, with_entry}
-use Rattle.tb_published.specs.private.PostedEntries.{PostedEntry, absorbed, Follows, prefix_after}
-use Rattle.tb_published.specs.private.Sharing.{Shows, Sees, Swapped}
+use Rattle.tb_published.specs.private.PostedEntries.{PostedEntry, absorbed, FollowsPrefix, prefix_after}
+use Rattle.tb_published.specs.private.Sharing.{ShowsToReaders, Sees, Swapped}
 use Rattle.tb_published.proofs.Prefixes.{prefix_self, prefix_trans, prefix_shorter}
 
 -- prefixes
@@ -34,7 +34,7 @@ none_some x e = cc
 -- one step
 
 -- a reader or the publisher moves on to what is shown, which begins with all that was shown before
-pub sees : (seat : ℕ) (v : Option Prefix) (x y : Prefix) → IsPrefixOf x y → TurnsAt Shows seat v x y Sees
+pub sees : (seat : ℕ) (v : Option Prefix) (x y : Prefix) → IsPrefixOf x y → TurnsAt ShowsToReaders seat v x y Sees
 sees seat v x y up views shows at = (
   Some y,
   (λ j l e.
@@ -48,15 +48,15 @@ sees seat v x y up views shows at = (
     before None at = tt
     before (Some l) at = begins_trans l x y (shows seat l at) up
 
-pub looks : (seat : ℕ) (v : Option Prefix) → Turns Shows seat v (λ x. x) Sees
+pub looks : (seat : ℕ) (v : Option Prefix) → Turns ShowsToReaders seat v (λ x. x) Sees
 looks seat v x = sees seat v x x (begins_self x)
 
 -- a place that has seen nothing
-pub admits : Admits Shows None
+pub admits : Admits ShowsToReaders None
 admits x views shows seat l at = ⊎_elim (shows seat l) (λ e. absurd (none_some l e)) (at_snoc views None (Some l) seat at)
 
 -- the publisher tells what it has seen, and a place that has seen nothing takes it over
-pub forks : (seat : ℕ) (v : Option Prefix) → Forks Shows seat v v v
+pub forks : (seat : ℕ) (v : Option Prefix) → Forks ShowsToReaders seat v v v
 forks seat v x views shows here j l at =
     ⊎_elim (λ e.
     ⊎_elim (λ (t : (j ≡ seat) × (v ≡ Some l)). shows seat l (here ∙ ap some t.1))
@@ -65,7 +65,7 @@ forks seat v x views shows here j l at =
     (λ (same : v ≡ Some l). shows seat l (here ∙ ap some same))
     (at_snoc (set views seat v) v (Some l) j at)
 
-pub merges : (seat : ℕ) (v : Option Prefix) (other : ℕ) (w : Option Prefix) → Merges Shows seat v other w w None
+pub merges : (seat : ℕ) (v : Option Prefix) (other : ℕ) (w : Option Prefix) → Merges ShowsToReaders seat v other w w None
 merges seat v other w x views shows here apart there j l at =
     let its : get_elem? views other ≡ some w = ⊎_elim (λ (t : (other ≡ seat) × (w ≡ w)). absurd (apart t.0)) (λ (t : (other ≢ seat) × (get_elem? views other ≡ some w)). t.1) (at_set views seat other w w there) in
     ⊎_elim (λ (t : (j ≡ other) × (None ≡ Some l)). absurd (none_some l t.1))
@@ -81,11 +81,11 @@ absorbed_next : (l : Prefix) (o : PostedEntry) → o.front ≡ with_entry l o.en
 absorbed_next l o is = ap (λ b. cond b o.front l) (eq-eqb (length o.front.list) (length l.list + 1) (ap (λ (m : Prefix). length m.list) is ∙ length-append l.list (o.entry ∷ [])))
 
 -- a copy that takes in the posted entries behind it has the last one's front
-pub absorb_all : (l : Prefix) (os : List PostedEntry) → Follows l os → fold absorbed l os ≡ prefix_after l os
+pub absorb_all : (l : Prefix) (os : List PostedEntry) → FollowsPrefix l os → fold absorbed l os ≡ prefix_after l os
 absorb_all l [] follows = refl
 absorb_all l (o ∷ os) follows = ap (λ (m : Prefix). fold absorbed m os) (absorbed_next l o follows.0) ∙ absorb_all o.front os follows.1
 
-pub posted_extend : (l : Prefix) (os : List PostedEntry) → Follows l os → IsPrefixOf l (prefix_after l os)
+pub posted_extend : (l : Prefix) (os : List PostedEntry) → FollowsPrefix l os → IsPrefixOf l (prefix_after l os)
 posted_extend l [] follows = begins_self l
 posted_extend l (o ∷ os) follows =
     begins_trans l o.front (prefix_after o.front os)
@@ -93,11 +93,11 @@ posted_extend l (o ∷ os) follows =
     (posted_extend o.front os follows.1)
 
 -- a swap of copies with them
-pub turns : (seat : ℕ) (v : Option Prefix) (l : Prefix) (os : List PostedEntry) → Follows l os → (next : Prefix) → next ≡ fold absorbed l os → TurnsAt Shows seat v l next Sees
+pub turns : (seat : ℕ) (v : Option Prefix) (l : Prefix) (os : List PostedEntry) → FollowsPrefix l os → (next : Prefix) → next ≡ fold absorbed l os → TurnsAt ShowsToReaders seat v l next Sees
 turns seat v l os follows next is = sees seat v l next (subst (λ (m : Prefix). IsPrefixOf l m) (sym (is ∙ absorb_all l os follows)) (posted_extend l os follows))
 
 -- what a swap leaves
-pub swapped : {E : Type 0} (result : Result (Unit {0}) E) (l : Prefix) (os : List PostedEntry) (v : Option Prefix) (m : Prefix) (left : List PostedEntry) (w : Option Prefix) → Follows l os
+pub swapped : {E : Type 0} (result : Result (Unit {0}) E) (l : Prefix) (os : List PostedEntry) (v : Option Prefix) (m : Prefix) (left : List PostedEntry) (w : Option Prefix) → FollowsPrefix l os
     → MatchResult result (λ _. (m ≡ fold absorbed l os) × (left ≡ [])) (λ _. (m ≡ l) × (left ≡ os))
     → MatchResult result (λ _. Sees v l m w) (λ _. w ≡ v)
     → Swapped result (record { shown = l; posted = os; seen = v }) (record { shown = m; posted = left; seen = w })

@@ -7,7 +7,7 @@ use Rattle.tb_machine.specs.Histories.{State}
 use Rattle.tb_machine.proofs.Legal.{fold_append}
 use Rattle.tb_published.specs.Openings.{Opening, OneBegins}
 use Rattle.tb_published.specs.private.Prefixes.{Prefix, with_entry}
-use Rattle.tb_published.specs.private.PostedEntries.{PostedEntry, TwoCopies, Follows, prefix_after, and_waiting}
+use Rattle.tb_published.specs.private.PostedEntries.{PostedEntry, TwoCopies, FollowsPrefix, prefix_after, and_waiting}
 use Rattle.tb_published.specs.private.Sharing.{Swapped}
 use Rattle.tb_published.specs.private.Ties.{Ties}
 use Rattle.tb_published.proofs.Prefixes.{prefix_self, prefix_trans, prefix_whole}
@@ -29,11 +29,11 @@ within_history {o} {h} {S} {offered} {copies} xs t one less =
 
 -- posted entries, one part after another
 
-pub follows_split : (l : Prefix) (os more : List PostedEntry) → Follows l (os ++ more) → Follows l os × Follows (prefix_after l os) more
+pub follows_split : (l : Prefix) (os more : List PostedEntry) → FollowsPrefix l (os ++ more) → FollowsPrefix l os × FollowsPrefix (prefix_after l os) more
 follows_split l [] more follows = (tt, follows)
 follows_split l (o ∷ os) more follows = let parts = follows_split o.front os more follows.1 in ((follows.0, parts.0), parts.1)
 
-pub follows_join : (l : Prefix) (os more : List PostedEntry) → Follows l os → Follows (prefix_after l os) more → Follows l (os ++ more)
+pub follows_join : (l : Prefix) (os more : List PostedEntry) → FollowsPrefix l os → FollowsPrefix (prefix_after l os) more → FollowsPrefix l (os ++ more)
 follows_join l [] more first then_it = then_it
 follows_join l (o ∷ os) more first then_it = (first.0, follows_join o.front os more first.1 then_it)
 

@@ -35,8 +35,8 @@ TakesRequest o h r now (Err fault.NoMemory) m s = Enters o h r now (Err fault.No
 TakesRequest o h r now (Err fault.TimeExhausted) m s = Enters o h r now (Err fault.TimeExhausted) m × (s ≡ m)
 
 -- the whole history is shown, or less than it
-abbrev pub ShowsAll : Result ℕ TakeFault → List Entry → List Entry → Type 0
-ShowsAll (Ok c) m s = (c ≡ length m) × (s ≡ m)
-ShowsAll (Err (fault.Unpublished c)) m s = (c ≡ length m) × (length s < length m)
-ShowsAll (Err fault.NoMemory) m s = ⊥
-ShowsAll (Err fault.TimeExhausted) m s = ⊥
+abbrev pub ShowsHistory : Result ℕ TakeFault → List Entry → List Entry → Type 0
+ShowsHistory (Ok c) m s = (c ≡ length m) × (s ≡ m)
+ShowsHistory (Err (fault.Unpublished c)) m s = (c ≡ length m) × (length s < length m)
+ShowsHistory (Err fault.NoMemory) m s = ⊥
+ShowsHistory (Err fault.TimeExhausted) m s = ⊥

@@ -1,7 +1,7 @@
 //! The two copies, and how the publisher shows what they have taken in.
 ghost use Rattle.std.specs.Prelude.{◌≡◌, [], Some, IfOk, MatchResult};
 ghost use Rattle.left_right.specs.Sides.{view};
-ghost use Rattle.tb_published.specs.private.PostedEntries.{Follows, and_waiting, showing};
+ghost use Rattle.tb_published.specs.private.PostedEntries.{FollowsPrefix, and_waiting, showing};
 ghost use Rattle.tb_published.specs.private.Sharing.{Swapped};
 
 use crate::front::Front;
@@ -85,7 +85,7 @@ impl<J: Naming> Copies<J> {
     /// Has the copies take in what was posted, and shows what they have then. Where a copy finds no memory, they show what
     /// they showed, and what was posted waits.
     fn swapped<W: Wait>(self, rt: &W) -> (Copies<J>, Result<(), AllocError>)
-        requires { Follows self.shown self.posted }
+        requires { FollowsPrefix self.shown self.posted }
         ensures { Swapped result.1 self result.0 }
     {
         let Copies { writer } = self;
@@ -95,7 +95,7 @@ impl<J: Naming> Copies<J> {
 
     /// As `swapped`, in place.
     pub(crate) fn swap<W: Wait>(&mut self, rt: &W) -> Result<(), AllocError>
-        requires { Follows self.old.shown self.old.posted }
+        requires { FollowsPrefix self.old.shown self.old.posted }
         ensures { Swapped result self.old self.new }
     {
         replace_with(self, rt, Copies::swapped)

@@ -1,8 +1,8 @@
 //! Prefixes of a history as tokens: each gives the number of its entries, and the entries themselves to proofs alone.
 ghost use Rattle.std.specs.Prelude.{◌≡◌, ◌+◌, ◌<◌, ◌^◌, [], length, IsTrue, IfSome, MatchBool};
 ghost use Rattle.tb_published.specs.Openings.{LegalIn};
-ghost use Rattle.tb_published.specs.private.Prefixes.{Agree, state_of, with_entry, IsPrefixOf, longer};
-ghost use Rattle.tb_published.specs.private.Counting.{head_of};
+ghost use Rattle.tb_published.specs.private.Prefixes.{Agree, prefix_state, with_entry, IsPrefixOf, longer_prefix};
+ghost use Rattle.tb_published.specs.private.Counting.{named_head};
 ghost use Rattle.tb_machine.specs.Histories.{fits};
 
 use logbook::{Gain, Offer, Plain, Play, Rule, Seen, Start, Word};
@@ -124,7 +124,7 @@ impl Front {
     /// The longer of two fronts of one opening, which the other begins.
     pub fn longer(&self, other: &Front) -> Front
         requires { other.now.opening ≡ self.now.opening }
-        ensures longer { result ≡ longer self.now other.now }
+        ensures longer { result ≡ longer_prefix self.now other.now }
         ensures this { IsPrefixOf self.now result }
         ensures that { IsPrefixOf other.now result }
     {
@@ -138,9 +138,9 @@ impl Front {
 
     /// Counts an entry that may come next, and gives the front with it; None where another entry had been counted.
     fn followed_by(&self, head: &Head, entry: &Entry) -> Option<Front>
-        requires counted { head.now ≡ head_of self.now.opening.book }
+        requires counted { head.now ≡ named_head self.now.opening.book }
         requires capacity { length self.now.list + 1 < 2 ^ 64 }
-        requires next { IsTrue (fits (state_of self.now) entry.now) }
+        requires next { IsTrue (fits (prefix_state self.now) entry.now) }
         ensures { IfSome result (λ front. front ≡ with_entry self.now entry.now) }
     {
         let mut seen = self.seen.again();
@@ -179,13 +179,13 @@ pub struct HistoryHead {
 impl Model for HistoryHead {
     ghost use Rattle.std.specs.Prelude.{◌≡◌};
     ghost use Rattle.tb_published.specs.private.Prefixes.{Prefix};
-    ghost use Rattle.tb_published.specs.private.Counting.{head_of};
+    ghost use Rattle.tb_published.specs.private.Counting.{named_head};
 
     ghost Value = { Prefix };
 
     ghost view = { λ c. c.front };
 
-    ghost invariant = { λ c. c.head ≡ head_of c.front.opening.book };
+    ghost invariant = { λ c. c.head ≡ named_head c.front.opening.book };
 }
 
 impl HistoryHead {
@@ -218,7 +218,7 @@ impl HistoryHead {
     /// Adds an entry that may come next, and says whether it did: it did not where another had been added.
     pub fn add(&mut self, entry: &Entry) -> bool
         requires capacity { length self.old.list + 1 < 2 ^ 64 }
-        requires next { IsTrue (fits (state_of self.old) entry.now) }
+        requires next { IsTrue (fits (prefix_state self.old) entry.now) }
         ensures { MatchBool result (self.new ≡ with_entry self.old entry.now) (self.new ≡ self.old) }
     {
         match self.front.followed_by(&self.head, entry) {

@@ -2,7 +2,7 @@
 ghost use Rattle.std.specs.Prelude.{◌≡◌, ◌↔◌, ◌<◌, ◌≤◌, [], length, IsTrue, IsFalse, IfOk};
 ghost use mathlib.Core.List.{IsPrefix};
 ghost use Rattle.tb_published.specs.Openings.{LegalIn, after_in, OneBegins};
-ghost use Rattle.tb_published.specs.Taking.{Enters, TakesRequest, ShowsAll};
+ghost use Rattle.tb_published.specs.Taking.{Enters, TakesRequest, ShowsHistory};
 
 use crate::ahead::touch_eight;
 use crate::copies::Copies;
@@ -166,7 +166,7 @@ impl<J: Naming> Publisher<J> {
     pub fn show<W: Wait>(&mut self, rt: &W) -> Result<u64, TakeFault>
         ensures history { self.new.history ≡ self.old.history }
         ensures shown { IsPrefix self.old.shown self.new.shown }
-        ensures ends { ShowsAll result self.new.history self.new.shown }
+        ensures ends { ShowsHistory result self.new.history self.new.shown }
     {
         self.catch_up(rt);
         let last = self.history.len() as u64;

@@ -1,7 +1,7 @@
 //! A copy of the machine, and the posted entries that it takes in.
 ghost use Rattle.std.specs.Prelude.{◌≡◌, ◌+◌, ◌==◌, [], length, IfOk, IsTrue};
 ghost use Rattle.tb_machine.specs.Histories.{fits, step};
-ghost use Rattle.tb_published.specs.private.Prefixes.{prefix, state_of, with_entry, EndsWith};
+ghost use Rattle.tb_published.specs.private.Prefixes.{prefix, prefix_state, with_entry, EndsWith};
 
 use crate::ahead::accounts_of_entries;
 use crate::front::Front;
@@ -72,13 +72,13 @@ pub struct Replica<J: Naming> {
 
 impl<J: Naming> Model for Replica<J> {
     ghost use Rattle.std.specs.Prelude.{◌≡◌};
-    ghost use Rattle.tb_published.specs.private.Prefixes.{Prefix, state_of};
+    ghost use Rattle.tb_published.specs.private.Prefixes.{Prefix, prefix_state};
 
     ghost Value = { Prefix };
 
     ghost view = { λ r. r.front };
 
-    ghost invariant = { λ r. (r.front.opening ≡ J.opening) × (r.machine ≡ state_of r.front) };
+    ghost invariant = { λ r. (r.front.opening ≡ J.opening) × (r.machine ≡ prefix_state r.front) };
 }
 
 impl<J: Naming> Replica<J> {
@@ -99,7 +99,7 @@ impl<J: Naming> Replica<J> {
 
     /// The machine after the entries of the front.
     pub(crate) fn machine(&self) -> &Machine<Global>
-        ensures { result.now ≡ state_of self.now }
+        ensures { result.now ≡ prefix_state self.now }
     {
         &self.machine
     }
@@ -124,8 +124,8 @@ impl<J: Naming> Replica<J> {
     /// Says that a posted entry is the one behind the copy's. The publisher sends no other.
     fn comes_next(&self, posted: &Posted<J>) -> bool
         ensures one { result ≡ (length posted.now.front.list == length self.now.list + 1) }
-        ensures fits { IsTrue result → IsTrue (fits (state_of self.now) posted.now.entry) }
-        ensures leads { IsTrue result → state_of posted.now.front ≡ step (state_of self.now) posted.now.entry }
+        ensures fits { IsTrue result → IsTrue (fits (prefix_state self.now) posted.now.entry) }
+        ensures leads { IsTrue result → prefix_state posted.now.front ≡ step (prefix_state self.now) posted.now.entry }
     {
         let its = posted.front.len();
         let mine = self.front.len();

@@ -12,9 +12,9 @@ pub struct Published;
 
 impl<J: Naming> Protocol<Replica<J>, View> for Published {
     ghost use Rattle.std.specs.Prelude.{None};
-    ghost use Rattle.tb_published.specs.private.Sharing.{Shows};
+    ghost use Rattle.tb_published.specs.private.Sharing.{ShowsToReaders};
 
-    ghost holds = { Shows };
+    ghost holds = { ShowsToReaders };
 
     ghost first = { None };
 }

@@ -8,11 +8,12 @@ use Rattle.tb_records.specs.declared.reply_reading.ReplyHeader.{ReplyHeader}
 use Rattle.tb_records.specs.declared.bodies.ReplyBody.{ReplyBody}
 use Rattle.tb_records.specs.declared.faults.FrameFault.{FrameFault}
 use Rattle.tb_records.specs.declared.faults.FrameFault.TheVariants.{ClientZero, UnknownOperation, BadLength, TooMany, RegisterNumbers, RequestZero, ReplyNumbers}
-use Rattle.tb_records.specs.Messages.{status_code, is_operation, has_register_numbers, has_reply_numbers, kind_of, kind_for, items_max, IsRight}
+use Rattle.tb_records.specs.Messages.{status_code, is_operation, has_register_numbers, has_reply_numbers, kind_of, kind_for, IsRight}
 use Rattle.tb_records.specs.Numbers.{le_bytes, le_at}
 use Rattle.tb_records.specs.ReplyFrames.{reply_header_bytes, reply_header_fault, reply_header_tests, reply_body_bytes, has_reply_length, SpellsReply}
 use Rattle.tb_records.specs.private.ReplyHeaders.{IsReplyHeader, IsReplyBody}
 use Rattle.tb_records.specs.ReplyTests.{answer_of}
+use Rattle.tb_records.specs.declared.limits.TheConstants.{ITEMS_MAX}
 use Rattle.tb_records.proofs.NumberBytes.{le_at-fits}
 use Rattle.tb_records.proofs.ReplyFaults.{cut_reply_header, found_header_fault, cut_reply_body, whole_reply}
 use Rattle.tb_records.proofs.ReplyPlaces.{reply_widths}
@@ -54,7 +55,7 @@ answer_tests_of client session request operation status commit kind count =
     ∷ (not (operation == 2) && request == 0, RequestZero)
     ∷ (not (has_reply_numbers operation status session commit), ReplyNumbers)
     ∷ (not (kind == (if status == 0 then kind_for operation else 0)), BadLength)
-    ∷ (nat_lt items_max count, TooMany)
+    ∷ (nat_lt ITEMS_MAX count, TooMany)
     ∷ []
 
 -- a header without a fault, and a body of its kind and length: the reply's numbers go together

@@ -7,9 +7,9 @@ use Rattle.tb_records.specs.declared.bodies.ReplyBody.TheVariants.{Empty, Result
 use Rattle.tb_records.specs.declared.faults.FrameFault.{FrameFault}
 use Rattle.tb_records.specs.declared.faults.FrameFault.TheVariants.{NoMemory}
 use Rattle.tb_records.specs.declared.replies.Status.{Status}
-use Rattle.tb_records.specs.Messages.{Answer, status_code, answer_count, answer_fault, kind_of, kind_for, items_max}
+use Rattle.tb_records.specs.Messages.{Answer, status_code, answer_count, answer_fault, kind_of, kind_for}
 use Rattle.tb_records.specs.RecordBytes.{account_bytes, transfer_bytes, result_bytes, IsAccount, IsTransfer, IsResult}
-use Rattle.tb_records.specs.ReplyFrames.{reply_header_bytes, header_of_reply, reply_body_bytes, reply_bytes, reply_fault, reply_header_fault, ReplyBodyFits, FitsFrame, HasKind, IsReply, SpellsReply, FoundReply, OnlyThisReply}
+use Rattle.tb_records.specs.ReplyFrames.{reply_header_bytes, reply_body_bytes, reply_bytes, reply_fault, reply_header_fault, ReplyBodyFits, FitsFrame, HasKind, IsReply, SpellsReply, FoundReply, OnlyThisReply}
 use Rattle.tb_records.proofs.Sizes.{length-account, length-transfer, length-result}
 use Rattle.tb_records.proofs.NumberBytes.{split_at}
 use Rattle.tb_records.proofs.OneSpelling.{one_account, one_transfer, one_result, items_one}
@@ -18,6 +18,8 @@ use Rattle.tb_records.proofs.ReplyHeaderBytes.{answer_tests_of}
 use Rattle.tb_records.proofs.ReplyPlaces.{reply_widths, header_row, reply_places, length-reply_header}
 use Rattle.tb_records.proofs.Rows.{Fit, Stand, one_row}
 use Rattle.tb_records.specs.Numbers.{le_bytes}
+use Rattle.tb_records.specs.declared.limits.TheConstants.{ITEMS_MAX}
+use Rattle.tb_records.specs.private.Headers.{header_of_reply}
 use Rattle.tb_records.proofs.ReplyRows.{IsRow, is_row, row_length, row_count}
 use Rattle.tb_records.proofs.FirstFaults.{NoneHolds, none_each}
 
@@ -29,7 +31,7 @@ one_status : (s t : Status) → status_code s ≡ status_code t → s ≡ t
 one_status s t e = grind arith
 
 -- a body of at most 8190 items has fewer than 2^32 bytes
-row_small : (operation status len count : ℕ) → IsRow operation status len count → nat_lt items_max count ≡ false → len < 2 ^ 32
+row_small : (operation status len count : ℕ) → IsRow operation status len count → nat_lt ITEMS_MAX count ≡ false → len < 2 ^ 32
 row_small operation status len count row few = grind (arith, nat_tests)
 
 -- what the rules say of a reply, test by test

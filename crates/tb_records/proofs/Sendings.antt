@@ -11,8 +11,9 @@ use Rattle.tb_records.specs.declared.faults.FrameFault.TheVariants.{Device}
 use Rattle.tb_records.specs.declared.bodies.Body.{Body}
 use Rattle.tb_records.specs.Frames.{header_bytes, body_bytes, request_bytes}
 use Rattle.tb_records.specs.Messages.{Message, Answer, operation}
-use Rattle.tb_records.specs.ReplyFrames.{header_of_reply, reply_body_bytes, reply_bytes}
+use Rattle.tb_records.specs.ReplyFrames.{reply_body_bytes, reply_bytes}
 use Rattle.tb_records.specs.Transport.{Output, Sent, CutOff}
+use Rattle.tb_records.specs.private.Headers.{header_of_reply}
 use Rattle.tb_records.proofs.Pieces.{refuses_since}
 
 module _ (xs ys : List ℕ) (old mid new : Output) where

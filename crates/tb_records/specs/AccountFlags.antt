@@ -33,7 +33,6 @@ account_flags_reserved = 2 ^ 16 - 1 - (
     + account_flag_bit History
     + account_flag_bit Closed)
 
--- an account has a flag
 abbrev pub account_has : AccountFlag → Account → Bool
 account_has flag a = has_flag (account_flag_bit flag) a.flags
 

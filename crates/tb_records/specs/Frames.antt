@@ -5,12 +5,13 @@ use Rattle.tb_records.specs.declared.bodies.Body.TheVariants.{Register, CreateAc
 use Rattle.tb_records.specs.declared.faults.FrameFault.{FrameFault}
 use Rattle.tb_records.specs.declared.faults.FrameFault.TheVariants.{Short, ClientZero, UnknownOperation, Reserved, BadLength, TooMany, RegisterNumbers, RequestZero}
 use Rattle.tb_records.specs.declared.operations.Operation.TheVariants as op
-use Rattle.tb_records.specs.Messages.{Message, operation, is_operation, first_fault, items_max, IsLawful}
+use Rattle.tb_records.specs.Messages.{Message, operation, is_operation, first_fault, IsLawful}
 use Rattle.tb_records.specs.Numbers.{le_bytes, le_at}
 use Rattle.tb_records.specs.Operations.{operation_code}
 use Rattle.tb_records.specs.RecordBytes.{account_bytes, transfer_bytes, IsAccount, IsTransfer}
+use Rattle.tb_records.specs.declared.limits.TheConstants.{ITEMS_MAX}
 
--- the 48 bytes of a header: client, session, request, operation, 3 zero bytes, the body's length, 12 zero bytes
+-- the 48 bytes of a header
 unfoldable pub header_bytes : ℕ → ℕ → ℕ → ℕ → ℕ → List ℕ
 header_bytes client session request operation len =
     le_bytes 16 client
@@ -21,7 +22,7 @@ header_bytes client session request operation len =
     ++ le_bytes 4 len
     ++ replicate 12 0
 
--- a body is its items, one behind the other
+-- one item after another
 unfoldable pub body_bytes : Body → List ℕ
 body_bytes Register = []
 body_bytes (CreateAccounts events) = flat_map account_bytes events
@@ -29,13 +30,9 @@ body_bytes (CreateTransfers events) = flat_map transfer_bytes events
 body_bytes (LookupAccounts ids) = flat_map (le_bytes 16) ids
 body_bytes (LookupTransfers ids) = flat_map (le_bytes 16) ids
 
--- the header of a request before a body of a length
-abbrev pub header_of_request : Message → ℕ → List ℕ
-header_of_request r len = header_bytes r.client r.session r.request (operation r.body) len
-
 -- the bytes of a request
 abbrev pub request_bytes : Message → List ℕ
-request_bytes r = header_of_request r (length (body_bytes r.body)) ++ body_bytes r.body
+request_bytes r = header_bytes r.client r.session r.request (operation r.body) (length (body_bytes r.body)) ++ body_bytes r.body
 
 -- an id fits its 16 bytes
 abbrev pub IsId : ℕ → Type 0
@@ -93,7 +90,7 @@ item_size operation = if operation == operation_code op.CreateAccounts || operat
 abbrev pub length_tests : ℕ → ℕ → List (Bool × FrameFault)
 length_tests operation len =
     (not ((if operation == operation_code op.Register then len else len % item_size operation) == 0), BadLength)
-    ∷ (nat_lt items_max (len / item_size operation), TooMany)
+    ∷ (nat_lt ITEMS_MAX (len / item_size operation), TooMany)
     ∷ []
 
 -- what a header may have wrong, in the order of the tests

@@ -45,13 +45,11 @@ item_count (CreateTransfers events) = length events
 item_count (LookupAccounts ids) = length ids
 item_count (LookupTransfers ids) = length ids
 
--- the number of events: a register or a lookup has none
+-- the number of events
 abbrev pub count : Body → ℕ
-count Register = 0
 count (CreateAccounts events) = length events
 count (CreateTransfers events) = length events
-count (LookupAccounts ids) = 0
-count (LookupTransfers ids) = 0
+count _ = 0
 
 abbrev pub is_register : Body → Bool
 is_register body = operation body == operation_code op.Register
@@ -61,18 +59,13 @@ abbrev pub first_fault : List (Bool × FrameFault) → Option FrameFault
 first_fault [] = None
 first_fault (test ∷ tests) = if test.0 then Some test.1 else first_fault tests
 
--- the most items that a body has
-abbrev pub items_max : ℕ
-items_max = ITEMS_MAX
-
--- what a request's numbers may have wrong; the first test that holds decides: the client is 0; a register has a session or a
--- request that is not 0; another operation has request 0; there are more items than a body may have
+-- what a request's numbers may have wrong
 abbrev pub number_fault : Message → Option FrameFault
 number_fault r = first_fault (
     (r.client == 0, ClientZero)
     ∷ (is_register r.body && not (r.session == 0 && r.request == 0), RegisterNumbers)
     ∷ (not (is_register r.body) && r.request == 0, RequestZero)
-    ∷ (nat_lt items_max (item_count r.body), TooMany)
+    ∷ (nat_lt ITEMS_MAX (item_count r.body), TooMany)
     ∷ [])
 
 -- a request whose numbers keep the rules
@@ -144,7 +137,7 @@ answer_fault r = first_fault (
     ∷ (not (r.operation == operation_code op.Register) && r.request == 0, RequestZero)
     ∷ (not (has_reply_numbers r.operation (status_code r.status) r.session r.commit), ReplyNumbers)
     ∷ (not (kind_of r.body == (if status_code r.status == 0 then kind_for r.operation else 0)), BadLength)
-    ∷ (nat_lt items_max (answer_count r.body), TooMany)
+    ∷ (nat_lt ITEMS_MAX (answer_count r.body), TooMany)
     ∷ [])
 
 -- a reply that a frame can carry

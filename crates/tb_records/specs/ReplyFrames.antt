@@ -6,11 +6,12 @@ use Rattle.tb_records.specs.declared.bodies.ReplyBody.TheVariants.{Empty, Result
 use Rattle.tb_records.specs.declared.faults.FrameFault.{FrameFault}
 use Rattle.tb_records.specs.declared.faults.FrameFault.TheVariants.{Short, ClientZero, UnknownOperation, Reserved, BadLength, TooMany, RegisterNumbers, RequestZero, NoMemory, ReplyNumbers}
 use Rattle.tb_records.specs.declared.operations.Operation.TheVariants as op
-use Rattle.tb_records.specs.Messages.{Answer, IsRight, kind_of, kind_for, status_code, first_fault, items_max, is_operation, has_register_numbers, has_reply_numbers}
+use Rattle.tb_records.specs.Messages.{Answer, IsRight, kind_of, kind_for, status_code, first_fault, is_operation, has_register_numbers, has_reply_numbers}
 use Rattle.tb_records.specs.Numbers.{le_bytes, le_at}
 use Rattle.tb_records.specs.Operations.{operation_code}
 use Rattle.tb_records.specs.RecordBytes.{account_bytes, transfer_bytes, result_bytes, IsAccount, IsTransfer, IsResult}
 use Rattle.tb_records.specs.Frames.{client_at, session_at, request_at, operation_at, length_at}
+use Rattle.tb_records.specs.declared.limits.TheConstants.{ITEMS_MAX}
 
 -- the header of a reply
 unfoldable pub reply_header_bytes : ℕ → ℕ → ℕ → ℕ → ℕ → ℕ → ℕ → List ℕ
@@ -25,20 +26,18 @@ reply_header_bytes client session request operation status len commit =
     ++ le_bytes 8 commit
     ++ replicate 4 0
 
--- the results or records of a reply, one behind the other
+-- one result or record after another
 unfoldable pub reply_body_bytes : ReplyBody → List ℕ
 reply_body_bytes Empty = []
 reply_body_bytes (Results results) = flat_map result_bytes results
 reply_body_bytes (Accounts accounts) = flat_map account_bytes accounts
 reply_body_bytes (Transfers transfers) = flat_map transfer_bytes transfers
 
--- the header of a reply before a body of this length
-abbrev pub header_of_reply : Answer → ℕ → List ℕ
-header_of_reply r len = reply_header_bytes r.client r.session r.request r.operation (status_code r.status) len r.commit
-
 -- the frame of a reply
 abbrev pub reply_bytes : Answer → List ℕ
-reply_bytes r = header_of_reply r (length (reply_body_bytes r.body)) ++ reply_body_bytes r.body
+reply_bytes r =
+    reply_header_bytes r.client r.session r.request r.operation (status_code r.status) (length (reply_body_bytes r.body)) r.commit
+    ++ reply_body_bytes r.body
 
 -- the numbers of the results or records fit their fields
 abbrev pub ReplyBodyFits : ReplyBody → Type 0
@@ -99,7 +98,7 @@ reply_header_tests b =
     ∷ (not (operation_at b == operation_code op.Register) && request_at b == 0, RequestZero)
     ∷ (not (has_reply_numbers (operation_at b) (status_at b) (session_at b) (commit_at b)), ReplyNumbers)
     ∷ (not (has_reply_length (operation_at b) (status_at b) (length_at b)), BadLength)
-    ∷ (nat_lt items_max (length_at b / reply_item_size (operation_at b)), TooMany)
+    ∷ (nat_lt ITEMS_MAX (length_at b / reply_item_size (operation_at b)), TooMany)
     ∷ []
 
 unfoldable pub reply_header_fault : List ℕ → Option FrameFault

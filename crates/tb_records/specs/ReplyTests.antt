@@ -6,10 +6,11 @@ use Rattle.tb_records.specs.declared.faults.FrameFault.{FrameFault}
 use Rattle.tb_records.specs.declared.faults.FrameFault.TheVariants.{ClientZero, UnknownOperation, Reserved, BadLength, TooMany, RegisterNumbers, RequestZero, ReplyNumbers}
 use Rattle.tb_records.specs.declared.operations.Operation.TheVariants as op
 use Rattle.tb_records.specs.Frames.{client_at, operation_at}
-use Rattle.tb_records.specs.Messages.{Answer, answered, status_code, is_operation, items_max, has_register_numbers, has_reply_numbers}
+use Rattle.tb_records.specs.Messages.{Answer, answered, status_code, is_operation, has_register_numbers, has_reply_numbers}
 use Rattle.tb_records.specs.Numbers.{le_at}
 use Rattle.tb_records.specs.Operations.{operation_code}
 use Rattle.tb_records.specs.ReplyFrames.{status_at, reply_item_size, has_reply_length}
+use Rattle.tb_records.specs.declared.limits.TheConstants.{ITEMS_MAX}
 
 -- what a field by itself may have wrong: the client, the operation, the status, the zero bytes
 abbrev pub reply_field_tests : List ℕ → List (Bool × FrameFault)
@@ -39,5 +40,5 @@ number_tests n = reply_number_tests n.operation (status_code n.status) n.session
 abbrev pub reply_length_tests : ℕ → ℕ → ℕ → List (Bool × FrameFault)
 reply_length_tests operation status len =
     (not (has_reply_length operation status len), BadLength)
-    ∷ (nat_lt items_max (len / reply_item_size operation), TooMany)
+    ∷ (nat_lt ITEMS_MAX (len / reply_item_size operation), TooMany)
     ∷ []

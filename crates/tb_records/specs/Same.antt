@@ -6,7 +6,6 @@ use Rattle.tb_records.specs.declared.records.Transfer.{Transfer}
 use Rattle.tb_records.specs.declared.bodies.Body.{Body}
 use Rattle.tb_records.specs.declared.bodies.Body.TheVariants.{Register, CreateAccounts, CreateTransfers, LookupAccounts, LookupTransfers}
 
--- every field of two accounts is the same
 abbrev pub same_account : Account → Account → Bool
 same_account a b =
     nat_eq a.id b.id && nat_eq a.debits_pending b.debits_pending && nat_eq a.debits_posted b.debits_posted
@@ -15,7 +14,6 @@ same_account a b =
     && nat_eq a.reserved b.reserved && nat_eq a.ledger b.ledger && nat_eq a.code b.code && nat_eq a.flags b.flags
     && nat_eq a.timestamp b.timestamp
 
--- every field of two transfers is the same
 abbrev pub same_transfer : Transfer → Transfer → Bool
 same_transfer a b =
     nat_eq a.id b.id && nat_eq a.debit_account_id b.debit_account_id && nat_eq a.credit_account_id b.credit_account_id
@@ -24,7 +22,7 @@ same_transfer a b =
     && nat_eq a.timeout b.timeout && nat_eq a.ledger b.ledger && nat_eq a.code b.code && nat_eq a.flags b.flags
     && nat_eq a.timestamp b.timestamp
 
--- the same operation, over the same items in the same order
+-- the same operation over the same items
 abbrev pub same_body : Body → Body → Bool
 same_body Register Register = true
 same_body (CreateAccounts xs) (CreateAccounts ys) = pointwise same_account xs ys

@@ -42,7 +42,6 @@ transfer_flags_reserved = 2 ^ 16 - 1 - (
     + transfer_flag_bit ClosingDebit
     + transfer_flag_bit ClosingCredit)
 
--- a transfer has a flag
 abbrev pub transfer_has : TransferFlag → Transfer → Bool
 transfer_has flag t = has_flag (transfer_flag_bit flag) t.flags
 

@@ -4,17 +4,16 @@ use Rattle.std.specs.Io.KnownBytes.{Appends}
 use Rattle.tb_records.specs.declared.faults.FrameFault.{FrameFault}
 use Rattle.tb_records.specs.declared.faults.FrameFault.TheVariants.{Device}
 
--- a reader: the bytes that are left, where it reports them, the number of its errors, whether its last answer was one, and the
--- bytes that are buffered, which the next reads give without waiting for more
+-- a reader: the bytes that are left, if it reports them, the number of its errors, whether its last answer was one, and the
+-- bytes that the next reads give without waiting
 pub record Input : Type 0 where
   pub left : Option (List ℕ)
   pub failed : ℕ
   pub halted : Bool
   pub at_hand : List ℕ
 
--- a writer: the bytes written, where it reports them, the number of its errors, how often it took nothing of what it was
--- offered, whether its last answer was one of these, and whether it holds bytes back: it took some since what it holds was
--- passed on the last time
+-- a writer: the bytes written, if it reports them, the number of its errors, how often it took nothing of what it was
+-- offered, whether its last answer was one of these, and whether it took bytes that it has not passed on
 pub record Output : Type 0 where
   pub written : Option (List ℕ)
   pub failed : ℕ

@@ -1,5 +1,6 @@
 -- what private contracts alone cite
 pub mod HeaderFields
+pub mod Headers
 pub mod ReplyHeaders
 pub mod Reading
 pub mod PairAtHand

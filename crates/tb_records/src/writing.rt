@@ -1,10 +1,12 @@
 //! Requests and replies written as frames, to a vector or to a sink.
 ghost use Rattle.std.specs.Prelude.{◌≡◌, ◌≤◌, ◌+◌, ◌*◌, ◌++◌, ◌<◌, ◌^◌, length, All, vec_len, vec_capacity, OnOk, OnErr};
 ghost use Rattle.std.specs.List.{flat_map};
-ghost use Rattle.tb_records.specs.Frames.{header_of_request, body_bytes, request_bytes, BodyFits, IsRequest};
-ghost use Rattle.tb_records.specs.Messages.{item_count, items_max, answer_count};
-ghost use Rattle.tb_records.specs.ReplyFrames.{reply_header_bytes, header_of_reply, reply_body_bytes, reply_bytes, ReplyBodyFits, IsReply};
+ghost use Rattle.tb_records.specs.Frames.{body_bytes, request_bytes, BodyFits, IsRequest};
+ghost use Rattle.tb_records.specs.Messages.{item_count, answer_count};
+ghost use Rattle.tb_records.specs.ReplyFrames.{reply_header_bytes, reply_body_bytes, reply_bytes, ReplyBodyFits, IsReply};
 ghost use Rattle.tb_records.specs.Transport.{IsSent};
+ghost use Rattle.tb_records.specs.declared.limits.TheConstants.{ITEMS_MAX};
+ghost use Rattle.tb_records.specs.private.Headers.{header_of_request, header_of_reply};
 
 use crate::bodies::{Body, ReplyBody};
 use crate::devices::{Sink, put_all, put_items};
@@ -97,7 +99,7 @@ fn append_items<T: Item>(items: &[T], out: &mut Vec<u8>)
 /// The number of bytes that a body of a frame has.
 #[tactic(auto, unfolding(crate::specs::Frames::body_bytes))]
 fn body_len(body: &Body) -> u32
-    requires { item_count body.now ≤ items_max }
+    requires { item_count body.now ≤ ITEMS_MAX }
     ensures { result ≡ length (body_bytes body.now) }
 {
     match body {
@@ -112,7 +114,7 @@ fn body_len(body: &Body) -> u32
 /// The number of bytes that the body of a reply has.
 #[tactic(auto, unfolding(crate::specs::ReplyFrames::reply_body_bytes))]
 fn reply_body_len(body: &ReplyBody) -> u32
-    requires { answer_count body.now ≤ items_max }
+    requires { answer_count body.now ≤ ITEMS_MAX }
     ensures { result ≡ length (reply_body_bytes body.now) }
 {
     match body {
@@ -125,7 +127,7 @@ fn reply_body_len(body: &ReplyBody) -> u32
 
 /// The number of bytes that the items of a body have.
 fn items_len<T: Item>(items: &[T]) -> u32
-    requires { length items.now ≤ items_max }
+    requires { length items.now ≤ ITEMS_MAX }
     ensures { result ≡ length (flat_map T.spelling items.now) }
 {
     (items.len() * T::SIZE) as u32

@@ -8,10 +8,10 @@ use Rattle.tb_service.specs.declared.orders.Order.{Order}
 use Rattle.tb_service.specs.declared.rule.View.{View}
 use Rattle.tb_service.specs.declared.ends.Ended.{Ended}
 use Rattle.tb_service.specs.declared.ends.Ended.TheVariants as way
-use Rattle.tb_service.specs.Sent.{requests_in, requests_of, is_closed}
+use Rattle.tb_service.specs.Sent.{requests_in, requests_of, is_port_closed}
 use Rattle.tb_service.specs.Names.{Name}
 use Rattle.tb_service.specs.Ports.{Offers, AreNumbered}
-use Rattle.tb_service.specs.private.Rule.{taken_in, Accounts}
+use Rattle.tb_service.specs.private.Rule.{taken_in, TalliesOrders}
 use Rattle.tb_service.specs.Places.{requests, ports, places_from}
 use Rattle.tb_service.specs.Finished.{IsOffered}
 
@@ -75,11 +75,11 @@ by_place p n front whole (o ∷ os) is long =
     ∙ joined (o.port == p) rs (requests_of p os)
 
 -- what a port offered is at its places, as far as it was taken
-pub accounted : (v u w : View) (items : List Order) (number : ℕ) (places : List ℕ) (ended : Ended) → w ≡ taken_in v u → Accounts w items → number ≡ u.port
-    → places ≡ places_from number 1 (ports v.taken) → (ended ≡ way.Closed → (p : ℕ) → p < v.ports → is_closed p v.taken ≡ true)
+pub accounted : (v u w : View) (items : List Order) (number : ℕ) (places : List ℕ) (ended : Ended) → w ≡ taken_in v u → TalliesOrders w items → number ≡ u.port
+    → places ≡ places_from number 1 (ports v.taken) → (ended ≡ way.Closed → (p : ℕ) → p < v.ports → is_port_closed p v.taken ≡ true)
     → IsOffered u.offered (requests v.taken) places ended
 accounted v u w items number places ended is account mine here over =
-    let learnt : Accounts (taken_in v u) items = subst (λ (x : View). Accounts x items) is account in
+    let learnt : TalliesOrders (taken_in v u) items = subst (λ (x : View). TalliesOrders x items) is account in
     let there : map (get_at (requests v.taken)) places ≡ map Some (requests_of u.port v.taken) =
     ap (map (get_at (requests v.taken))) (here ∙ ap (λ (k : ℕ). places_from k 1 (ports v.taken)) mine) ∙ by_place u.port 0 [] (requests v.taken) v.taken refl refl in
     record {

@@ -9,10 +9,10 @@ use Rattle.tb_machine.specs.Scripts.{Pair, entry_of, is_entered}
 use Rattle.tb_published.specs.declared.faults.TakeFault.{TakeFault}
 use Rattle.tb_published.specs.Openings.{Opening, after_in}
 use Rattle.tb_service.specs.declared.ends.Ended.{Ended}
-use Rattle.tb_service.specs.History.{accepted_in, Turn, requests_at, unless, kept}
+use Rattle.tb_service.specs.History.{accepted_in, Turn, requests_at, unless, pairs_kept}
 use Rattle.tb_service.specs.Places.{places_from, HaveOwners}
 use Rattle.tb_service.specs.Finished.{IsOffered}
-use Rattle.tb_service.specs.OfferedLaws.{HasOwner, NoneInvented}
+use Rattle.tb_service.specs.OfferedLaws.{HasOwner, NoOfferInvented}
 
 -- x is in a list
 
@@ -95,16 +95,16 @@ module _ (o : Opening) (Owned : Message → Type 0) where
   unless_owned None p own = All-cons OwnedPair p [] own (All-nil OwnedPair)
   unless_owned (Some f) p own = All-nil OwnedPair
 
-  kept_owned : (ts : List Turn) → All Owned (requests_at ts) → All OwnedPair (kept ts)
+  kept_owned : (ts : List Turn) → All Owned (requests_at ts) → All OwnedPair (pairs_kept ts)
   kept_owned [] all = All-nil OwnedPair
   kept_owned (t ∷ ts) all =
-      All-append OwnedPair (unless t.fault (t.moment, t.request)) (kept ts) (unless_owned t.fault (t.moment, t.request) (All-head Owned t.request (requests_at ts) all))
+      All-append OwnedPair (unless t.fault (t.moment, t.request)) (pairs_kept ts) (unless_owned t.fault (t.moment, t.request) (All-head Owned t.request (requests_at ts) all))
       (kept_owned ts (All-tail Owned t.request (requests_at ts) all))
 
-pub none_invented : {M G : Type 0} (o : Opening) (tells : M → ℕ → M → Type 0) (passes : G → ℕ → G → Type 0) → NoneInvented o tells passes
+pub none_invented : {M G : Type 0} (o : Opening) (tells : M → ℕ → M → Type 0) (passes : G → ℕ → G → Type 0) → NoOfferInvented o tells passes
 none_invented o tells passes before taken owners refused history count offered ended run have claims =
     let Owned : Message → Type 0 = HasOwner count offered in
     let turns : List Turn = run.serves.turns in
     let all : All Owned (requests_at turns) = subst (All Owned) (sym run.serves.served) (owner count offered taken owners ended have claims) in
-    let grown = grows o Owned before.history (kept turns) (kept_owned o Owned turns all) in
+    let grown = grows o Owned before.history (pairs_kept turns) (kept_owned o Owned turns all) in
     record { more = grown.0; grown = sym run.serves.history ∙ grown.1; owned = grown.2 }

@@ -2,7 +2,7 @@
 use Rattle.std.proofs.Common.{◌≡◌, ◌≢◌, ℕ, Bool, true, false, true≢false, ◌==◌, ◌&&◌, ◌||◌, List, [], ◌∷◌, ◌++◌, if◌then◌else◌, refl, sym, ap, ◌∙◌, append_assoc, append-nil, eq-eqb, ne_eqb}
 use Rattle.tb_records.specs.Messages.{Message}
 use Rattle.tb_service.specs.declared.orders.Order.{Order}
-use Rattle.tb_service.specs.Sent.{requests_in, closes, requests_of, is_closed, has_none_of, ends_at_close}
+use Rattle.tb_service.specs.Sent.{requests_in, closes, requests_of, is_port_closed, has_none_of, ends_at_close}
 
 -- two lines, one behind the other
 
@@ -20,11 +20,11 @@ or_assoc : (x y z : Bool) → (x || (y || z)) ≡ ((x || y) || z)
 or_assoc true y z = refl
 or_assoc false y z = refl
 
-pub is_closed-append : (p : ℕ) (a b : List Order) → is_closed p (a ++ b) ≡ (is_closed p a || is_closed p b)
-is_closed-append p [] b = refl
-is_closed-append p (o ∷ os) b =
-    ap (λ (l : Bool). (o.port == p && closes o.what) || l) (is_closed-append p os b)
-    ∙ or_assoc (o.port == p && closes o.what) (is_closed p os) (is_closed p b)
+pub is_port_closed-append : (p : ℕ) (a b : List Order) → is_port_closed p (a ++ b) ≡ (is_port_closed p a || is_port_closed p b)
+is_port_closed-append p [] b = refl
+is_port_closed-append p (o ∷ os) b =
+    ap (λ (l : Bool). (o.port == p && closes o.what) || l) (is_port_closed-append p os b)
+    ∙ or_assoc (o.port == p && closes o.what) (is_port_closed p os) (is_port_closed p b)
 
 and_if : (b x y : Bool) → (if b then false else (x && y)) ≡ ((if b then false else x) && y)
 and_if true x y = refl
@@ -50,9 +50,9 @@ none_closed : (b c l none : Bool) → (if b then false else none) ≡ true → (
 none_closed true c l none h rest = absurd (true≢false (sym h))
 none_closed false c l none h rest = rest h
 
-pub is_closed-none : (p : ℕ) (l : List Order) → has_none_of p l ≡ true → is_closed p l ≡ false
-is_closed-none p [] h = refl
-is_closed-none p (o ∷ os) h = none_closed (o.port == p) (closes o.what) (is_closed p os) (has_none_of p os) h (is_closed-none p os)
+pub is_port_closed-none : (p : ℕ) (l : List Order) → has_none_of p l ≡ true → is_port_closed p l ≡ false
+is_port_closed-none p [] h = refl
+is_port_closed-none p (o ∷ os) h = none_closed (o.port == p) (closes o.what) (is_port_closed p os) (has_none_of p os) h (is_port_closed-none p os)
 
 -- one order more: of the port itself, and of another
 
@@ -73,18 +73,18 @@ module _ (sent_orders : List Order) (o : Order) where
   or_false true = refl
   or_false false = refl
 
-  pub is_closed-own : (p : ℕ) → o.port ≡ p → is_closed p sent_orders ≡ false → is_closed p (sent_orders ++ o ∷ []) ≡ closes o.what
-  is_closed-own p own before =
-      is_closed-append p sent_orders (o ∷ [])
+  pub is_port_closed-own : (p : ℕ) → o.port ≡ p → is_port_closed p sent_orders ≡ false → is_port_closed p (sent_orders ++ o ∷ []) ≡ closes o.what
+  is_port_closed-own p own before =
+      is_port_closed-append p sent_orders (o ∷ [])
       ∙ ap (λ (b : Bool). b || ((o.port == p && closes o.what) || false)) before
       ∙ or_false (o.port == p && closes o.what)
       ∙ ap (λ (b : Bool). b && closes o.what) (eq-eqb o.port p own)
 
-  pub is_closed-other : (p : ℕ) → o.port ≢ p → is_closed p (sent_orders ++ o ∷ []) ≡ is_closed p sent_orders
-  is_closed-other p other =
-      is_closed-append p sent_orders (o ∷ [])
-      ∙ ap (λ (b : Bool). is_closed p sent_orders || ((b && closes o.what) || false)) (ne_eqb o.port p other)
-      ∙ or_false (is_closed p sent_orders)
+  pub is_port_closed-other : (p : ℕ) → o.port ≢ p → is_port_closed p (sent_orders ++ o ∷ []) ≡ is_port_closed p sent_orders
+  is_port_closed-other p other =
+      is_port_closed-append p sent_orders (o ∷ [])
+      ∙ ap (λ (b : Bool). is_port_closed p sent_orders || ((b && closes o.what) || false)) (ne_eqb o.port p other)
+      ∙ or_false (is_port_closed p sent_orders)
 
   pub has_none_of-other : (p : ℕ) → o.port ≢ p → has_none_of p sent_orders ≡ true → has_none_of p (sent_orders ++ o ∷ []) ≡ true
   has_none_of-other p other none =
@@ -117,13 +117,13 @@ if_both : (b : Bool) → (if b then true else true) ≡ true
 if_both true = refl
 if_both false = refl
 
-pub ends_at_close-own : (p : ℕ) (sent_orders : List Order) (o : Order) → is_closed p sent_orders ≡ false → ends_at_close p sent_orders ≡ true → ends_at_close p (sent_orders ++ o ∷ []) ≡ true
+pub ends_at_close-own : (p : ℕ) (sent_orders : List Order) (o : Order) → is_port_closed p sent_orders ≡ false → ends_at_close p sent_orders ≡ true → ends_at_close p (sent_orders ++ o ∷ []) ≡ true
 ends_at_close-own p [] o before ends = if_both (o.port == p && closes o.what)
 ends_at_close-own p (x ∷ xs) o before ends =
-    let here : (x.port == p && closes x.what) ≡ false = or_left (x.port == p && closes x.what) (is_closed p xs) before in
+    let here : (x.port == p && closes x.what) ≡ false = or_left (x.port == p && closes x.what) (is_port_closed p xs) before in
     ends_step (x.port == p && closes x.what) (has_none_of p xs) (ends_at_close p xs) (has_none_of p (xs ++ o ∷ [])) (ends_at_close p (xs ++ o ∷ [])) ends
     (λ is. absurd (true≢false (sym is ∙ here)))
-    (λ is. ends_at_close-own p xs o (or_right (x.port == p && closes x.what) (is_closed p xs) before) (if_false (x.port == p && closes x.what) (has_none_of p xs) (ends_at_close p xs) is ends))
+    (λ is. ends_at_close-own p xs o (or_right (x.port == p && closes x.what) (is_port_closed p xs) before) (if_false (x.port == p && closes x.what) (has_none_of p xs) (ends_at_close p xs) is ends))
 
 pub ends_at_close-other : (p : ℕ) (sent_orders : List Order) (o : Order) → o.port ≢ p → ends_at_close p sent_orders ≡ true → ends_at_close p (sent_orders ++ o ∷ []) ≡ true
 ends_at_close-other p [] o other ends = if_both (o.port == p && closes o.what)
@@ -150,9 +150,9 @@ by_close : (G : Type 0) (c closed none more : Bool) → (c || closed) ≡ true �
 by_close G true closed none more is ends at on = at ends
 by_close G false closed none more is ends at on = on is ends
 
-pub nothing_behind : (p : ℕ) (a b : List Order) → is_closed p a ≡ true → ends_at_close p (a ++ b) ≡ true → requests_of p b ≡ []
+pub nothing_behind : (p : ℕ) (a b : List Order) → is_port_closed p a ≡ true → ends_at_close p (a ++ b) ≡ true → requests_of p b ≡ []
 nothing_behind p [] b closed ends = absurd (true≢false (sym closed))
 nothing_behind p (x ∷ xs) b closed ends =
-    by_close (requests_of p b ≡ []) (x.port == p && closes x.what) (is_closed p xs) (has_none_of p (xs ++ b)) (ends_at_close p (xs ++ b)) closed ends
+    by_close (requests_of p b ≡ []) (x.port == p && closes x.what) (is_port_closed p xs) (has_none_of p (xs ++ b)) (ends_at_close p (xs ++ b)) closed ends
     (none_behind p xs b)
     (nothing_behind p xs b)

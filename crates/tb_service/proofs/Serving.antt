@@ -15,7 +15,7 @@ use Rattle.tb_service.specs.Sent.{requests_in}
 use Rattle.tb_service.specs.Places.{requests, ports, HaveOwners}
 use Rattle.tb_service.specs.Names.{service_of}
 use Rattle.tb_service.specs.History.{Serves, ServesOn}
-use Rattle.tb_service.specs.Clerks.{server_state, Uses}
+use Rattle.tb_service.specs.Clerks.{server_state, UsesPlaces}
 use Rattle.tb_service.specs.private.Desks.{ServesOrders}
 use Rattle.tb_service.specs.Servers.{Finishes}
 use Rattle.tb_service.proofs.Turns.{serves_on_none, serves_on_more, serves_on_at}
@@ -67,10 +67,10 @@ places_after taken longer order a b c d before is room served shown =
 module _ {J W M G : Type 0} where
   -- state
 
-  pub uses_none : (c : Clerk J W M G) → Uses 0 c c
+  pub uses_none : (c : Clerk J W M G) → UsesPlaces 0 c c
   uses_none c = record { ports = omega arith; refused = omega arith; places = refl; refusals = refl }
 
-  pub uses_one_more : (n m : ℕ) (c d e : Clerk J W M G) → n + 1 ≡ m → Uses n c d → Uses 1 d e → Uses m c e
+  pub uses_one_more : (n m : ℕ) (c d e : Clerk J W M G) → n + 1 ≡ m → UsesPlaces n c d → UsesPlaces 1 d e → UsesPlaces m c e
   uses_one_more n m c d e is these those =
       let a = these.ports in let b = these.refused in let x = those.ports in let y = those.refused in
       record { ports = omega arith; refused = omega arith; places = those.places ∙ these.places; refusals = those.refusals ∙ these.refusals }

@@ -10,9 +10,9 @@ use Rattle.atomic_table.proofs.Lists.{at_set}
 use Rattle.tb_records.specs.Messages.{Message}
 use Rattle.tb_service.specs.declared.orders.Order.{Order}
 use Rattle.tb_service.specs.declared.rule.View.{View}
-use Rattle.tb_service.specs.Sent.{requests_in, requests_of, is_closed, has_none_of, ends_at_close}
-use Rattle.tb_service.specs.private.Rule.{spent, port_view, server_view, server_with, sent, taken_in, IsPort, IsServer, Fits, Queued, Accounts}
-use Rattle.tb_service.proofs.SentOrders.{requests_of-append, requests_of-none, is_closed-none, requests_of-own, requests_of-other, is_closed-own, is_closed-other, has_none_of-other, ends_at_close-own, ends_at_close-other, nothing_behind, has_none_here}
+use Rattle.tb_service.specs.Sent.{requests_in, requests_of, is_port_closed, has_none_of, ends_at_close}
+use Rattle.tb_service.specs.private.Rule.{spent, port_view, server_view, server_with, sent, taken_in, IsPort, IsServer, FitsOrders, Queued, TalliesOrders}
+use Rattle.tb_service.proofs.SentOrders.{requests_of-append, requests_of-none, is_port_closed-none, requests_of-own, requests_of-other, is_port_closed-own, is_port_closed-other, has_none_of-other, ends_at_close-own, ends_at_close-other, nothing_behind, has_none_here}
 
 -- a fact of every view, after one is set or one is added
 
@@ -51,7 +51,7 @@ begins = record {
   ended = λ p. refl;
   fits = λ pass v e.
       let first : View = server_view 0 [] in
-      all_snoc (λ j u. Fits [] [] 0 (λ p. 0) 0 j u) [] first (λ j u n. absurd (some-ne-none u (sym n)))
+      all_snoc (λ j u. FitsOrders [] [] 0 (λ p. 0) 0 j u) [] first (λ j u n. absurd (some-ne-none u (sym n)))
       (no_port [] 0 (λ p. 0) 0 first refl, λ _. record { mine = refl; takes = refl; makes = refl; apart = refl; knows = λ k. absurd (true≢false (sym k)) })
       pass v e;
 }
@@ -70,8 +70,8 @@ takes pass v serves o items views h at =
     let sent_orders : List Order = h.taken ++ o ∷ items in
     let taken : List Order = h.taken ++ o ∷ [] in
     let same : sent_orders ≡ taken ++ items = sym (append_assoc h.taken (o ∷ []) items) in
-    let fits : All (Fits sent_orders taken h.ports h.seat h.reader) (set views pass w) =
-    all_set (Fits sent_orders taken h.ports h.seat h.reader) views pass w (
+    let fits : All (FitsOrders sent_orders taken h.ports h.seat h.reader) (set views pass w) =
+    all_set (FitsOrders sent_orders taken h.ports h.seat h.reader) views pass w (
       no_port sent_orders h.ports h.seat pass w mine.apart,
       λ _. record {
         mine = mine.mine;
@@ -90,7 +90,7 @@ takes pass v serves o items views h at =
         seat = h.seat;
         unmade = λ p le. ap (has_none_of p) (sym same) ∙ h.unmade p le;
         ended = λ p. ap (ends_at_close p) (sym same) ∙ h.ended p;
-        fits = subst (λ (l : List Order). All (Fits l taken h.ports h.seat h.reader) (set views pass w)) same fits;
+        fits = subst (λ (l : List Order). All (FitsOrders l taken h.ports h.seat h.reader) (set views pass w)) same fits;
       },
       (refl, made_below h.taken o items h.ports v.ports (sym mine.makes) h.unmade),
     )
@@ -119,8 +119,8 @@ opens pass v serves items views h at =
     let n : ℕ = length set_views in
     let seat : ℕ → ℕ = moved h.seat v.ports n in
     let none : has_none_of v.ports sent_orders ≡ true = h.unmade v.ports (omega arith) in
-    let fits : All (Fits sent_orders h.taken (h.ports + 1) seat h.reader) set_views =
-    all_set (Fits sent_orders h.taken (h.ports + 1) seat h.reader) views pass left (
+    let fits : All (FitsOrders sent_orders h.taken (h.ports + 1) seat h.reader) set_views =
+    all_set (FitsOrders sent_orders h.taken (h.ports + 1) seat h.reader) views pass left (
       no_port sent_orders (h.ports + 1) seat pass left mine.apart,
       λ _. record {
         mine = mine.mine;
@@ -150,12 +150,12 @@ opens pass v serves items views h at =
       seat = seat;
       unmade = λ p le. h.unmade p (omega arith);
       ended = h.ended;
-      fits = all_snoc (Fits sent_orders h.taken (h.ports + 1) seat h.reader) set_views right fits (
+      fits = all_snoc (FitsOrders sent_orders h.taken (h.ports + 1) seat h.reader) set_views right fits (
         (λ _. record {
           seated = moved_here h.seat v.ports n v.ports refl;
           made = (let m = mine.makes in omega arith);
           offers = requests_of-none v.ports sent_orders none;
-          ends = is_closed-none v.ports sent_orders none;
+          ends = is_port_closed-none v.ports sent_orders none;
         }),
         no_server sent_orders h.taken (h.ports + 1) seat h.reader n right refl,
       );
@@ -169,16 +169,16 @@ sends n pass v o offers own fresh items views room h at =
     let sent_orders : List Order = h.taken ++ items in
     let longer : List Order = sent_orders ++ o ∷ [] in
     let same : longer ≡ h.taken ++ (items ++ o ∷ []) = append_assoc h.taken items (o ∷ []) in
-    let before : is_closed v.port sent_orders ≡ false = mine.ends ∙ fresh in
+    let before : is_port_closed v.port sent_orders ≡ false = mine.ends ∙ fresh in
     let apart : (j : ℕ) (u : View) → j ≢ pass → IsPort sent_orders h.ports h.seat j u → o.port ≢ u.port =
     λ j u other its e. other (sym its.seated ∙ ap h.seat (sym e ∙ own) ∙ mine.seated) in
-    let fits : All (Fits longer h.taken h.ports h.seat h.reader) (set views pass w) =
-    all_set (Fits longer h.taken h.ports h.seat h.reader) views pass w (
+    let fits : All (FitsOrders longer h.taken h.ports h.seat h.reader) (set views pass w) =
+    all_set (FitsOrders longer h.taken h.ports h.seat h.reader) views pass w (
       (λ _. record {
         seated = mine.seated;
         made = mine.made;
         offers = requests_of-own sent_orders o v.port own ∙ ap (λ (l : List Message). l ++ requests_in o.what) mine.offers;
-        ends = is_closed-own sent_orders o v.port own before;
+        ends = is_port_closed-own sent_orders o v.port own before;
       }),
       λ s. absurd (true≢false (sym offers ∙ ((h.fits pass v at).1 s).apart)),
     )
@@ -187,7 +187,7 @@ sends n pass v o offers own fresh items views room h at =
         seated = its.seated;
         made = its.made;
         offers = requests_of-other sent_orders o u.port (apart j u other its) ∙ its.offers;
-        ends = is_closed-other sent_orders o u.port (apart j u other its) ∙ its.ends;
+        ends = is_port_closed-other sent_orders o u.port (apart j u other its) ∙ its.ends;
       }),
       λ s. let its = (h.fits j u e).1 s in record {
         mine = its.mine;
@@ -210,9 +210,9 @@ sends n pass v o offers own fresh items views room h at =
         unmade = λ p le. ap (has_none_of p) (sym same) ∙ has_none_of-other sent_orders o p (λ e. let b = mine.made in absurd (omega arith)) (h.unmade p le);
         ended = λ p. ap (ends_at_close p) (sym same)
             ∙ dite (ℕ_discrete o.port p)
-            (λ e. ends_at_close-own p sent_orders o (ap (λ (k : ℕ). is_closed k sent_orders) (sym e ∙ own) ∙ before) (h.ended p))
+            (λ e. ends_at_close-own p sent_orders o (ap (λ (k : ℕ). is_port_closed k sent_orders) (sym e ∙ own) ∙ before) (h.ended p))
             (λ other. ends_at_close-other p sent_orders o other (h.ended p));
-        fits = subst (λ (l : List Order). All (Fits l h.taken h.ports h.seat h.reader) (set views pass w)) same fits;
+        fits = subst (λ (l : List Order). All (FitsOrders l h.taken h.ports h.seat h.reader) (set views pass w)) same fits;
       },
       refl,
     )
@@ -227,7 +227,7 @@ merges pass v other u serves offers items views h at two at' =
     let was : get_elem? views other ≡ some u = ⊎_elim (λ x. absurd (two x.0)) (λ x. x.1) (at_set views pass other both u at') in
     let theirs = (h.fits other u was).0 offers in
     let seat : ℕ → ℕ = moved h.seat u.port h.reader in
-    let Now : ℕ → View → Type 0 = λ j y. j ≢ other → Fits sent_orders h.taken h.ports seat h.reader j y in
+    let Now : ℕ → View → Type 0 = λ j y. j ≢ other → FitsOrders sent_orders h.taken h.ports seat h.reader j y in
     let now : All Now set_views = all_set Now views pass both
     (λ _. (
       no_port sent_orders h.ports seat pass both mine.apart,
@@ -255,13 +255,13 @@ merges pass v other u serves offers items views h at two at' =
       seat = seat;
       unmade = h.unmade;
       ended = h.ended;
-      fits = all_set (Fits sent_orders h.taken h.ports seat h.reader) set_views other spent
+      fits = all_set (FitsOrders sent_orders h.taken h.ports seat h.reader) set_views other spent
           (no_port sent_orders h.ports seat other spent refl, no_server sent_orders h.taken h.ports seat h.reader other spent refl)
           (λ j y apart e. now j y e apart);
     }
 
 -- the server learns of the port that it took in last
-pub learns : (pass : ℕ) (v : View) → v.serves ≡ true → v.knows ≡ true → Learns Queued pass v (Accounts v)
+pub learns : (pass : ℕ) (v : View) → v.serves ≡ true → v.knows ≡ true → Learns Queued pass v (TalliesOrders v)
 learns pass v serves knows items views h at =
     let mine = (h.fits pass v at).1 serves in
     let known = mine.knows knows in
@@ -269,7 +269,7 @@ learns pass v serves knows items views h at =
     record {
       whole = ap (λ (t : List Order). requests_of p t ++ requests_of p items) mine.takes ∙ sym (requests_of-append p h.taken items) ∙ known.offers;
       made = (let b = known.made in let m = mine.makes in omega arith);
-      ended = λ closed. nothing_behind p h.taken items (ap (is_closed p) (sym mine.takes) ∙ closed) (h.ended p);
+      ended = λ closed. nothing_behind p h.taken items (ap (is_port_closed p) (sym mine.takes) ∙ closed) (h.ended p);
     }
 
 -- a step of which nothing is to be learnt

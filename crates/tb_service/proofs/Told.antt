@@ -4,7 +4,7 @@ use Rattle.tb_records.specs.Messages.{Message}
 use Rattle.tb_machine.specs.Scripts.{Pair}
 use Rattle.tb_published.specs.declared.faults.TakeFault.{TakeFault}
 use Rattle.tb_published.specs.Openings.{Opening}
-use Rattle.tb_service.specs.History.{accepted_in, Turn, requests_at, moments_at, unless, kept, at_place, refused_from, Leads}
+use Rattle.tb_service.specs.History.{accepted_in, Turn, requests_at, moments_at, unless, pairs_kept, at_place, refused_from, StepsLead}
 use Rattle.tb_service.specs.ToldLaws.{IsOneWay, OneList, OneOutcome}
 
 pub one_list : {S : Type 0} (step : S → ℕ → S → Type 0) → IsOneWay step → OneList step
@@ -13,7 +13,7 @@ one_list step one x y z [] (l ∷ ls) a b e = absurd (omega (arith, e))
 one_list step one x y z (k ∷ ks) [] a b e = absurd (omega (arith, e))
 one_list {S} step one x y z (k ∷ ks) (l ∷ ls) a b e =
     let here = one x a.0 b.0 k l a.1 b.1 in
-    let behind : Leads step b.0 ks y = subst (λ (s : S). Leads step s ks y) here.1 a.2 in
+    let behind : StepsLead step b.0 ks y = subst (λ (s : S). StepsLead step s ks y) here.1 a.2 in
     let rest = one_list step one b.0 y z ks ls behind b.2 (omega (arith, e)) in
     (ap (λ (n : ℕ). n ∷ ks) here.0 ∙ ap (λ (ns : List ℕ). l ∷ ns) rest.0, rest.1)
 
@@ -32,14 +32,14 @@ none_earlier n m f (t ∷ ts) rest h e = left_out n m f t.fault (refused_from (m
 
 -- turns with the same requests and moments, of which the same were left out, keep the same
 
-kept_by : (n : ℕ) (f g : Option TakeFault) (p q : Pair) (ts us : List Turn) → p ≡ q → (refused_from (n + 1) ts ≡ refused_from (n + 1) us → kept ts ≡ kept us)
-    → at_place n f ++ refused_from (n + 1) ts ≡ at_place n g ++ refused_from (n + 1) us → unless f p ++ kept ts ≡ unless g q ++ kept us
-kept_by n None None p q ts us same later e = ap (λ (r : Pair). r ∷ kept ts) same ∙ ap (λ (rs : List Pair). q ∷ rs) (later e)
+kept_by : (n : ℕ) (f g : Option TakeFault) (p q : Pair) (ts us : List Turn) → p ≡ q → (refused_from (n + 1) ts ≡ refused_from (n + 1) us → pairs_kept ts ≡ pairs_kept us)
+    → at_place n f ++ refused_from (n + 1) ts ≡ at_place n g ++ refused_from (n + 1) us → unless f p ++ pairs_kept ts ≡ unless g q ++ pairs_kept us
+kept_by n None None p q ts us same later e = ap (λ (r : Pair). r ∷ pairs_kept ts) same ∙ ap (λ (rs : List Pair). q ∷ rs) (later e)
 kept_by n None (Some g) p q ts us same later e = absurd (none_earlier n (n + 1) g ts (refused_from (n + 1) us) (omega arith) e)
 kept_by n (Some f) None p q ts us same later e = absurd (none_earlier n (n + 1) f us (refused_from (n + 1) ts) (omega arith) (sym e))
 kept_by n (Some f) (Some g) p q ts us same later e = let rest : refused_from (n + 1) ts ≡ refused_from (n + 1) us = cc in later rest
 
-same_kept : (n : ℕ) (ts us : List Turn) → requests_at ts ≡ requests_at us → moments_at ts ≡ moments_at us → refused_from n ts ≡ refused_from n us → kept ts ≡ kept us
+same_kept : (n : ℕ) (ts us : List Turn) → requests_at ts ≡ requests_at us → moments_at ts ≡ moments_at us → refused_from n ts ≡ refused_from n us → pairs_kept ts ≡ pairs_kept us
 same_kept n [] [] rs ms fs = refl
 same_kept n [] (u ∷ us) rs ms fs = absurd cc
 same_kept n (t ∷ ts) [] rs ms fs = absurd cc

@@ -6,8 +6,8 @@ use Rattle.tb_sessions.specs.declared.classes.Class.{Class}
 use Rattle.tb_sessions.specs.declared.classes.Class.TheVariants.{New, Repeat, NoSession, SessionTooLow, NewerSession, Older, Collision, NewerRequest}
 use Rattle.tb_sessions.specs.Judged.{class_of}
 use Rattle.tb_machine.specs.declared.entries.Entry.{Entry}
-use Rattle.tb_machine.specs.Histories.{State, is_new}
-use Rattle.tb_machine.specs.Scripts.{Pair, entry_of, has_time, is_entered, with_pair}
+use Rattle.tb_machine.specs.Histories.{after, State, is_new}
+use Rattle.tb_machine.specs.Scripts.{Pair, entry_of, has_time, is_entered, grown}
 use Rattle.tb_machine.proofs.Legal.{fold_append}
 use Rattle.tb_published.specs.declared.faults.TakeFault.{TakeFault}
 use Rattle.tb_published.specs.declared.faults.TakeFault.TheVariants as fault
@@ -15,12 +15,12 @@ use Rattle.tb_published.specs.declared.faults.Taken.{Taken}
 use Rattle.tb_published.specs.declared.faults.Taken.TheVariants as taken
 use Rattle.tb_published.specs.Openings.{Opening, after_in}
 use Rattle.tb_published.specs.Taking.{Enters}
-use Rattle.tb_service.specs.History.{accepted_in, Turn, requests_at, moments_at, places_at, unless, kept, at_place, refused_from, FaultIsRight, turn_of, HasTurn, FaultsAreRight, Leads, ServerState, Serves, ServesOn}
+use Rattle.tb_service.specs.History.{accepted_in, Turn, requests_at, moments_at, places_at, unless, pairs_kept, at_place, refused_from, FaultIsRight, turn_of, HasTurn, FaultsAreRight, StepsLead, ServerState, Serves, ServesOn}
 
 -- lists of turns, one behind the other
 
 accepted-append : (o : Opening) (h : List Entry) (xs ys : List Pair) → accepted_in o h (xs ++ ys) ≡ accepted_in o (accepted_in o h xs) ys
-accepted-append o h xs ys = fold_append (with_pair o.profile o.clients_max) h xs ys
+accepted-append o h xs ys = fold_append (grown (after o.profile o.clients_max)) h xs ys
 
 requests_at-append : (xs ys : List Turn) → requests_at (xs ++ ys) ≡ requests_at xs ++ requests_at ys
 requests_at-append [] ys = refl
@@ -30,11 +30,11 @@ moments_at-append : (xs ys : List Turn) → moments_at (xs ++ ys) ≡ moments_at
 moments_at-append [] ys = refl
 moments_at-append (t ∷ ts) ys = ap (λ (l : List ℕ). t.moment ∷ l) (moments_at-append ts ys)
 
-kept-append : (xs ys : List Turn) → kept (xs ++ ys) ≡ kept xs ++ kept ys
-kept-append [] ys = refl
-kept-append (t ∷ ts) ys =
+pairs_kept-append : (xs ys : List Turn) → pairs_kept (xs ++ ys) ≡ pairs_kept xs ++ pairs_kept ys
+pairs_kept-append [] ys = refl
+pairs_kept-append (t ∷ ts) ys =
     let pairs : List Pair = unless t.fault (t.moment, t.request) in
-    ap (λ (l : List Pair). pairs ++ l) (kept-append ts ys) ∙ sym (append_assoc pairs (kept ts) (kept ys))
+    ap (λ (l : List Pair). pairs ++ l) (pairs_kept-append ts ys) ∙ sym (append_assoc pairs (pairs_kept ts) (pairs_kept ys))
 
 places_at-append : (n m : ℕ) (xs ys : List Turn) → n + length xs ≡ m → places_at n (xs ++ ys) ≡ places_at n xs ++ places_at m ys
 places_at-append n m [] ys is = ap (λ (k : ℕ). places_at k ys) (omega arith)
@@ -46,18 +46,18 @@ refused_from-append n m (t ∷ ts) ys is =
     ap (λ (l : List (ℕ × TakeFault)). at_place n t.fault ++ l) (refused_from-append (n + 1) m ts ys (omega arith))
     ∙ sym (append_assoc (at_place n t.fault) (refused_from (n + 1) ts) (refused_from m ys))
 
-kept_one : (t : Turn) → kept (t ∷ []) ≡ unless t.fault (t.moment, t.request)
+kept_one : (t : Turn) → pairs_kept (t ∷ []) ≡ unless t.fault (t.moment, t.request)
 kept_one t = append-nil (unless t.fault (t.moment, t.request))
 
-lawful-append : (o : Opening) (h : List Entry) (xs ys : List Turn) → FaultsAreRight o h xs → FaultsAreRight o (accepted_in o h (kept xs)) ys → FaultsAreRight o h (xs ++ ys)
+lawful-append : (o : Opening) (h : List Entry) (xs ys : List Turn) → FaultsAreRight o h xs → FaultsAreRight o (accepted_in o h (pairs_kept xs)) ys → FaultsAreRight o h (xs ++ ys)
 lawful-append o h [] ys these those = those
 lawful-append o h (t ∷ ts) ys these those =
-    let same : accepted_in o h (kept (t ∷ ts)) ≡ accepted_in o (accepted_in o h (kept (t ∷ []))) (kept ts) =
-    ap (accepted_in o h) (ap (λ (l : List Pair). l ++ kept ts) (sym (kept_one t))) ∙ accepted-append o h (kept (t ∷ [])) (kept ts) in
-    (these.0, lawful-append o (accepted_in o h (kept (t ∷ []))) ts ys these.1 (subst (λ (m : List Entry). FaultsAreRight o m ys) same those))
+    let same : accepted_in o h (pairs_kept (t ∷ ts)) ≡ accepted_in o (accepted_in o h (pairs_kept (t ∷ []))) (pairs_kept ts) =
+    ap (accepted_in o h) (ap (λ (l : List Pair). l ++ pairs_kept ts) (sym (kept_one t))) ∙ accepted-append o h (pairs_kept (t ∷ [])) (pairs_kept ts) in
+    (these.0, lawful-append o (accepted_in o h (pairs_kept (t ∷ []))) ts ys these.1 (subst (λ (m : List Entry). FaultsAreRight o m ys) same those))
 
-leads-append : {S : Type 0} (step : S → ℕ → S → Type 0) (x y z : S) (ks ls : List ℕ) → Leads step x ks y → Leads step y ls z → Leads step x (ks ++ ls) z
-leads-append {S} step x y z [] ls these those = subst (λ (s : S). Leads step s ls z) (sym these) those
+leads-append : {S : Type 0} (step : S → ℕ → S → Type 0) (x y z : S) (ks ls : List ℕ) → StepsLead step x ks y → StepsLead step y ls z → StepsLead step x (ks ++ ls) z
+leads-append {S} step x y z [] ls these those = subst (λ (s : S). StepsLead step s ls z) (sym these) those
 leads-append step x y z (k ∷ ks) ls these those = (these.0, these.1, leads-append step these.0 y z ks ls these.2 those)
 
 length-requests_at : (ts : List Turn) → length (requests_at ts) ≡ length ts
@@ -79,11 +79,11 @@ module _ {M G : Type 0} (o : Opening) (tells : M → ℕ → M → Type 0) (pass
         served = requests_at-append xs ys ∙ (λ i. these.served i ++ those.served i);
         lawful = lawful-append o x.history xs ys these.lawful (subst (λ (h : List Entry). FaultsAreRight o h ys) (sym these.history) those.lawful);
         refusals = refused_from-append n m xs ys m_is ∙ (λ i. these.refusals i ++ those.refusals i);
-        history = ap (accepted_in o x.history) (kept-append xs ys) ∙ accepted-append o x.history (kept xs) (kept ys)
-            ∙ ap (λ (h : List Entry). accepted_in o h (kept ys)) these.history ∙ those.history;
-        moments = subst (λ (l : List ℕ). Leads tells x.moments l z.moments) (sym (moments_at-append xs ys))
+        history = ap (accepted_in o x.history) (pairs_kept-append xs ys) ∙ accepted-append o x.history (pairs_kept xs) (pairs_kept ys)
+            ∙ ap (λ (h : List Entry). accepted_in o h (pairs_kept ys)) these.history ∙ those.history;
+        moments = subst (λ (l : List ℕ). StepsLead tells x.moments l z.moments) (sym (moments_at-append xs ys))
             (leads-append tells x.moments y.moments z.moments (moments_at xs) (moments_at ys) these.moments those.moments);
-        gate = subst (λ (l : List ℕ). Leads passes x.gate l z.gate) (sym (places_at-append n m xs ys m_is))
+        gate = subst (λ (l : List ℕ). StepsLead passes x.gate l z.gate) (sym (places_at-append n m xs ys m_is))
             (leads-append passes x.gate y.gate z.gate (places_at n xs) (places_at m ys) these.gate those.gate);
       }
 
@@ -117,7 +117,7 @@ module _ {M G : Type 0} (o : Opening) (tells : M → ℕ → M → Type 0) (pass
   serves_on_at x x' y y' n n' rs a a' b b' xs ns as' bs ys =
       subst (λ (t : ServerState M G × ℕ × List (ℕ × TakeFault) × List (ℕ × TakeFault) × ServerState M G). ServesOn o tells passes t.0 t.1 rs t.2 t.3 t.4) (λ i. (xs i, ns i, as' i, bs i, ys i))
 
-  -- one turn at the place n of a request that is kept, and of one that is left out
+  -- one turn at the place n of a request that is pairs_kept, and of one that is left out
 
   pub serves_on_kept : (x y : ServerState M G) (n place moment : ℕ) (r : Message) (a : List (ℕ × TakeFault)) → place ≡ n → HasTurn o x.history (turn_of moment r None) y.history
       → tells x.moments moment y.moments → passes x.gate place y.gate → ServesOn o tells passes x n (r ∷ []) a a y

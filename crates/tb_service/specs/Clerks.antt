@@ -27,7 +27,7 @@ module _ {J W M G : Type 0} where
   HasCapacity n c = (vec_len c.ports + n ≤ vec_capacity c.ports) × (vec_len c.refused + n ≤ vec_capacity c.refused)
 
   -- n places of the capacity were used
-  pub record Uses (n : ℕ) (old new : Clerk J W M G) : Type 0 where
+  pub record UsesPlaces (n : ℕ) (old new : Clerk J W M G) : Type 0 where
     pub ports : vec_len new.ports ≡ vec_len old.ports + n
     pub refused : vec_len new.refused ≤ vec_len old.refused + n
     pub places : vec_capacity new.ports ≡ vec_capacity old.ports

@@ -8,7 +8,7 @@ use Rattle.tb_service.specs.declared.ends.Ended.{Ended}
 use Rattle.tb_service.specs.declared.ends.Ended.TheVariants as way
 use Rattle.tb_service.specs.declared.orders.Order.{Order}
 use Rattle.tb_service.specs.declared.rule.View.{View}
-use Rattle.tb_service.specs.Sent.{is_closed}
+use Rattle.tb_service.specs.Sent.{is_port_closed}
 use Rattle.tb_service.specs.Names.{Name, service_of}
 use Rattle.tb_service.specs.Places.{requests, ports}
 
@@ -35,10 +35,10 @@ finish_of publisher ended refused pass = record {
 
 -- each port was closed
 abbrev pub AllAreClosed : View → Type 0
-AllAreClosed v = (p : ℕ) → p < v.ports → is_closed p v.taken ≡ true
+AllAreClosed v = (p : ℕ) → p < v.ports → is_port_closed p v.taken ≡ true
 
 -- what the server's pass knows, the port of each place, and why the run ended
-pub record IsServed (v : View) (owners : List ℕ) (ended : Ended) : Type 0 where
+pub record IsRunServed (v : View) (owners : List ℕ) (ended : Ended) : Type 0 where
   pub serves : v.serves ≡ true
   pub placed : ports v.taken ≡ owners
   pub over : ended ≡ way.Closed → AllAreClosed v

@@ -39,9 +39,9 @@ abbrev pub unless : Option TakeFault → Pair → List Pair
 unless None pair = pair ∷ []
 unless (Some f) pair = []
 
-abbrev pub kept : List Turn → List Pair
-kept [] = []
-kept (t ∷ ts) = unless t.fault (t.moment, t.request) ++ kept ts
+abbrev pub pairs_kept : List Turn → List Pair
+pairs_kept [] = []
+pairs_kept (t ∷ ts) = unless t.fault (t.moment, t.request) ++ pairs_kept ts
 
 -- those that were, with their places
 
@@ -53,7 +53,7 @@ abbrev pub refused_from : ℕ → List Turn → List (ℕ × TakeFault)
 refused_from n [] = []
 refused_from n (t ∷ ts) = at_place n t.fault ++ refused_from (n + 1) ts
 
--- a request that is kept has a time where it is new; only a new one is left out: since memory ran out though it has a time, or
+-- a request that is pairs_kept has a time where it is new; only a new one is left out: since memory ran out though it has a time, or
 -- because it has none
 abbrev pub Fares : Class → Bool → Option TakeFault → Type 0
 Fares class timely None = class ≡ New → timely ≡ true
@@ -76,12 +76,12 @@ pub record HasTurn (o : Opening) (h : List Entry) (t : Turn) (m : List Entry) : 
 -- each turn after what the earlier ones made of h
 abbrev pub FaultsAreRight : Opening → List Entry → List Turn → Type 0
 FaultsAreRight o h [] = Unit {0}
-FaultsAreRight o h (t ∷ ts) = FaultIsRight o h t × FaultsAreRight o (accepted_in o h (kept (t ∷ []))) ts
+FaultsAreRight o h (t ∷ ts) = FaultIsRight o h t × FaultsAreRight o (accepted_in o h (pairs_kept (t ∷ []))) ts
 
 -- steps with these numbers lead from x to y
-abbrev pub Leads : {S : Type 0} → (S → ℕ → S → Type 0) → S → List ℕ → S → Type 0
-Leads step x [] y = x ≡ y
-Leads {S} step x (k ∷ ks) y = (z : S) × step x k z × Leads step z ks y
+abbrev pub StepsLead : {S : Type 0} → (S → ℕ → S → Type 0) → S → List ℕ → S → Type 0
+StepsLead step x [] y = x ≡ y
+StepsLead {S} step x (k ∷ ks) y = (z : S) × step x k z × StepsLead step z ks y
 
 -- what a server has: its history, where its moments come from, and its gate
 pub record ServerState (M G : Type 0) : Type 0 where
@@ -100,9 +100,9 @@ module _ {M G : Type 0} (o : Opening) (tells : M → ℕ → M → Type 0) (pass
     pub served : requests_at turns ≡ requests
     pub lawful : FaultsAreRight o before.history turns
     pub refusals : refused_from n turns ≡ refused
-    pub history : accepted_in o before.history (kept turns) ≡ after.history
-    pub moments : Leads tells before.moments (moments_at turns) after.moments
-    pub gate : Leads passes before.gate (places_at n turns) after.gate
+    pub history : accepted_in o before.history (pairs_kept turns) ≡ after.history
+    pub moments : StepsLead tells before.moments (moments_at turns) after.moments
+    pub gate : StepsLead passes before.gate (places_at n turns) after.gate
 
   -- the same, with what was left out added to a list
   pub record ServesOn (before : ServerState M G) (n : ℕ) (requests : List Message) (earlier refused : List (ℕ × TakeFault)) (after : ServerState M G) : Type 0 where

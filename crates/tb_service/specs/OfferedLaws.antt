@@ -24,8 +24,8 @@ pub record GrowsByOffers (count : ℕ) (offered : ℕ → List Message) (before 
   pub owned : All (λ (e : Entry). HasOwner count offered e.request) more
 
 -- What a run says, and of each port the places of its requests, make it so.
-abbrev pub NoneInvented : {M G : Type 0} → Opening → (M → ℕ → M → Type 0) → (G → ℕ → G → Type 0) → Type 0
-NoneInvented {M} {G} o tells passes =
+abbrev pub NoOfferInvented : {M G : Type 0} → Opening → (M → ℕ → M → Type 0) → (G → ℕ → G → Type 0) → Type 0
+NoOfferInvented {M} {G} o tells passes =
     (before : ServerState M G) (taken : List Message) (owners : List ℕ) (refused : List (ℕ × TakeFault)) (history : List Entry) (count : ℕ) (offered : ℕ → List Message) (ended : Ended)
     → Finishes o tells passes before taken refused history
     → HaveOwners count taken owners

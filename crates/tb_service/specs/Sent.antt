@@ -21,9 +21,9 @@ requests_of p [] = []
 requests_of p (o ∷ os) = if o.port == p then requests_in o.what ++ requests_of p os else requests_of p os
 
 -- port p is closed in them
-abbrev pub is_closed : ℕ → List Order → Bool
-is_closed p [] = false
-is_closed p (o ∷ os) = (o.port == p && closes o.what) || is_closed p os
+abbrev pub is_port_closed : ℕ → List Order → Bool
+is_port_closed p [] = false
+is_port_closed p (o ∷ os) = (o.port == p && closes o.what) || is_port_closed p os
 
 -- they have no order of port p
 abbrev pub has_none_of : ℕ → List Order → Bool

@@ -4,7 +4,7 @@ use Rattle.tb_records.specs.Messages.{Message}
 use Rattle.tb_machine.specs.declared.entries.Entry.{Entry}
 use Rattle.tb_published.specs.declared.faults.TakeFault.{TakeFault}
 use Rattle.tb_published.specs.Openings.{Opening}
-use Rattle.tb_service.specs.History.{ServerState, Leads}
+use Rattle.tb_service.specs.History.{ServerState, StepsLead}
 use Rattle.tb_service.specs.Servers.{Finishes}
 
 -- from each state one number alone can be given, and one state is left
@@ -13,7 +13,7 @@ IsOneWay {S} step = (x y z : S) (k l : ℕ) → step x k y → step x l z → (k
 
 -- two lists of one length that were given from one state are the same, and end in the same state
 abbrev pub OneList : {S : Type 0} → (S → ℕ → S → Type 0) → Type 0
-OneList {S} step = (x y z : S) (ks ls : List ℕ) → Leads step x ks y → Leads step x ls z → length ks ≡ length ls → (ks ≡ ls) × (y ≡ z)
+OneList {S} step = (x y z : S) (ks ls : List ℕ) → StepsLead step x ks y → StepsLead step x ls z → length ks ≡ length ls → (ks ≡ ls) × (y ≡ z)
 
 -- two runs from one state that took the same requests and left the same ones out end with the same history
 abbrev pub OneOutcome : {M G : Type 0} → Opening → (M → ℕ → M → Type 0) → (G → ℕ → G → Type 0) → Type 0

@@ -34,7 +34,7 @@ impl<J: Naming, W: Wait + Drop, M: Moments + Drop, G: Gate + Drop> Clerk<J, W, M
     ghost use Rattle.std.specs.Prelude.{replicate};
     ghost use Rattle.tb_service.specs.Sent.{requests_in};
     ghost use Rattle.tb_service.specs.Places.{ports_in};
-    ghost use Rattle.tb_service.specs.Clerks.{ChangesCapacityAlone, HasCapacity, KeepsCapacity, ServesMore, Uses};
+    ghost use Rattle.tb_service.specs.Clerks.{ChangesCapacityAlone, HasCapacity, KeepsCapacity, ServesMore, UsesPlaces};
 
     /// Takes memory for the requests of one order.
     pub fn reserve(&mut self) -> Result<(), AllocError>
@@ -50,7 +50,7 @@ impl<J: Naming, W: Wait + Drop, M: Moments + Drop, G: Gate + Drop> Clerk<J, W, M
         requires { HasCapacity 1 self.old }
         ensures served { ServesMore J.opening M.tells G.passes self.old (request ∷ []) self.new }
         ensures ports { self.new.ports.items ≡ self.old.ports.items ++ port ∷ [] }
-        ensures capacity { Uses 1 self.old self.new }
+        ensures capacity { UsesPlaces 1 self.old self.new }
     {
         self.ports.push_reserved(port);
         let place = self.ports.len() as u64;

@@ -34,14 +34,14 @@ pub struct Finished<J: Naming> {
 impl<J: Naming> Model for Finished<J> {
     ghost use Rattle.crossbeam_channel.specs.Claims.{view as known, IsSeatAt};
     ghost use Rattle.crossbeam_channel.specs.Ends.{sends_on};
-    ghost use Rattle.tb_service.specs.Finished.{Finish, IsServed, finish_of};
+    ghost use Rattle.tb_service.specs.Finished.{Finish, IsRunServed, finish_of};
 
     ghost Value = { Finish };
 
     ghost view = { λ f. finish_of f.publisher f.ended f.refused.items f.pass };
 
     ghost invariant = { λ f.
-        IsSeatAt (sends_on f.sender) f.pass × IsServed (known f.pass) f.places.items f.ended };
+        IsSeatAt (sends_on f.sender) f.pass × IsRunServed (known f.pass) f.places.items f.ended };
 }
 
 // The places of one port, from 1.

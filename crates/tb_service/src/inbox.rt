@@ -3,7 +3,7 @@ ghost use Rattle.std.specs.Prelude.{◌≡◌, ℕ, true, false, length, slice_i
 ghost use Rattle.std.proofs.Props.{props};
 ghost use Rattle.crossbeam_channel.specs.Claims.{view, IsSeatAt};
 ghost use Rattle.crossbeam_channel.specs.Ends.{sends_on, receives_on};
-ghost use Rattle.tb_service.specs.Sent.{is_closed};
+ghost use Rattle.tb_service.specs.Sent.{is_port_closed};
 
 use crate::orders::{Order, What};
 use crate::ports::Port;
@@ -26,7 +26,7 @@ pub struct Inbox {
     ghost ends: { receives_on receiver ≡ sends_on sender } by { Prim.hlevel props },
     ghost serves: { (view pass).serves ≡ true },
     ghost counted: { length closed.items ≡ (view pass).ports },
-    ghost closes: { (p : ℕ) → is_closed p (view pass).taken ≡ slice_index_or closed.items p false } by { Prim.hlevel props },
+    ghost closes: { (p : ℕ) → is_port_closed p (view pass).taken ≡ slice_index_or closed.items p false } by { Prim.hlevel props },
 }
 
 fn mark(flags: &mut Vec<bool>, at: usize)
@@ -39,7 +39,7 @@ fn mark(flags: &mut Vec<bool>, at: usize)
 impl Inbox {
     ghost use Rattle.std.specs.Prelude.{[], ◌+◌, IfSome, IfOk};
     ghost use Rattle.tb_service.specs.Finished.{AllAreClosed};
-    ghost use Rattle.tb_service.specs.private.Inboxes.{IsFresh, MakesNone, TakesNext, TakesNone};
+    ghost use Rattle.tb_service.specs.private.Inboxes.{IsFreshPort, MakesNone, TakesNextOrder, TakesNoOrder};
     ghost use Rattle.tb_service.specs.Names.{service_of};
 
     /// A queue with no port.
@@ -58,9 +58,9 @@ impl Inbox {
     /// One port more.
     pub fn port(&mut self, alloc: Global, number: u32) -> Result<Port, AllocError>
         requires { number ≡ (view self.old.pass).ports }
-        ensures port { IfOk result (IsFresh (service_of self.old.pass) number) }
+        ensures port { IfOk result (IsFreshPort (service_of self.old.pass) number) }
         ensures more { IfOk result (λ port. (view self.new.pass).ports ≡ (view self.old.pass).ports + 1) }
-        ensures same { TakesNone self.old.pass self.new.pass }
+        ensures same { TakesNoOrder self.old.pass self.new.pass }
     {
         let sender = self.sender.try_clone()?;
         self.closed.push(false)?;
@@ -71,7 +71,7 @@ impl Inbox {
     /// Waits for an order; none where the receive failed.
     pub fn take<R: Wait>(&mut self, rt: &R) -> Option<Order>
         ensures owned { IfSome result (λ order. order.port < (view self.old.pass).ports) }
-        ensures taken { TakesNext result self.old.pass self.new.pass }
+        ensures taken { TakesNextOrder result self.old.pass self.new.pass }
         ensures same { MakesNone self.old.pass self.new.pass }
     {
         let Ok(order) = self.receiver.recv_as::<TakesOrder, R>(rt, &mut self.pass) else {

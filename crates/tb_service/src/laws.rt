@@ -1,5 +1,5 @@
 //! What follows of a run and the places of its ports, over the definitions alone. A call does nothing; its promise is the law.
-ghost use Rattle.tb_service.specs.OfferedLaws.{NoneInvented};
+ghost use Rattle.tb_service.specs.OfferedLaws.{NoOfferInvented};
 ghost use Rattle.tb_service.specs.ToldLaws.{IsOneWay, OneList, OneOutcome};
 
 use crate::gates::{Gate, Moments};
@@ -7,7 +7,7 @@ use tb_published::Naming;
 
 /// Each entry that a run added to the history has a request that one of the ports offered which `service` gave out.
 pub fn none_invented<J: Naming, M: Moments, G: Gate>()
-    ensures { NoneInvented J.opening M.tells G.passes }
+    ensures { NoOfferInvented J.opening M.tells G.passes }
 {}
 
 /// Where each state has one next moment, the moments of a run are pinned by the first state and their number, and so is

@@ -90,9 +90,9 @@ impl Join<View> for TakesIn {
 pub struct Account;
 
 impl Lesson<Order, View> for Account {
-    ghost use Rattle.tb_service.specs.private.Rule.{Accounts};
+    ghost use Rattle.tb_service.specs.private.Rule.{TalliesOrders};
 
-    ghost fact = { Accounts };
+    ghost fact = { TalliesOrders };
 }
 
 pub type Sender = RuledSender<Order, View, Orderly>;

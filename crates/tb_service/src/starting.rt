@@ -3,7 +3,7 @@ ghost use Rattle.std.specs.Prelude.{◌≡◌, IfOk};
 ghost use Rattle.crossbeam_channel.specs.Claims.{view};
 ghost use Rattle.tb_service.specs.Names.{service_of};
 ghost use Rattle.tb_service.specs.History.{state_with};
-ghost use Rattle.tb_service.specs.private.Inboxes.{TakesNone};
+ghost use Rattle.tb_service.specs.private.Inboxes.{TakesNoOrder};
 ghost use Rattle.tb_service.specs.Ports.{ArePortsOf};
 
 use crate::clerk::Clerk;
@@ -21,7 +21,7 @@ fn make_ports(inbox: &mut Inbox, alloc: Global, count: u32) -> Result<Vec<Port>,
     requires { (view inbox.old.pass).ports ≡ 0 }
     ensures ports { IfOk result (λ ports. ArePortsOf (service_of inbox.old.pass) count ports.items) }
     ensures made { IfOk result (λ _. (view inbox.new.pass).ports ≡ count) }
-    ensures same { TakesNone inbox.old.pass inbox.new.pass }
+    ensures same { TakesNoOrder inbox.old.pass inbox.new.pass }
 {
     let mut ports = Vec::new(alloc);
     for number in 0..count {

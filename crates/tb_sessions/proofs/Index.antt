@@ -18,7 +18,7 @@ use Rattle.tb_records.proofs.Entries.{found-row, own-replaced, own-inserted, own
 use Rattle.tb_sessions.specs.declared.rows.Row.{Row}
 use Rattle.tb_sessions.specs.Judged.{client_of}
 use Rattle.tb_sessions.specs.Admission.{oldest, driven_out}
-use Rattle.tb_sessions.specs.private.Indexed.{kept_row, client_at, IsLinked, IsIndexed, IsFirstBehind, FindsOldest}
+use Rattle.tb_sessions.specs.private.Indexed.{kept_row, client_at_commit, IsLinked, IsIndexed, IsFirstBehind, FindsOldest}
 use Rattle.tb_sessions.proofs.LookUps.{GoneAt, PutAt, decide, at_itself, removed, written, inserted, first_least, each_found}
 
 pub inside : {X : Type 0} {x y : X} → Some x ≡ Some y → x ≡ y
@@ -180,14 +180,14 @@ module _ {n : ℕ} {rows : Map ℕ Row} {clients : Map ℕ ℕ} (i : IsIndexed n
   earlier : (commit : ℕ) → Each (λ (other : Row). other.commit < commit) (values_of (entries rows)) → (q : ℕ) (x : Row) → kept_row rows q ≡ Some x → x.commit < commit
   earlier commit later q x is = each-find (λ (other : Row). other.commit < commit) (λ row. client_of row == q) x (values_of (entries rows)) later (sym (found-row client_of q (entries rows) i.own) ∙ is)
 
-  pub fresh : (commit : ℕ) → Each (λ (other : Row). other.commit < commit) (values_of (entries rows)) → client_at clients commit ≡ None
-  fresh commit later = none_where (client_at clients commit) (λ j is.
+  pub fresh : (commit : ℕ) → Each (λ (other : Row). other.commit < commit) (values_of (entries rows)) → client_at_commit clients commit ≡ None
+  fresh commit later = none_where (client_at_commit clients commit) (λ j is.
       let kept = i.linked.kept commit j is in
       let less = earlier commit later j kept.0 kept.1 in
       let low = kept.2 in
       omega (arith, less, low))
 
-  pub index_out : (r : Row) (k d : ℕ) {rows' : Map ℕ Row} {clients' : Map ℕ ℕ} → kept_row rows k ≡ Some r → client_at clients d ≡ Some k
+  pub index_out : (r : Row) (k d : ℕ) {rows' : Map ℕ Row} {clients' : Map ℕ ℕ} → kept_row rows k ≡ Some r → client_at_commit clients d ≡ Some k
       → entries rows' ≡ remove_entry (is_at (nat_cmp k)) (entries rows) → entries clients' ≡ remove_entry (is_at (nat_cmp d)) (entries clients)
       → rows'.spare ≡ rows.spare + 1 → clients'.spare ≡ clients.spare + 1 → FindsOldest n rows' clients'
   index_out r k d {rows'} {clients'} here stood is is_clients spare clients_spare =
@@ -255,9 +255,9 @@ module _ {n : ℕ} {rows : Map ℕ Row} {clients : Map ℕ ℕ} (i : IsIndexed n
       }
 
   -- no client is at the commit of a row that is not at the commit where its client is
-  moved_fresh : (k d : ℕ) (r : Row) → client_at clients d ≡ Some k → kept_row rows k ≡ Some r → r.commit ≢ d → client_at clients r.commit ≡ None
+  moved_fresh : (k d : ℕ) (r : Row) → client_at_commit clients d ≡ Some k → kept_row rows k ≡ Some r → r.commit ≢ d → client_at_commit clients r.commit ≡ None
   moved_fresh k d r stood here behind =
-      none_where (client_at clients r.commit) (λ j is. behind (i.linked.once r.commit d k (is ∙ ap Some (i.linked.apart k j r here is)) stood))
+      none_where (client_at_commit clients r.commit) (λ j is. behind (i.linked.once r.commit d k (is ∙ ap Some (i.linked.apart k j r here is)) stood))
 
   -- the first client goes to its row's commit
   pub index_moved : (later : ℕ) → (f : IsFirstBehind rows clients later) (between : Map ℕ ℕ) {clients' : Map ℕ ℕ} → entries between ≡ remove_entry (is_at (nat_cmp f.commit)) (entries clients)
@@ -266,7 +266,7 @@ module _ {n : ℕ} {rows : Map ℕ Row} {clients : Map ℕ ℕ} (i : IsIndexed n
       let stood = first_found (entries clients) f.commit f.client f.first in
       let behind = λ (same : f.row.commit ≡ f.commit). f.behind (sym f.is ∙ same) in
       let gone = removed f.commit (entries clients) is_between i.commits_rise in
-      let absent : client_at between f.row.commit ≡ None = gone.others f.row.commit behind ∙ moved_fresh f.client f.commit f.row stood f.here behind in
+      let absent : client_at_commit between f.row.commit ≡ None = gone.others f.row.commit behind ∙ moved_fresh f.client f.commit f.row stood f.here behind in
       let now : entries clients' ≡ insert_entry nat_cmp (entries between) f.row.commit f.client = is ∙ ap (λ m. insert_entry nat_cmp (entries between) m f.client) (sym f.is) in
       let rise = subst (λ es. IsStrictlySortedBy nat_cmp (keys_of es)) (sym is_between) (ordered-remove_entry nat_cmp (is_at (nat_cmp f.commit)) (entries clients) i.commits_rise) in
       let a = length-remove_entry_found nat_cmp f.commit f.client (entries clients) stood in
@@ -285,11 +285,11 @@ module _ {n : ℕ} {rows : Map ℕ Row} {clients : Map ℕ ℕ} (i : IsIndexed n
         clients_fit = omega (arith, a, b, la, lb, between_spare, spare, i.clients_fit);
       }
 
-  pub moved_absent : (later : ℕ) → (f : IsFirstBehind rows clients later) (between : Map ℕ ℕ) → entries between ≡ remove_entry (is_at (nat_cmp f.commit)) (entries clients) → client_at between later ≡ None
+  pub moved_absent : (later : ℕ) → (f : IsFirstBehind rows clients later) (between : Map ℕ ℕ) → entries between ≡ remove_entry (is_at (nat_cmp f.commit)) (entries clients) → client_at_commit between later ≡ None
   moved_absent later f between is_between =
       let stood = first_found (entries clients) f.commit f.client f.first in
       let behind = λ (same : f.row.commit ≡ f.commit). f.behind (sym f.is ∙ same) in
-      ap (λ m. client_at between m) (sym f.is) ∙ (removed f.commit (entries clients) is_between i.commits_rise).others f.row.commit behind ∙ moved_fresh f.client f.commit f.row stood f.here behind
+      ap (λ m. client_at_commit between m) (sym f.is) ∙ (removed f.commit (entries clients) is_between i.commits_rise).others f.row.commit behind ∙ moved_fresh f.client f.commit f.row stood f.here behind
 
 -- a test that each passes
 all_pass : {X : Type 0} (p : X → Bool) (xs : List X) → Each (λ x. p x ≡ true) xs → list_all p xs ≡ true
@@ -397,5 +397,5 @@ index_empty {n} {rows} {clients} no_rows no_clients some rows_room clients_room 
     no_row : (client : ℕ) → kept_row rows client ≡ None
     no_row client = ap (λ es. lookup (is_at (nat_cmp client)) es) no_rows
 
-    no_client : (commit : ℕ) → client_at clients commit ≡ None
+    no_client : (commit : ℕ) → client_at_commit clients commit ≡ None
     no_client commit = ap (λ es. lookup (is_at (nat_cmp commit)) es) no_clients

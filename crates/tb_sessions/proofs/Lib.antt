@@ -1,3 +1,4 @@
+pub mod ByRow
 pub mod Index
 pub mod LaterRows
 pub mod LookUps

@@ -14,8 +14,8 @@ use Rattle.tb_sessions.specs.declared.rows.Row.{Row}
 use Rattle.tb_sessions.specs.declared.classes.Class.{Class}
 use Rattle.tb_sessions.specs.declared.classes.Class.TheVariants.{New}
 use Rattle.tb_sessions.specs.Judged.{client_of, class_beside}
-use Rattle.tb_sessions.specs.private.Indexed.{IsIndexed, IsLinked, FindsOldest, kept_row, client_at}
-use Rattle.tb_sessions.specs.Renewal.{Serving, IsNewBeside, IsLater, IsRenewal, CalledBeside, Renews, Served}
+use Rattle.tb_sessions.specs.private.Indexed.{IsIndexed, IsLinked, FindsOldest, kept_row, client_at_commit}
+use Rattle.tb_sessions.specs.Renewal.{Serving, IsNewBeside, IsLater, IsRenewal, CalledBeside, Renews, ServedBy}
 use Rattle.tb_sessions.proofs.Index.{index_renewed}
 
 module _ {n : ℕ} {rows : Map ℕ Row} {clients : Map ℕ ℕ} (rows' : Map ℕ Row) (same : entries rows' ≡ entries rows) (spare : rows'.spare ≡ rows.spare) where
@@ -27,7 +27,7 @@ module _ {n : ℕ} {rows : Map ℕ Row} {clients : Map ℕ ℕ} (rows' : Map ℕ
         own = subst (λ es. Each (λ e. client_of e.1 ≡ e.0) es) (sym same) i.own;
         rows_rise = subst (λ es. IsStrictlySortedBy nat_cmp (keys_of es)) (sym same) i.rows_rise;
         commits_rise = i.commits_rise;
-        linked = subst (λ es. IsLinked (λ client. lookup (is_at (nat_cmp client)) es) (client_at clients)) (sym same) i.linked;
+        linked = subst (λ es. IsLinked (λ client. lookup (is_at (nat_cmp client)) es) (client_at_commit clients)) (sym same) i.linked;
         even = omega (arith, l, i.even);
         some_capacity = i.some_capacity;
         not_over = omega (arith, l, i.not_over);
@@ -83,7 +83,7 @@ module _ {F A : Type 0} (c : Serving F A) {f : F} {r : Message} {n : ℕ} {rows 
   pub index_served : rows'.spare ≡ rows.spare → IsIndexed n rows' clients
   index_served spare = index_after rows rows' r.client row left found is i renewal spare
 
-  pub rows_served : Served c f (values_of (entries rows)) r answer f' r' (values_of (entries rows'))
+  pub rows_served : ServedBy c f (values_of (entries rows)) r answer f' r' (values_of (entries rows'))
   rows_served = record { row = row; left = left; new = new; served = rw ok at serves; put = rows_after rows rows' r.client row left found is i renewal }
 
 -- what holds where a result is Err, of one that is

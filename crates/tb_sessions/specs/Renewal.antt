@@ -48,7 +48,7 @@ module _ {F A : Type 0} (c : Serving F A) where
   Renews f rows r = (row : Row) (answer : A) (f' : F) (r' : Message) (left : Row) → IsNewBeside rows r row → CalledBeside f r row answer f' r' left → IsRenewal rows row left
 
   -- it was called there, and what it left is among the rows
-  pub record Served (f : F) (rows : List Row) (r : Message) (answer : A) (f' : F) (r' : Message) (rows' : List Row) : Type 0 where
+  pub record ServedBy (f : F) (rows : List Row) (r : Message) (answer : A) (f' : F) (r' : Message) (rows' : List Row) : Type 0 where
     pub row : Row
     pub left : Row
     pub new : IsNewBeside rows r row

@@ -1,7 +1,7 @@
 //! The clients in the order in which their sessions end where the table is full.
 ghost use Rattle.std.specs.Prelude.{IfSome};
 ghost use Rattle.std.specs.Option.{IfNone};
-ghost use Rattle.tb_sessions.specs.private.Indexed.{IsIndexed, IsFirstDue, IsFirstBehind, FindsOldest};
+ghost use Rattle.tb_sessions.specs.private.Indexed.{IsIndexed, IsFirstIndexed, IsFirstBehind, FindsOldest};
 
 use crate::rows::Row;
 use avl_tree::AvlMap;
@@ -13,7 +13,7 @@ fn first_behind(
     clients: &AvlMap<u64, u128, Global>,
 ) -> Option<u64>
     ensures behind { IfSome result (λ commit. IsFirstBehind rows.now clients.now commit) }
-    ensures due { IfNone result (IsFirstDue rows.now clients.now) }
+    ensures due { IfNone result (IsFirstIndexed rows.now clients.now) }
 {
     let (commit, client) = clients.first()?;
     let row = rows.get(client)?;

@@ -1,7 +1,7 @@
 //! What is kept of a client, and how a request relates to it.
 ghost use Rattle.std.specs.Prelude.{◌≡◌, false};
 ghost use Rattle.tb_records.specs.Messages.{is_register};
-ghost use Rattle.tb_sessions.specs.Judged.{class_beside, first_class, register_lines, request_lines};
+ghost use Rattle.tb_sessions.specs.Judged.{class_beside};
 
 use crate::classes::Class;
 use tb_records::{Body, Reply, Request, Status};

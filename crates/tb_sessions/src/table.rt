@@ -1,11 +1,12 @@
 //! The sessions of the clients: at most one of each, and at most so many in all.
-ghost use Rattle.std.specs.Prelude.{◌≡◌, ◌≢◌, ◌<◌, ◌≤◌, true, false, IfOk, IfErr, OnOk, OnErr, MatchOption, Some, None, [], length};
+ghost use Rattle.std.specs.Prelude.{◌≡◌, ◌≢◌, ◌<◌, ◌≤◌, true, false, if◌then◌else◌, IfOk, IfErr, OnOk, OnErr, MatchOption, Some, None, [], length};
 ghost use Rattle.std.specs.Option.{option_map};
+ghost use Rattle.tb_records.specs.Messages.{is_register};
 ghost use Rattle.tb_records.specs.Ordered.{Each, put, taken_out};
-ghost use Rattle.tb_sessions.specs.Judged.{class_beside, class_by, class_of, client_of, row_of, GetsClass};
+ghost use Rattle.tb_sessions.specs.Judged.{class_beside, class_of, client_of, row_of, GetsClass};
 ghost use Rattle.tb_sessions.specs.Admission.{admitted, driven_out, leaving, oldest};
-ghost use Rattle.tb_sessions.specs.private.Indexed.{Exchanges};
-ghost use Rattle.tb_sessions.specs.Renewal.{MayServe, Renews, CalledBeside, Served, TakesBoth};
+ghost use Rattle.tb_sessions.specs.private.Indexed.{ExchangesSession};
+ghost use Rattle.tb_sessions.specs.Renewal.{MayServe, Renews, CalledBeside, ServedBy, TakesBoth};
 
 use crate::classes::Class;
 use crate::eviction::bring_up;
@@ -40,7 +41,7 @@ impl Model for Sessions {
 
 /// How a request of a client without a session relates to the sessions.
 fn class_alone(request: &Request) -> Class
-    ensures { result ≡ class_by None request.now }
+    ensures { result ≡ (if is_register request.now.body then Class.New else Class.NoSession) }
 {
     if matches!(request.body(), Body::Register) {
         Class::New
@@ -163,7 +164,7 @@ impl Sessions {
         ensures same_size { self.new.clients_max ≡ self.old.clients_max }
         ensures served { IfOk result
             (λ answer.
-            Served F.FnMut serve.old self.old.rows request.old answer serve.new request.new
+            ServedBy F.FnMut serve.old self.old.rows request.old answer serve.new request.new
             self.new.rows) }
         ensures told { IfErr result (GetsClass self.old.rows request.old) }
         ensures unchanged { OnErr result
@@ -187,7 +188,7 @@ impl Sessions {
     /// Exchanges a row and that of its client, where the client has one, and says that it has.
     fn renew(&mut self, row: &mut Row) -> bool
         requires later { Each (λ (other : Row). other.commit < row.old.commit) self.old.rows }
-        ensures renewed { result ≡ true → Exchanges self.old row.old self.new row.new }
+        ensures renewed { result ≡ true → ExchangesSession self.old row.old self.new row.new }
         ensures absent { result ≡ false
             → (row.new ≡ row.old)
             × (row_of self.old.rows row.old.client ≡ None)

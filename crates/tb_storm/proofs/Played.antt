@@ -14,8 +14,8 @@ use Rattle.tb_caller.specs.Endpoints.{IsAmong}
 use Rattle.tb_caller.proofs.Lists.{each_among}
 use Rattle.tb_caller_service.specs.PortCalls.{OffersSent}
 use Rattle.tb_caller_service.proofs.Offered.{none_invented, in_service}
-use Rattle.tb_storm.specs.Calls.{session_with, accounts_call, transfer_call, HasCalled, IsClient, IsPlayed}
-use Rattle.tb_storm.specs.private.Playing.{HasRun, IsLeft, AreLeft, number_at, call_at, count_at}
+use Rattle.tb_storm.specs.Calls.{sent_in_session, accounts_call, transfer_call, HasCalled, IsStormClient, IsPlayed}
+use Rattle.tb_storm.specs.private.Playing.{HasRun, IsClientLeft, AreLeft, number_at, call_at, count_at}
 use Rattle.tb_storm.proofs.Sessions.{are_of_one}
 
 all_each : {X : Type 0} (P Q : X → Type 0) (xs : List X) → ((x : X) → P x → Q x) → Each P xs → All Q xs
@@ -27,24 +27,24 @@ each_all : {X : Type 0} (P Q : X → Type 0) (xs : List X) → ((x : X) → P x 
 each_all P Q [] f all = tt
 each_all P Q (x ∷ xs) f all = (f x (all 0 x (omega arith)), each_all P Q xs f (λ k d lt. all (suc k) d (omega (arith, lt))))
 
-each_client : (id session : ℕ) (call : ℕ → Body) (count : ℕ) → Each (λ (r : Message). r.client ≡ id) (session_with id session call count)
+each_client : (id session : ℕ) (call : ℕ → Body) (count : ℕ) → Each (λ (r : Message). r.client ≡ id) (sent_in_session id session call count)
 each_client id session call zero = (refl, tt)
 each_client id session call (suc count) = (refl, each_client id session call count)
 
 -- clients by their ports
 module _ (o : Opening) (finish : Finish) (ports : ℕ) (id : ℕ → ℕ) (call : ℕ → ℕ → Body) (count : ℕ → ℕ) (sent : ℕ → List Message)
-    (left : (p : ℕ) → p < ports → IsLeft o finish p (id p) (call p) (count p) (sent p)) (apart : (p q : ℕ) → p < ports → q < ports → id p ≡ id q → p ≡ q)
+    (left : (p : ℕ) → p < ports → IsClientLeft o finish p (id p) (call p) (count p) (sent p)) (apart : (p q : ℕ) → p < ports → q < ports → id p ≡ id q → p ≡ q)
     (legal : LegalIn o finish.publisher.history) (grows : GrowsByOffers ports sent [] finish.publisher.history) where
   -- what a port sent is its client's
   own_client : (p : ℕ) → p < ports → All (λ (r : Message). r.client ≡ id p) (sent p)
   own_client p lt =
-      all_each (λ (r : Message). IsAmong r (session_with (id p) (left p lt).session (call p) (count p))) (λ (r : Message). r.client ≡ id p) (sent p)
-      (λ r is. each_among (λ (r : Message). r.client ≡ id p) r (session_with (id p) (left p lt).session (call p) (count p)) (each_client (id p) (left p lt).session (call p) (count p)) is)
+      all_each (λ (r : Message). IsAmong r (sent_in_session (id p) (left p lt).session (call p) (count p))) (λ (r : Message). r.client ≡ id p) (sent p)
+      (λ r is. each_among (λ (r : Message). r.client ≡ id p) r (sent_in_session (id p) (left p lt).session (call p) (count p)) (each_client (id p) (left p lt).session (call p) (count p)) is)
       (left p lt).own
 
-  offers_sent : (p : ℕ) (lt : p < ports) → OffersSent (id p) (session_with (id p) (left p lt).session (call p) (count p)) ports sent
+  offers_sent : (p : ℕ) (lt : p < ports) → OffersSent (id p) (sent_in_session (id p) (left p lt).session (call p) (count p)) ports sent
   offers_sent p lt q within k d here client =
-      let calls : List Message = session_with (id p) (left p lt).session (call p) (count p) in
+      let calls : List Message = sent_in_session (id p) (left p lt).session (call p) (count p) in
       let own : All (λ (r : Message). IsAmong r calls) (sent p) = all_each (λ (r : Message). IsAmong r calls) (λ (r : Message). IsAmong r calls) (sent p) (λ r is. is) (left p lt).own in
       let same : q ≡ p = apart q p within lt (sym (own_client q within k d here) ∙ client) in
       subst (λ (n : ℕ). All (λ (r : Message). IsAmong r calls) (sent n)) (sym same) own k d here
@@ -53,7 +53,7 @@ module _ (o : Opening) (finish : Finish) (ports : ℕ) (id : ℕ → ℕ) (call 
   has_called p lt =
       let h : List Entry = finish.publisher.history in
       let l = left p lt in
-      let calls : List Message = session_with (id p) l.session (call p) (count p) in
+      let calls : List Message = sent_in_session (id p) l.session (call p) (count p) in
       record {
         session = l.session;
         returned = l.returned;
@@ -97,10 +97,10 @@ module _ (n : ℕ) (few : n ≤ 16) where
   at_other : (P : Bool → Type 0) (c : ℕ) → 1 ≤ c → c ≤ n → P ((n - c) == n) → P false
   at_other P c from to p = subst P (ne_eqb (n - c) n (λ same. omega (arith, same, from, to))) p
 
-  is_client : (id port : ℕ) → port < n + 1 → id ≡ number_at n port → IsClient n id
+  is_client : (id port : ℕ) → port < n + 1 → id ≡ number_at n port → IsStormClient n id
   is_client id port lt is = by (port == n) refl is
     where
-      by : (b : Bool) → (port == n) ≡ b → id ≡ cond b 100 (n - port) → IsClient n id
+      by : (b : Bool) → (port == n) ≡ b → id ≡ cond b 100 (n - port) → IsStormClient n id
       by true e is = inl is
       by false e is = let other : port ≡ n → ⊥ = eqb-false port n e in inr (omega (arith, lt, is, other), omega (arith, is))
 
@@ -118,7 +118,7 @@ played o n transfers finish few run legal left =
           let there = at_other n few (λ (b : Bool). HasCalled o h (cond b 100 (n - (n - c))) (cond b (accounts_call n) (transfer_call (n - (n - c)))) (cond b 1 transfers)) c from to
           (called (n - c) (omega arith)) in
           subst (λ (k : ℕ). HasCalled o h k (transfer_call k) transfers) is there;
-      alone = each-map (IsOf o finish (n + 1) (number_at n) (call_at n) (count_at n transfers) left.sent left.each (apart_at n few) legal grows) (λ (e : Entry). IsClient n e.request.client) h
+      alone = each-map (IsOf o finish (n + 1) (number_at n) (call_at n) (count_at n transfers) left.sent left.each (apart_at n few) legal grows) (λ (e : Entry). IsStormClient n e.request.client) h
           (λ e is. is_client n few e.request.client is.port is.made is.client)
           (all_are_of o finish (n + 1) (number_at n) (call_at n) (count_at n transfers) left.sent left.each (apart_at n few) legal grows);
     }

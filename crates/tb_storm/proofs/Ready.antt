@@ -20,10 +20,10 @@ use Rattle.tb_storm.specs.declared.clients.Client.{Client}
 use Rattle.tb_storm.specs.declared.playing.Clients.{Clients}
 use Rattle.tb_storm.specs.declared.faults.StormFault.{StormFault}
 use Rattle.tb_storm.specs.declared.faults.StormFault.TheVariants as storm
-use Rattle.tb_storm.specs.Calls.{session_with, accounts_call, transfer_call}
-use Rattle.tb_storm.specs.private.Outcomes.{first_of, fared}
-use Rattle.tb_storm.specs.private.Clients.{port_of, offered_by, IsNew, Stands, Plays, IsConcluded}
-use Rattle.tb_storm.specs.private.Playing.{new_port, IsNewOn, AreNew, AreReady, HasMade, HaveMade, MakeTransfers, IsClosed, AreClosed, AreOf, HaveNoFault, AreServed, IsLearnt, IsLeft, AreLeft}
+use Rattle.tb_storm.specs.Calls.{sent_in_session, accounts_call, transfer_call}
+use Rattle.tb_storm.specs.private.Outcomes.{first_reported, fared}
+use Rattle.tb_storm.specs.private.Clients.{port_of, offered_by, IsNewClient, Stands, Plays, IsConcluded}
+use Rattle.tb_storm.specs.private.Playing.{new_port, IsNewOn, AreNew, AreReady, HasMade, HaveMade, MakeTransfers, IsClosed, AreClosed, AreOfService, HaveNoFault, AreServedBy, IsLearnt, IsClientLeft, AreLeft}
 use Rattle.tb_storm.proofs.Steps.{closed_on, seen_on}
 
 -- the last of ports
@@ -43,7 +43,7 @@ module _ {J : Type 0} where
   -- a new client on the last of the ports
   pub record TakesLast (name : Name) (number : ℕ) (after : List Offers) (c : Client J) : Type 0 where
     pub before : AreNumbered name 0 after
-    pub is_new : IsNew name (length after) number c
+    pub is_new : IsNewClient name (length after) number c
 
   takes_last : (name : Name) (number : ℕ) (before after : List Offers) (c : Client J) → AreNumbered name 0 before → IsNewOn number before after c → TakesLast name number after c
   takes_last name number before after c these on =
@@ -51,7 +51,7 @@ module _ {J : Type 0} where
       let at : on.port.number ≡ length after = omega (arith, l.number) in
       record {
         before = l.before;
-        is_new = subst (λ (n : ℕ). IsNew name n number c) at (subst (λ (s : Name). IsNew s on.port.number number c) l.service (on.is_new l.nothing));
+        is_new = subst (λ (n : ℕ). IsNewClient name n number c) at (subst (λ (s : Name). IsNewClient s on.port.number number c) l.service (on.is_new l.nothing));
       }
 
   count_last : (number : ℕ) (before after : List Offers) (c : Client J) → IsNewOn number before after c → length before ≡ length after + 1
@@ -62,7 +62,7 @@ module _ {J : Type 0} where
     pub before : AreNumbered name 0 ports
     pub left : length ports + made ≡ count
     pub count_is : length others ≡ made
-    pub each : (i : ℕ) (d : Client J) → i < made → IsNew name (count - 1 - i) (i + 1) (get_or others i d)
+    pub each : (i : ℕ) (d : Client J) → i < made → IsNewClient name (count - 1 - i) (i + 1) (get_or others i d)
 
   pub so_far_none : (name : Name) (count : ℕ) (ports : List Offers) → ArePortsOf name count ports → SoFar name count 0 ports []
   so_far_none name count ports these = record { before = these.0; left = omega (arith, these.1); count_is = refl; each = λ i d lt. absurd (omega (arith, lt)) }
@@ -77,19 +77,19 @@ module _ {J : Type 0} where
         before = takes.before;
         left = omega (arith, counts, so.left);
         count_is = length-append others (c ∷ []) ∙ ap (λ (n : ℕ). n + 1) so.count_is;
-        each = λ i d lt. by i d lt (i == made) refl (subst (λ (n : ℕ). IsNew name n (made + 1) c) here takes.is_new);
+        each = λ i d lt. by i d lt (i == made) refl (subst (λ (n : ℕ). IsNewClient name n (made + 1) c) here takes.is_new);
       }
     where
-      by : (i : ℕ) (d : Client J) → i < made + 1 → (b : Bool) → (i == made) ≡ b → IsNew name (count - 1 - made) (made + 1) c
-          → IsNew name (count - 1 - i) (i + 1) (get_or (others ++ c ∷ []) i d)
+      by : (i : ℕ) (d : Client J) → i < made + 1 → (b : Bool) → (i == made) ≡ b → IsNewClient name (count - 1 - made) (made + 1) c
+          → IsNewClient name (count - 1 - i) (i + 1) (get_or (others ++ c ∷ []) i d)
       by i d lt false e is =
           let other : i ≡ made → ⊥ = eqb-false i made e in
           let less : i < made = omega (arith, lt, other) in
-          subst (IsNew name (count - 1 - i) (i + 1)) (sym (get_or-append others (c ∷ []) d i (omega (arith, less, so.count_is)))) (so.each i d less)
+          subst (IsNewClient name (count - 1 - i) (i + 1)) (sym (get_or-append others (c ∷ []) d i (omega (arith, less, so.count_is)))) (so.each i d less)
       by i d lt true e is =
           let same : i ≡ made = eqb-true i made e in
           let at : get_or (others ++ c ∷ []) i d ≡ c = ap (λ (k : ℕ). get_or (others ++ c ∷ []) k d) (same ∙ sym so.count_is) ∙ get_or-append_seam others c [] d in
-          subst (IsNew name (count - 1 - i) (i + 1)) (sym at) (subst (λ (k : ℕ). IsNew name (count - 1 - k) (k + 1) c) (sym same) is)
+          subst (IsNewClient name (count - 1 - i) (i + 1)) (sym at) (subst (λ (k : ℕ). IsNewClient name (count - 1 - k) (k + 1) c) (sym same) is)
 
   pub all_made : (name : Name) (count : ℕ) (ports : List Offers) (others : List (Client J)) → SoFar name count count ports others → AreNew name count others
   all_made name count ports others so = record { count_is = so.count_is; each = so.each }
@@ -99,13 +99,13 @@ module _ {J : Type 0} where
   all_ready name count ports after clients on others these =
       let takes = takes_last name 100 ports after clients.first these.0 on in
       let counts : length after ≡ count = omega (arith, count_last 100 ports after clients.first on, these.1) in
-      record { first = subst (λ (n : ℕ). IsNew name n 100 clients.first) counts takes.is_new; others = others name (takes.before, counts) }
+      record { first = subst (λ (n : ℕ). IsNewClient name n 100 clients.first) counts takes.is_new; others = others name (takes.before, counts) }
 
 -- what all made
 
 module _ {J : Type 0} (o : Opening) where
   -- a new client made its calls
-  pub has_made : (name : Name) (port number : ℕ) (call : ℕ → Body) (count : ℕ) (old new : Client J) → IsNew name port number old → (new.fault ≡ None → Plays o call count old new) → HasMade o name port number call count new
+  pub has_made : (name : Name) (port number : ℕ) (call : ℕ → Body) (count : ℕ) (old new : Client J) → IsNewClient name port number old → (new.fault ≡ None → Plays o call count old new) → HasMade o name port number call count new
   has_made name port number call count old new is plays none =
       subst (λ (p : Option Offers). Stands o number call count p new) is.port_is
       (subst (λ (n : ℕ). Stands o n call count (port_of old.line) new) is.number_is (plays none (is.caller_is ∙ ap fresh (sym is.number_is))))
@@ -155,14 +155,14 @@ module _ {J : Type 0} (o : Opening) where
   of_service name port number call count c made none = subst (λ (p : Option Offers). IfSome p (λ q. q.service ≡ name)) (sym (made none).sent) refl
 
   pub are_of : (name : Name) (count transfers : ℕ) (clients : Clients J) → HaveMade o name count transfers clients → clients.first.fault ≡ None → HaveNoFault clients.others.items
-      → AreOf name clients.others.items
+      → AreOfService name clients.others.items
   are_of name count transfers clients made none nones i d lt =
       of_service name (count - 1 - i) (i + 1) (transfer_call (i + 1)) transfers (get_or clients.others.items i d)
       (made.others none i d (omega (arith, lt, made.count_is))) (nones i d lt)
 
   -- what is left of a client
   pub is_left : (name : Name) (port number : ℕ) (call : ℕ → Body) (count : ℕ) (finish : Finish) (c : Client J) → HasMade o name port number call count c → c.fault ≡ None
-      → IsConcluded finish c → IsLeft o finish port number call count (offered_by (port_of c.line))
+      → IsConcluded finish c → IsClientLeft o finish port number call count (offered_by (port_of c.line))
   is_left name port number call count finish c made none served =
       let s : Stands o number call count (Some (new_port name port)) c = made none in
       let both : Some served.port ≡ Some (record { service = name; number = port; offered = s.more }) = sym served.port_is ∙ s.sent in
@@ -176,13 +176,13 @@ module _ {J : Type 0} (o : Opening) where
         taken = s.taken;
         given = each-map (λ (p : Message × Answer). IsFromSeat o c.seat p.1) (λ (p : Message × Answer). IsFromSeat o finish.publisher.history p.1) s.returned
             (λ p f. record { seen = f.seen; request = f.request; prefix = prefix_trans f.seen c.seat finish.publisher.history f.prefix served.seen; answers = f.answers }) s.given;
-        own = subst (Each (λ (r : Message). IsAmong r (session_with number c.caller.session call count))) sent s.own;
+        own = subst (Each (λ (r : Message). IsAmong r (sent_in_session number c.caller.session call count))) sent s.own;
         offered = subst (λ (l : List Message). IsOffered l finish.taken (places_from port 1 finish.owners) finish.ended) sent
             (subst (λ (p : Offers). IsOffered p.offered finish.taken (places_from p.number 1 finish.owners) finish.ended) is served.offered);
       }
 
   pub are_left : (name : Name) (count transfers : ℕ) (finish : Finish) (clients : Clients J) → HaveMade o name count transfers clients → clients.first.fault ≡ None
-      → HaveNoFault clients.others.items → IsConcluded finish clients.first → AreServed finish clients.others.items → AreLeft o finish count transfers
+      → HaveNoFault clients.others.items → IsConcluded finish clients.first → AreServedBy finish clients.others.items → AreLeft o finish count transfers
   are_left name count transfers finish clients made none nones first others = record {
     sent = λ p. cond (p == count) (offered_by (port_of clients.first.line)) (offered_by (port_of (other p).line));
     each = λ p lt. by p lt (p == count) refl;
@@ -192,10 +192,10 @@ module _ {J : Type 0} (o : Opening) where
       other p = get_or clients.others.items (count - 1 - p) clients.first
 
       by : (p : ℕ) → p < count + 1 → (b : Bool) → (p == count) ≡ b
-          → IsLeft o finish p (cond b 100 (count - p)) (cond b (accounts_call count) (transfer_call (count - p))) (cond b 1 transfers)
+          → IsClientLeft o finish p (cond b 100 (count - p)) (cond b (accounts_call count) (transfer_call (count - p))) (cond b 1 transfers)
           (cond b (offered_by (port_of clients.first.line)) (offered_by (port_of (other p).line)))
       by p lt true e =
-          subst (λ (n : ℕ). IsLeft o finish n 100 (accounts_call count) 1 (offered_by (port_of clients.first.line))) (sym (eqb-true p count e))
+          subst (λ (n : ℕ). IsClientLeft o finish n 100 (accounts_call count) 1 (offered_by (port_of clients.first.line))) (sym (eqb-true p count e))
           (is_left name count 100 (accounts_call count) 1 finish clients.first made.first none first)
       by p lt false e =
           let apart : p ≡ count → ⊥ = eqb-false p count e in
@@ -207,15 +207,15 @@ module _ {J : Type 0} (o : Opening) where
           let number : i + 1 ≡ count - p = omega (arith, below) in
           let l = is_left name (count - 1 - i) (i + 1) (transfer_call (i + 1)) transfers finish (other p) (made.others none i clients.first within) (nones i clients.first here)
           (others i clients.first here) in
-          subst (λ (n : ℕ). IsLeft o finish p n (transfer_call n) transfers (offered_by (port_of (other p).line))) number
-          (subst (λ (n : ℕ). IsLeft o finish n (i + 1) (transfer_call (i + 1)) transfers (offered_by (port_of (other p).line))) port l)
+          subst (λ (n : ℕ). IsClientLeft o finish p n (transfer_call n) transfers (offered_by (port_of (other p).line))) number
+          (subst (λ (n : ℕ). IsClientLeft o finish n (i + 1) (transfer_call (i + 1)) transfers (offered_by (port_of (other p).line))) port l)
         where
           under : (p n : ℕ) → p < n + 1 → (p ≡ n → ⊥) → p < n
           under p n lt apart = omega (arith, lt, apart)
 
 -- no client met a fault
 
-none_first : (first next : Option StormFault) → first_of first next ≡ None → (first ≡ None) × (next ≡ None)
+none_first : (first next : Option StormFault) → first_reported first next ≡ None → (first ≡ None) × (next ≡ None)
 none_first None next e = (refl, e)
 none_first (Some storm.GaveUp) None e = absurd cc
 none_first (Some storm.GaveUp) (Some f) e = absurd cc
@@ -228,7 +228,7 @@ module _ {J : Type 0} where
   pub no_fault : (first : Option StormFault) (others : List (Client J)) → fared first others ≡ None → (first ≡ None) × HaveNoFault others
   no_fault first [] e = (e, λ i d lt. absurd (omega (arith, lt)))
   no_fault first (c ∷ cs) e =
-      let rest = no_fault (first_of first c.fault) cs e in
+      let rest = no_fault (first_reported first c.fault) cs e in
       let both = none_first first c.fault rest.0 in
       (both.0, at both.1 rest.1)
     where

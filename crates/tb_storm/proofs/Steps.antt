@@ -18,14 +18,14 @@ use Rattle.tb_service.specs.Calls.{OffersOnce}
 use Rattle.tb_caller.specs.declared.callers.Heard.{Heard}
 use Rattle.tb_caller.specs.declared.callers.Heard.TheVariants as hearing
 use Rattle.tb_caller.specs.declared.callers.Phase.TheVariants.{Idle}
-use Rattle.tb_caller.specs.Clients.{fresh, client_of, open_request, made, called, heard, moved, received, session_with as session_after}
+use Rattle.tb_caller.specs.Clients.{fresh, client_with, open_request, made, called, heard, moved, received, session_with as session_after}
 use Rattle.tb_caller.specs.Clients.{Client as Session}
 use Rattle.tb_caller.specs.Endpoints.{IsAmong}
 use Rattle.tb_caller.specs.Calls.{IsTaken}
 use Rattle.tb_caller.proofs.Own.{IsOwn, IsOf, own_called, open_of, Returns as ReturnsOf, returns_of}
 use Rattle.tb_caller_service.specs.SeatCalls.{IsFromSeat}
 use Rattle.tb_storm.specs.declared.clients.Client.{Client}
-use Rattle.tb_storm.specs.Calls.{session_with, transfer_call}
+use Rattle.tb_storm.specs.Calls.{sent_in_session, transfer_call}
 use Rattle.tb_storm.specs.private.Clients.{port_of, more_by, offered_by, offers, repeats_at, repeat_count, Waits, Hears, Returns, Repeats, Stands, Plays, TransfersMore}
 use Rattle.tb_storm.proofs.Sessions.{among}
 
@@ -57,7 +57,7 @@ each_join P (x ∷ xs) ys one two = (one.0, each_join P xs ys one.1 two)
 seat_on : (o : Opening) (old new : List Entry) (a : Answer) → IsPrefix old new → IsFromSeat o old a → IsFromSeat o new a
 seat_on o old new a grows is = record { seen = is.seen; request = is.request; prefix = prefix_trans is.seen old new is.prefix grows; answers = is.answers }
 
-same_client : (id m : ℕ) (s t : ℕ) (k l : ℕ) → id ≡ m → s ≡ t → k ≡ l → client_of id s k Idle ≡ client_of m t l Idle
+same_client : (id m : ℕ) (s t : ℕ) (k l : ℕ) → id ≡ m → s ≡ t → k ≡ l → client_with id s k Idle ≡ client_with m t l Idle
 same_client id m s t k l e f g = cc (e, f, g)
 
 made_call : (c : Session) (body : Body) → is_register body ≡ false → made c body ≡ asked c.id c.session (c.last + 1) body
@@ -125,30 +125,30 @@ module _ {J : Type 0} where
       -- the client sent more of what it had sent, or saw more
       pub stands_on : (count : ℕ) (c d : Client J) (more : List Message) → d.number ≡ c.number → d.caller ≡ c.caller → IsPrefix c.seat d.seat
           → port_of d.line ≡ more_by (port_of c.line) more
-          → (Stands o id call count start c → Each (λ (r : Message). IsAmong r (session_with id c.caller.session call count)) more)
+          → (Stands o id call count start c → Each (λ (r : Message). IsAmong r (sent_in_session id c.caller.session call count)) more)
           → Stands o id call count start c → Stands o id call count start d
       stands_on count c d more number same grows sent each s =
           let session : d.caller.session ≡ c.caller.session = ap (λ (x : Session). x.session) same in
           let back : c.caller.session ≡ d.caller.session = sym session in
           record {
             number_is = number ∙ s.number_is;
-            caller_is = same ∙ (s.caller_is ∙ ap (λ (n : ℕ). client_of id n count Idle) back);
+            caller_is = same ∙ (s.caller_is ∙ ap (λ (n : ℕ). client_with id n count Idle) back);
             returned = s.returned;
-            all = s.all ∙ ap (λ (n : ℕ). session_with id n call count) back;
-            lawful = subst (λ (n : ℕ). Each (λ (r : Message). IsTrue (is_lawful r)) (session_with id n call count)) back s.lawful;
-            taken = subst (λ (n : ℕ). Each (IsTaken (session_with id n call count)) s.returned) back s.taken;
+            all = s.all ∙ ap (λ (n : ℕ). sent_in_session id n call count) back;
+            lawful = subst (λ (n : ℕ). Each (λ (r : Message). IsTrue (is_lawful r)) (sent_in_session id n call count)) back s.lawful;
+            taken = subst (λ (n : ℕ). Each (IsTaken (sent_in_session id n call count)) s.returned) back s.taken;
             given = each-map (λ (p : Message × Answer). IsFromSeat o c.seat p.1) (λ (p : Message × Answer). IsFromSeat o d.seat p.1) s.returned (λ p is. seat_on o c.seat d.seat p.1 grows is) s.given;
             more = s.more ++ more;
             sent = sent ∙ (ap (λ (p : Option Offers). more_by p more) s.sent ∙ more_more start s.more more);
-            own = subst (λ (n : ℕ). Each (λ (r : Message). IsAmong r (session_with id n call count)) (s.more ++ more)) back
-                (each_join (λ (r : Message). IsAmong r (session_with id c.caller.session call count)) s.more more s.own (each s));
+            own = subst (λ (n : ℕ). Each (λ (r : Message). IsAmong r (sent_in_session id n call count)) (s.more ++ more)) back
+                (each_join (λ (r : Message). IsAmong r (sent_in_session id c.caller.session call count)) s.more more s.own (each s));
           }
 
       -- a reply was taken for a call
 
       pub record Took (body : Body) (old new : Client J) : Type 0 where
         pub answer : Answer
-        pub is : new.caller ≡ client_of old.caller.id (session_after old.caller.session answer) (made old.caller body).request Idle
+        pub is : new.caller ≡ client_with old.caller.id (session_after old.caller.session answer) (made old.caller body).request Idle
         pub number_is : new.number ≡ old.number
         pub client : answer.client ≡ (made old.caller body).client
         pub request : answer.request ≡ (made old.caller body).request
@@ -227,9 +227,9 @@ module _ {J : Type 0} where
           let of_id : old.caller.id ≡ id = ap (λ (x : Session). x.id) s.caller_is in
           let of_last : old.caller.last ≡ count = ap (λ (x : Session). x.last) s.caller_is in
           let request : m ≡ asked id n (count + 1) body = made_is ∙ asks old.caller.id id old.caller.session n old.caller.last count body of_id back of_last in
-          let older : List Message = session_with id n call count in
-          let earlier : List Message = session_with id old.caller.session call count in
-          let list : earlier ≡ older = ap (λ (k : ℕ). session_with id k call count) back in
+          let older : List Message = sent_in_session id n call count in
+          let earlier : List Message = sent_in_session id old.caller.session call count in
+          let list : earlier ≡ older = ap (λ (k : ℕ). sent_in_session id k call count) back in
           let taken : IsTaken (asked id n (count + 1) body ∷ []) (asked id n (count + 1) body, t.answer) = subst (λ (x : Message). IsTaken (x ∷ []) (x, t.answer)) request t.taken in
           record {
             number_is = t.number_is ∙ s.number_is;
@@ -265,11 +265,11 @@ third (suc zero) from e = absurd cc
 third (suc (suc zero)) from e = absurd cc
 third (suc (suc (suc k))) from e = omega arith
 
-own_repeats : (id session count k : ℕ) → 1 ≤ k → k ≤ count → Each (λ (r : Message). IsAmong r (session_with id session (transfer_call id) count)) (repeats_at id session k)
+own_repeats : (id session count k : ℕ) → 1 ≤ k → k ≤ count → Each (λ (r : Message). IsAmong r (sent_in_session id session (transfer_call id) count)) (repeats_at id session k)
 own_repeats id session count k from to = (among id session (transfer_call id) count k from to, by (k % 3 == 0) refl)
   where
     by : (b : Bool) → (k % 3 == 0) ≡ b
-        → Each (λ (r : Message). IsAmong r (session_with id session (transfer_call id) count)) (if b then asked id session (k - 2) (transfer_call id (k - 2)) ∷ [] else [])
+        → Each (λ (r : Message). IsAmong r (sent_in_session id session (transfer_call id) count)) (if b then asked id session (k - 2) (transfer_call id (k - 2)) ∷ [] else [])
     by true e = let above : 3 ≤ k = third k from e in (among id session (transfer_call id) count (k - 2) (omega (arith, above)) (omega (arith, to)), tt)
     by false e = tt
 
@@ -279,7 +279,7 @@ module _ {J : Type 0} (o : Opening) where
   repeated id count k start old new from to s r =
       stands_on o id (transfer_call id) start count old new (repeats_at old.number old.caller.session k) r.number_is r.caller_is
       (subst (λ (l : List Entry). IsPrefix old.seat l) (sym r.seat_is) (prefix_self old.seat)) r.sent
-      (λ s. subst (λ (n : ℕ). Each (λ (r : Message). IsAmong r (session_with id old.caller.session (transfer_call id) count)) (repeats_at n old.caller.session k)) (sym s.number_is)
+      (λ s. subst (λ (n : ℕ). Each (λ (r : Message). IsAmong r (sent_in_session id old.caller.session (transfer_call id) count)) (repeats_at n old.caller.session k)) (sym s.number_is)
       (own_repeats id old.caller.session count k from to))
       s
 

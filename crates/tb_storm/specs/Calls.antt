@@ -60,25 +60,25 @@ abbrev pub transfer_call : ℕ → ℕ → Body
 transfer_call client k = CreateTransfers (transfer_of client k ∷ [])
 
 -- all that a client sends in a session, the newest first: so many calls, numbered from 1, after its register
-abbrev pub session_with : ℕ → ℕ → (ℕ → Body) → ℕ → List Message
-session_with id session call zero = asked id 0 0 Register ∷ []
-session_with id session call (suc k) = asked id session (k + 1) (call (k + 1)) ∷ session_with id session call k
+abbrev pub sent_in_session : ℕ → ℕ → (ℕ → Body) → ℕ → List Message
+sent_in_session id session call zero = asked id 0 0 Register ∷ []
+sent_in_session id session call (suc k) = asked id session (k + 1) (call (k + 1)) ∷ sent_in_session id session call k
 
 -- A client made so many calls, and each returned a reply: the history has each once, in the entry that gave this reply, and nothing else
 -- of the client.
 pub record HasCalled (o : Opening) (h : List Entry) (id : ℕ) (call : ℕ → Body) (count : ℕ) : Type 0 where
   pub session : ℕ
   pub returned : List (Message × Answer)
-  pub all : map (λ p. p.0) returned ≡ session_with id session call count
-  pub none : NoneInvented id (session_with id session call count) h
-  pub hold : CallsHold o.profile o.clients_max None id h (session_with id session call count) returned
+  pub all : map (λ p. p.0) returned ≡ sent_in_session id session call count
+  pub none : NoneInvented id (sent_in_session id session call count) h
+  pub hold : CallsHold o.profile o.clients_max None id h (sent_in_session id session call count) returned
 
 -- one of the clients of a storm
-abbrev pub IsClient : ℕ → ℕ → Type 0
-IsClient clients id = (id ≡ 100) ⊎ ((1 ≤ id) × (id ≤ clients))
+abbrev pub IsStormClient : ℕ → ℕ → Type 0
+IsStormClient clients id = (id ≡ 100) ⊎ ((1 ≤ id) × (id ≤ clients))
 
 -- a history of a storm: each client's calls, once each, and nothing else
 pub record IsPlayed (o : Opening) (clients transfers : ℕ) (h : List Entry) : Type 0 where
   pub first : HasCalled o h 100 (accounts_call clients) 1
   pub others : (c : ℕ) → 1 ≤ c → c ≤ clients → HasCalled o h c (transfer_call c) transfers
-  pub alone : Each (λ (e : Entry). IsClient clients e.request.client) h
+  pub alone : Each (λ (e : Entry). IsStormClient clients e.request.client) h

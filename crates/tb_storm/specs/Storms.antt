@@ -39,34 +39,34 @@ abbrev pub storm_line : StormFault → List ℕ
 storm_line fault = line_named (storm_fault_name fault)
 
 -- a line of a word and a number
-abbrev pub line_of : List ℕ → ℕ → List ℕ
-line_of word number = word ++ decimal number ++ codes "\n"
+abbrev pub numbered_line : List ℕ → ℕ → List ℕ
+numbered_line word number = word ++ decimal number ++ codes "\n"
 
 -- the four lines of a storm of so many clients
 abbrev pub storm_lines : ℕ → Totals → List ℕ
 storm_lines clients totals =
-    ((line_of (codes "clients ") clients ++ line_of (codes "commits ") totals.commits) ++ line_of (codes "transfers ") totals.transfers)
-    ++ line_of (codes "credited ") totals.credited
+    ((numbered_line (codes "clients ") clients ++ numbered_line (codes "commits ") totals.commits) ++ numbered_line (codes "transfers ") totals.transfers)
+    ++ numbered_line (codes "credited ") totals.credited
 
 -- Lines were written, and nothing is reported; or as far as the writer took them, and the fault is Device.
-abbrev pub Writes : List ℕ → ℕ → Output → Output → Output → Output → Type 0
-Writes lines exit_status start written quiet told = ((exit_status ≡ 0) × Sent lines start written × (told ≡ quiet))
+abbrev pub WritesLines : List ℕ → ℕ → Output → Output → Output → Output → Type 0
+WritesLines lines exit_status start written quiet told = ((exit_status ≡ 0) × Sent lines start written × (told ≡ quiet))
     ⊎ ((exit_status ≡ storm_exit_status storm.Device) × CutOff lines start written × PrintsLine (storm_line storm.Device) quiet told)
 
 -- of a storm that ended with totals its lines are written; of another nothing is, and its fault is reported
-abbrev pub Exits : ℕ → Result Totals StormFault → ℕ → Output → Output → Output → Output → Type 0
-Exits clients (Ok totals) exit_status start written quiet told = Writes (storm_lines clients totals) exit_status start written quiet told
-Exits clients (Err fault) exit_status start written quiet told = (exit_status ≡ storm_exit_status fault) × (written ≡ start) × PrintsLine (storm_line fault) quiet told
+abbrev pub StormExitsWith : ℕ → Result Totals StormFault → ℕ → Output → Output → Output → Output → Type 0
+StormExitsWith clients (Ok totals) exit_status start written quiet told = WritesLines (storm_lines clients totals) exit_status start written quiet told
+StormExitsWith clients (Err fault) exit_status start written quiet told = (exit_status ≡ storm_exit_status fault) × (written ≡ start) × PrintsLine (storm_line fault) quiet told
 
 -- A storm of so many clients was played, and this is reported of it: its totals, or that there is no memory for their lines; or its
 -- fault, and nothing else.
 abbrev pub PrintsOutcome : ℕ → Result Totals StormFault → ℕ → Output → Output → Output → Output → Type 0
 PrintsOutcome clients (Ok totals) exit_status start written quiet told =
-    Exits clients (Ok totals) exit_status start written quiet told ⊎ Exits clients (Err storm.NoMemory) exit_status start written quiet told
-PrintsOutcome clients (Err fault) exit_status start written quiet told = Exits clients (Err fault) exit_status start written quiet told
+    StormExitsWith clients (Ok totals) exit_status start written quiet told ⊎ StormExitsWith clients (Err storm.NoMemory) exit_status start written quiet told
+PrintsOutcome clients (Err fault) exit_status start written quiet told = StormExitsWith clients (Err fault) exit_status start written quiet told
 
 -- A storm of so many clients, each with so many transfers, ended: with the totals of a history that has all that the clients saw, or
 -- with a fault.
 abbrev pub StormExits : ℕ → ℕ → ℕ → Output → Output → Output → Output → Type 0
 StormExits clients transfers exit_status start written quiet told =
-    (outcome : Result Totals StormFault) × IfOk outcome (AreTotals clients transfers) × Exits clients outcome exit_status start written quiet told
+    (outcome : Result Totals StormFault) × IfOk outcome (AreTotals clients transfers) × StormExitsWith clients outcome exit_status start written quiet told

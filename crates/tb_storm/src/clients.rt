@@ -4,7 +4,7 @@ ghost use Rattle.tb_records.specs.Messages.{asked};
 ghost use Rattle.tb_caller.specs.declared.callers.Heard.TheVariants as hearing;
 ghost use Rattle.tb_storm.specs.declared.faults.StormFault.TheVariants.{GaveUp};
 ghost use Rattle.tb_storm.specs.Calls.{accounts_call, transfer_call};
-ghost use Rattle.tb_storm.specs.private.Clients.{TransfersMore, Hears, IsNew, Plays, Repeats, Returns, offers, repeat_count, repeats_at};
+ghost use Rattle.tb_storm.specs.private.Clients.{TransfersMore, Hears, IsNewClient, Plays, Repeats, Returns, offers, repeat_count, repeats_at};
 ghost use Rattle.tb_storm.specs.private.Playing.{IsClosed};
 
 use crate::calls::{create_accounts, create_transfer};
@@ -38,7 +38,7 @@ pub(crate) struct Client<J: Naming> {
 impl<J: Naming> Client<J> {
     /// The client with a number, with a port and a seat.
     pub fn new(alloc: Global, number: u32, port: Port, seat: Seat<J>) -> Client<J>
-        ensures { port.offered ≡ [] → IsNew port.service port.number number result }
+        ensures { port.offered ≡ [] → IsNewClient port.service port.number number result }
     {
         Client {
             number,

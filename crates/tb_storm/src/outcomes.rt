@@ -1,6 +1,6 @@
 //! Which fault of a storm is reported.
 ghost use Rattle.std.specs.Prelude.{◌≡◌, ◌≤◌, Ok, None, IfOk};
-ghost use Rattle.tb_storm.specs.private.Outcomes.{answered, first_of, outcome_of};
+ghost use Rattle.tb_storm.specs.private.Outcomes.{totals_answered, first_reported, outcome_of};
 
 use crate::faults::StormFault;
 use crate::totals::Totals;
@@ -8,7 +8,7 @@ use tb_service::Ended;
 
 /// Of two faults the first; but that a client gave up is reported only where there is no other.
 pub(crate) fn first_fault(first: Option<StormFault>, next: Option<StormFault>) -> Option<StormFault>
-    ensures { result ≡ first_of first next }
+    ensures { result ≡ first_reported first next }
 {
     match (first, next) {
         (None, next) => next,
@@ -36,7 +36,7 @@ pub(crate) fn conclude(
 
 /// What is reported, but that totals of fewer entries than the clients saw replies are none.
 pub(crate) fn answered(replies: u32, told: Result<Totals, StormFault>) -> Result<Totals, StormFault>
-    ensures told { result ≡ answered replies told }
+    ensures told { result ≡ totals_answered replies told }
     ensures totals { IfOk result (λ totals. (told ≡ Ok totals) × (replies ≤ totals.commits)) }
 {
     match told {

@@ -4,7 +4,7 @@ ghost use Rattle.tb_service.specs.Names.{Name};
 ghost use Rattle.tb_service.specs.Ports.{ArePortsOf};
 ghost use Rattle.tb_storm.specs.Calls.{accounts_call};
 ghost use Rattle.tb_storm.specs.private.Clients.{IsConcluded, Plays, port_of};
-ghost use Rattle.tb_storm.specs.private.Playing.{AreClosed, AreLeft, AreNew, AreOf, AreReady, AreServed, HaveMade, HaveNoFault, IsNewOn, MakeTransfers};
+ghost use Rattle.tb_storm.specs.private.Playing.{AreClosed, AreLeft, AreNew, AreOfService, AreReady, AreServedBy, HaveMade, HaveNoFault, IsNewOn, MakeTransfers};
 
 use crate::clients::Client;
 use crate::faults::StormFault;
@@ -183,9 +183,9 @@ fn take_in_each<J: Naming>(
     finished: &mut Finished<J>,
     clients: &mut [Client<J>],
 ) -> Result<(), StormFault>
-    requires { AreOf finished.old.service clients.old }
+    requires { AreOfService finished.old.service clients.old }
     ensures same { finished.new ≡ finished.old }
-    ensures served { OnOk result (AreServed finished.old clients.old) }
+    ensures served { OnOk result (AreServedBy finished.old clients.old) }
 {
     for client in clients.iter_mut() {
         if let Err(fault) = take_in(finished, client) {

@@ -10,7 +10,7 @@ ghost use Rattle.tb_storm.specs.Totals.{first_credits, AreTotals};
 ghost use Rattle.tb_storm.specs.private.Outcomes.{Concludes, fared};
 ghost use Rattle.tb_service.specs.Names.{Name};
 ghost use Rattle.tb_storm.specs.private.Playing.{AreReady, EndsWell, HasRun, HaveMade, IsLearnt};
-ghost use Rattle.tb_storm.specs.Storms.{storm_exit_status, storm_line, Writes, PrintsOutcome, StormExits};
+ghost use Rattle.tb_storm.specs.Storms.{storm_exit_status, storm_line, WritesLines, PrintsOutcome, StormExits};
 
 use crate::clients::Client;
 use crate::faults::StormFault;
@@ -291,7 +291,7 @@ fn refuse<E: Sink>(fault: StormFault, faults: &mut E) -> u8
 /// Writes the lines of a storm, and answers the exit status.
 fn write_lines<W: Sink, E: Sink>(lines: &[u8], writer: &mut W, faults: &mut E) -> u8
     ensures quiet { result ≡ 0 → faults.new ≡ faults.old }
-    ensures written { Writes lines.now result (W.output writer.old) (W.output writer.new) (E.output faults.old)
+    ensures written { WritesLines lines.now result (W.output writer.old) (W.output writer.new) (E.output faults.old)
         (E.output faults.new) }
 {
     match put_all(writer, lines) {

@@ -1,6 +1,6 @@
 //! What a storm leaves, and the lines that report on it.
 ghost use Rattle.std.specs.Prelude.{◌≡◌, ◌++◌, string_bytes, IfOk};
-ghost use Rattle.tb_storm.specs.Storms.{line_of, storm_lines};
+ghost use Rattle.tb_storm.specs.Storms.{numbered_line, storm_lines};
 
 use std::alloc::{AllocError, Global};
 
@@ -15,7 +15,7 @@ pub struct Totals {
 /// Adds a line of a word and a number.
 fn add_line(alloc: Global, lines: &mut String, word: &str, number: u128) -> Result<(), AllocError>
     ensures { IfOk result
-        (λ _. string_bytes lines.new ≡ string_bytes lines.old ++ line_of word.now number) }
+        (λ _. string_bytes lines.new ≡ string_bytes lines.old ++ numbered_line word.now number) }
 {
     let digits = number.to_string(alloc)?;
     lines.push_str(word)?;

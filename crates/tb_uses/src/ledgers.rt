@@ -2,8 +2,8 @@
 ghost use Rattle.std.specs.Prelude.{◌≡◌, ◌<◌, ◌∷◌, [], IfOk, OnOk, OnErr};
 ghost use Rattle.std.specs.Option.{option_to_list};
 ghost use Rattle.tb_ledger.specs.Batches.{results};
-ghost use Rattle.tb_ledger.specs.Verdicts.{max_time};
 ghost use Rattle.tb_ledger.specs.WorkedRows.{request};
+ghost use Rattle.tb_records.specs.declared.limits.TheConstants.{LAST_MOMENT};
 
 use std::alloc::{AllocError, Allocator, Global};
 use tb_ledger::Ledger;
@@ -16,7 +16,7 @@ pub fn enter_transfer<A: Allocator + Clone>(
     global: Global,
     transfer: Transfer,
 ) -> Result<Option<EventResult>, AllocError>
-    requires { ledger.old.time < max_time }
+    requires { ledger.old.time < LAST_MOMENT }
     ensures answer { IfOk result
         (λ refused. option_to_list refused ≡ results (request ledger.old (transfer ∷ [])).codes) }
     ensures books { OnOk result (ledger.new ≡ (request ledger.old (transfer ∷ [])).books) }

@@ -2,7 +2,7 @@
 ghost use Rattle.std.specs.Prelude.{◌≡◌, ◌<◌, IfOk, IfErr, OnOk};
 ghost use Rattle.tb_records.specs.Ordered.{Each};
 ghost use Rattle.tb_sessions.specs.Admission.{admitted, leaving};
-ghost use Rattle.tb_uses.specs.Rows.{row_with};
+ghost use Rattle.tb_uses.specs.Rows.{use_row};
 
 use tb_records::{Reply, Request};
 use tb_sessions::{Class, Row, Sessions};
@@ -17,10 +17,10 @@ pub fn keep(
 ) -> Result<Option<Row>, Request>
     requires later { Each (λ (row : Row). row.commit < commit) sessions.old.rows }
     ensures left { IfOk result
-        (λ left. left ≡ leaving sessions.old.clients_max sessions.old.rows (row_with request reply commit)) }
+        (λ left. left ≡ leaving sessions.old.clients_max sessions.old.rows (use_row request reply commit)) }
     ensures kept { OnOk result
         (sessions.new
-        ≡ record sessions.old { rows = admitted sessions.old.clients_max sessions.old.rows (row_with request reply commit) }) }
+        ≡ record sessions.old { rows = admitted sessions.old.clients_max sessions.old.rows (use_row request reply commit) }) }
     ensures back { IfErr result (λ back. (back ≡ request) × (sessions.new ≡ sessions.old)) }
 {
     if !matches!(sessions.classify(&request), Class::New) {

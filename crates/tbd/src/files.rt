@@ -6,7 +6,7 @@ use std::cell::Cell;
 use std::io::{BufWriter, Stderr};
 use std::thread;
 use std::time::Duration;
-use tb_journal::{Device, Real, Snapshot};
+use tb_journal::{Device, FileFault, Real, Snapshot};
 use tb_keep_commands::{
     Named, Opener, OpeningFault, Reason, Reported, opening_fault, unread_fault,
 };
@@ -66,6 +66,30 @@ impl<'a> SystemFiles<'a> {
     }
 }
 
+/// The system's numbers of its answers that as many files are open as there may be, and as a process may have.
+const ENFILE: i32 = 23;
+
+const EMFILE: i32 = 24;
+
+/// Says whether the system did not open a file for that.
+fn is_too_many(fault: &FileFault) -> bool {
+    match fault {
+        FileFault::System(error) => match error.raw_os_error() {
+            Some(number) => number == ENFILE || number == EMFILE,
+            None => false,
+        },
+        _ => false,
+    }
+}
+
+/// The fault of a file that is not opened.
+fn fault_of(fault: &FileFault) -> OpeningFault {
+    if is_too_many(fault) {
+        return OpeningFault::TooMany;
+    }
+    opening_fault(fault)
+}
+
 /// A file that has bytes.
 fn with_bytes(real: Real) -> Result<Real, OpeningFault> {
     let mut real = real;
@@ -87,7 +111,7 @@ impl<'a> Opener for SystemFiles<'a> {
         let files = HighFiles::new(self.rt);
         match Real::make(&files, name) {
             Ok(real) => self.served(files.opened(), real, name, self.reports),
-            Err(fault) => Err(opening_fault(&fault)),
+            Err(fault) => Err(fault_of(&fault)),
         }
     }
 
@@ -95,7 +119,7 @@ impl<'a> Opener for SystemFiles<'a> {
         let files = HighFiles::new(self.rt);
         match Real::open(&files, name) {
             Ok(real) => self.served(files.opened(), with_bytes(real)?, name, self.reports),
-            Err(fault) => Err(opening_fault(&fault)),
+            Err(fault) => Err(fault_of(&fault)),
         }
     }
 
@@ -107,7 +131,7 @@ impl<'a> Opener for SystemFiles<'a> {
         let files = HighFiles::new(self.rt);
         match Real::make_new(&files, name) {
             Ok(real) => self.served(files.opened(), real, name, false),
-            Err(fault) => Err(opening_fault(&fault)),
+            Err(fault) => Err(fault_of(&fault)),
         }
     }
 
@@ -116,7 +140,7 @@ impl<'a> Opener for SystemFiles<'a> {
             Ok(real) => {
                 Snapshot::new(self.rt.alloc(), real).map_err(|fault| unread_fault(fault))
             }
-            Err(fault) => Err(opening_fault(&fault)),
+            Err(fault) => Err(fault_of(&fault)),
         }
     }
 
@@ -133,7 +157,7 @@ impl<'a> Looker for SystemFiles<'a> {
                 let mut real = real;
                 real.read_at(0, into).map_err(|fault| unread_fault(fault))
             }
-            Err(fault) => Err(opening_fault(&fault)),
+            Err(fault) => Err(fault_of(&fault)),
         }
     }
 }

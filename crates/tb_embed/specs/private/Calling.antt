@@ -13,11 +13,11 @@ use Rattle.tb_embed.specs.declared.steps.Step.TheVariants as step
 use Rattle.tb_embed.specs.declared.steps.TbCaller.{TbCaller}
 
 -- the request of one whole frame
-abbrev pub ReadsWhole : Result Message Step → List ℕ → Type 0
-ReadsWhole (Ok r) bytes = Spells bytes r
-ReadsWhole (Err step.Malformed) bytes = IsMalformed bytes
-ReadsWhole (Err step.NoMemory) bytes = Unit {0}
-ReadsWhole (Err other) bytes = ⊥
+abbrev pub ReadsWholeFrame : Result Message Step → List ℕ → Type 0
+ReadsWholeFrame (Ok r) bytes = Spells bytes r
+ReadsWholeFrame (Err step.Malformed) bytes = IsMalformed bytes
+ReadsWholeFrame (Err step.NoMemory) bytes = Unit {0}
+ReadsWholeFrame (Err other) bytes = ⊥
 
 -- the same of a frame that is kept
 abbrev pub ReadsKept : Result Message Step → List ℕ → Type 0

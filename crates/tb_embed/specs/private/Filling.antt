@@ -16,12 +16,12 @@ abbrev pub room_output : ℕ → ℕ → List ℕ → ℕ → Bool → Bool → 
 room_output name at bytes stalls halted held = record { written = Some (name ∷ take at bytes); failed = 0; stalled = stalls; halted = halted; held = held }
 
 -- the answer fills so many bytes of the room, which are read as no other; or a prefix of the answer fills the room
-abbrev pub Fills : Result ℕ RunFault → State → State → Pair → List ℕ → Type 0
-Fills (Ok n) S T p room = IsTimely S p × (T ≡ after_pair S p) × (n ≤ length room) × SpellsReply (take n room) (answer_to (after_pair S p) p.1)
-Fills (Err (fault.Frame f)) S T p room = IsTimely S p × (T ≡ after_pair S p) × ((n : ℕ) × (room ≡ take n (answer_bytes S p)))
-Fills (Err fault.NoMemory) S T p room = (is_new_in S p ≡ true) × (has_time S p ≡ true) × (T ≡ S)
-Fills (Err fault.TimeExhausted) S T p room = (is_new_in S p ≡ true) × (has_time S p ≡ false) × (T ≡ S)
-Fills (Err fault.TooLong) S T p room = ⊥
+abbrev pub FillsRoom : Result ℕ RunFault → State → State → Pair → List ℕ → Type 0
+FillsRoom (Ok n) S T p room = IsTimely S p × (T ≡ after_pair S p) × (n ≤ length room) × SpellsReply (take n room) (answer_to (after_pair S p) p.1)
+FillsRoom (Err (fault.Frame f)) S T p room = IsTimely S p × (T ≡ after_pair S p) × ((n : ℕ) × (room ≡ take n (answer_bytes S p)))
+FillsRoom (Err fault.NoMemory) S T p room = (is_new_in S p ≡ true) × (has_time S p ≡ true) × (T ≡ S)
+FillsRoom (Err fault.TimeExhausted) S T p room = (is_new_in S p ≡ true) × (has_time S p ≡ false) × (T ≡ S)
+FillsRoom (Err fault.TooLong) S T p room = ⊥
 
 -- the length of the reply to a request of a class, by its client's row once it was served: a refusal has no body
 abbrev pub length_by : Class → Option Row → ℕ

@@ -7,20 +7,20 @@ use Rattle.tb_journal.specs.declared.snapshots.Found.{Found}
 use Rattle.tb_journal.specs.Device.{ReadsAt}
 use Rattle.tb_journal.specs.Contents.{Ends, Spoiled, front, NotAJournal, contents}
 use Rattle.tb_journal.specs.Scans.{BeginsWith}
-use Rattle.tb_journal.specs.Reading.{HasAhead, asked}
+use Rattle.tb_journal.specs.Reading.{HasAhead, asked_bytes}
 use Rattle.tb_journal.specs.Growing.{Later, Grown}
-use Rattle.tb_journal.specs.Snapshots.{LeadsTo, IsFinal, ShowsBlocks, ShowsOf, behind_blocks}
+use Rattle.tb_journal.specs.Snapshots.{BlocksLeadTo, IsFinal, ShowsBlocks, ShowsOf, behind_blocks}
 
 -- what is at an offset of a file, where another moment of it has so many bytes
 abbrev pub HopsTo : Hop → ℕ → List ℕ → ℕ → Type 0
 HopsTo (hops.Closed end) at file len = (end ≡ at) × (front (drop at file) ≡ Ends)
-HopsTo (hops.Further next) at file len = (front (drop at file) ≢ Ends) × (next ≡ at + asked (drop at file)) × (next ≤ len)
-HopsTo hops.Broken at file len = (front (drop at file) ≢ Ends) × ((front (drop at file) ≡ Spoiled) ⊎ (len < at + asked (drop at file)))
+HopsTo (hops.Further next) at file len = (front (drop at file) ≢ Ends) × (next ≡ at + asked_bytes (drop at file)) × (next ≤ len)
+HopsTo hops.Broken at file len = (front (drop at file) ≢ Ends) × ((front (drop at file) ≡ Spoiled) ⊎ (len < at + asked_bytes (drop at file)))
 
 -- what the blocks from an offset on lead to
 abbrev pub LeadsFrom : Hop → List ℕ → List ℕ → Type 0
-LeadsFrom (hops.Closed end) file later = LeadsTo end file × (front (drop end file) ≡ Ends)
-LeadsFrom (hops.Further next) file later = LeadsTo next later
+LeadsFrom (hops.Closed end) file later = BlocksLeadTo end file × (front (drop end file) ≡ Ends)
+LeadsFrom (hops.Further next) file later = BlocksLeadTo next later
 LeadsFrom hops.Broken file later = IsFinal (contents file)
 
 -- a piece of a file that was read at one moment, and the number of its bytes at a later one
@@ -30,7 +30,7 @@ pub record HasPiece (at : ℕ) (file later piece : List ℕ) (len : ℕ) : Type 
   pub counts : len ≡ length later
 
 -- where a file ends, by what it was at some moment since
-pub record IsFound (grows : List ℕ → Type 0) (file : List ℕ) (found : Found) : Type 0 where
+pub record IsEndFound (grows : List ℕ → Type 0) (file : List ℕ) (found : Found) : Type 0 where
   pub met : List ℕ
   pub after : Later file met
   pub shown : List ℕ
@@ -41,7 +41,7 @@ pub record IsFound (grows : List ℕ → Type 0) (file : List ℕ) (found : Foun
 
 -- the same, and its bytes are those that were shown before, and what was committed since
 pub record IsFoundOn (grows : List ℕ → Type 0) (file shown : List ℕ) (found : Found) : Type 0 where
-  pub is : IsFound grows file found
+  pub is : IsEndFound grows file found
   pub goes_on : Later shown is.shown
 
 -- what the blocks of a file lead to, by what it was at some moment since
@@ -58,7 +58,7 @@ pub record WasClosed (grows : List ℕ → Type 0) (at len : ℕ) (file : List �
   pub met : List ℕ
   pub after : Later file met
   pub sized : len ≡ length met
-  pub leads : LeadsTo at met
+  pub leads : BlocksLeadTo at met
   pub closed : front (drop at met) ≡ Ends
   pub later : List ℕ
   pub since : Later met later
@@ -75,20 +75,20 @@ Grows before after = (bytes : List ℕ) → before bytes → Grown after bytes (
 
 -- where the blocks of a piece lead
 abbrev pub FollowsPiece : Hop → ℕ → List ℕ → ℕ → Type 0
-FollowsPiece hop at piece len = (file later : List ℕ) → HasPiece at file later piece len → LeadsTo at file → LeadsFrom hop file later
+FollowsPiece hop at piece len = (file later : List ℕ) → HasPiece at file later piece len → BlocksLeadTo at file → LeadsFrom hop file later
 
 -- where those of a growing file do
 abbrev pub HopsFrom : (List ℕ → Type 0) → (List ℕ → Type 0) → ℕ → Result Hop JournalFault → Type 0
-HopsFrom before after at result = (bytes : List ℕ) → before bytes → LeadsTo at bytes → IfOk result (HopsOn after bytes)
+HopsFrom before after at result = (bytes : List ℕ) → before bytes → BlocksLeadTo at bytes → IfOk result (HopsOn after bytes)
 
 -- the same, with the number of its bytes before that: a latch that is closed there was closed then
 abbrev pub HopsSized : (List ℕ → Type 0) → (List ℕ → Type 0) → ℕ → Result (ℕ × Hop) JournalFault → Type 0
-HopsSized before after at result = (bytes : List ℕ) → before bytes → LeadsTo at bytes
+HopsSized before after at result = (bytes : List ℕ) → before bytes → BlocksLeadTo at bytes
     → IfOk result (λ told. HopsOn after bytes told.1 × (told.1 ≡ hops.Closed at → WasClosed after at told.0 bytes))
 
 -- where it ends whose blocks lead to an offset
 abbrev pub Finds : (List ℕ → Type 0) → (List ℕ → Type 0) → ℕ → Result Found JournalFault → Type 0
-Finds before after from result = (bytes : List ℕ) → before bytes → LeadsTo from bytes → IfOk result (IsFound after bytes)
+Finds before after from result = (bytes : List ℕ) → before bytes → BlocksLeadTo from bytes → IfOk result (IsEndFound after bytes)
 
 -- where it ends now that a closed latch was met at an offset
 abbrev pub FindsMore : (List ℕ → Type 0) → (List ℕ → Type 0) → ℕ → Result Found JournalFault → Type 0

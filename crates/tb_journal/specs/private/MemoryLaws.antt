@@ -4,7 +4,7 @@ use Rattle.std.proofs.Common.{arith, subst, sym, ◌∙◌, ap, length-append, l
 use Rattle.std.proofs.lemmas.List.{take_at, drop_at, take_all, take_min, length-take-le}
 use Rattle.std.proofs.lemmas.Bool.Decides.{nat_tests}
 use Rattle.tb_journal.specs.Device.{Torn, Cut, overwritten}
-use Rattle.tb_journal.specs.Torn.{Adds, shown_by, shown_after}
+use Rattle.tb_journal.specs.Torn.{LeavesTorn, shown_by, shown_after}
 use Rattle.tb_journal.specs.Memory.{LeftBy, memory_disk, memory_holds}
 use Rattle.tb_journal.specs.declared.memory.Memory.{Memory}
 use Rattle.tb_journal.specs.declared.memory.Call.{Call}
@@ -62,7 +62,7 @@ cut_choice : (n : ℕ) (old : List ℕ) (shown : Bool) → Cut n old (if shown t
 cut_choice n old true = cut_whole n old
 cut_choice n old false = cut_same n old
 
-pub torn_shown : (call : Call) (old : List ℕ) → Adds old call (shown_by call old)
+pub torn_shown : (call : Call) (old : List ℕ) → LeavesTorn old call (shown_by call old)
 torn_shown (variants.Write at bytes shown) old = torn_choice at (length bytes.items) bytes.items old shown (nat_le at (length old)) (omega arith) refl
 torn_shown (variants.Cut len shown) old = cut_choice len old shown
 torn_shown (variants.Sync file) old = refl

@@ -2,7 +2,7 @@
 use Rattle.std.specs.Prelude.{◌≡◌, ◌⊎◌, ℕ, ◌≤◌, List, length, take, drop, Result, Ok, IfOk}
 use Rattle.tb_journal.specs.declared.faults.JournalFault.{JournalFault}
 use Rattle.tb_journal.specs.Device.{Disk, Torn, HasCause, Looks, overwritten}
-use Rattle.tb_journal.specs.System.{Changes}
+use Rattle.tb_journal.specs.System.{ChangesDisk}
 
 -- a read that no signal interrupts
 pub record ReadsSome (offset : ℕ) (into : List ℕ) (result : Result ℕ JournalFault) (before after : Disk) : Type 0 where
@@ -11,7 +11,7 @@ pub record ReadsSome (offset : ℕ) (into : List ℕ) (result : Result ℕ Journ
   pub looks : Looks result before after
 
 -- a write that no signal interrupts
-pub record WritesSome (offset : ℕ) (bytes : List ℕ) (result : Result ℕ JournalFault) (before after : Disk) : Type 0 where
+pub record WritesSomeBytes (offset : ℕ) (bytes : List ℕ) (result : Result ℕ JournalFault) (before after : Disk) : Type 0 where
   pub written : IfOk result (λ count. after.seen ≡ overwritten before.seen offset (take count bytes))
-  pub changes : Changes (Torn offset (length bytes)) before after
+  pub changes : ChangesDisk (Torn offset (length bytes)) before after
   pub cause : HasCause result before after

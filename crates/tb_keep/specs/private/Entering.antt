@@ -11,13 +11,13 @@ use Rattle.tb_keep.specs.declared.faults.StartFault.TheVariants as start
 use Rattle.tb_keep.specs.declared.recovering.Rules.{Rules}
 use Rattle.tb_keep.specs.Keeping.{head_record}
 use Rattle.tb_keep.specs.Recovering.{RecordsLead, StopsAt, AppliesRecord, AppliesRecords, StopsReading, HasStartCause, ReplaysJournal}
-use Rattle.tb_keep.specs.Creating.{IsUntouched}
+use Rattle.tb_keep.specs.Creating.{IsDiskUntouched}
 use Rattle.tb_keep.specs.Reading.{HasRules, RulesAnswer}
 use Rattle.tb_journal.specs.Reading.{extent_of}
 
 -- the file is as it was at each moment, and durable if it was, and no sync has failed that had not
 pub record StaysKept (before after : Disk) : Type 0 where
-  pub untouched : IsUntouched before after
+  pub untouched : IsDiskUntouched before after
   pub kept : IsOnDisk before → IsOnDisk after
   pub sound : after.sound ≡ before.sound
 
@@ -52,11 +52,11 @@ ReadsHead (Ok false) rules after file = (contents file ≡ Records []) × HasRea
 ReadsHead (Err fault) rules after file = StopsReading fault rules.profile rules.clients_max file
 
 -- behind the records that were read one more was read and entered, or there is none
-abbrev pub EntersNext : Result Bool StartFault → List (List ℕ) → List ℕ → ScanState → State → State → Type 0
-EntersNext (Ok true) read file after S T = (bytes : List ℕ) × HasRead (read ++ bytes ∷ []) file after × AppliesRecord (Ok tt) S bytes T
-EntersNext (Ok false) read file after S T = (contents file ≡ Records read) × HasRead read file after × (T ≡ S)
-EntersNext (Err (start.Journal fault)) read file after S T = RefusesFile fault file × BeginsWith read file
-EntersNext (Err fault) read file after S T = (bytes : List ℕ) × BeginsWith (read ++ bytes ∷ []) file × StopsAt fault S bytes
+abbrev pub EntersNextRecord : Result Bool StartFault → List (List ℕ) → List ℕ → ScanState → State → State → Type 0
+EntersNextRecord (Ok true) read file after S T = (bytes : List ℕ) × HasRead (read ++ bytes ∷ []) file after × AppliesRecord (Ok tt) S bytes T
+EntersNextRecord (Ok false) read file after S T = (contents file ≡ Records read) × HasRead read file after × (T ≡ S)
+EntersNextRecord (Err (start.Journal fault)) read file after S T = RefusesFile fault file × BeginsWith read file
+EntersNextRecord (Err fault) read file after S T = (bytes : List ℕ) × BeginsWith (read ++ bytes ∷ []) file × StopsAt fault S bytes
 
 -- all records behind those that were read, or those before the first one that is not entered
 abbrev pub EntersAll : Result (Unit {0}) StartFault → List (List ℕ) → List ℕ → ScanState → State → State → Type 0
@@ -71,9 +71,9 @@ abbrev pub FindsBehind : Result (State × Extent) StartFault → Rules → List 
 FindsBehind result rules file = HasRules rules file × ReplaysJournal result rules.profile rules.clients_max file
 
 -- the head was read, and names rules
-abbrev pub FindsRules : Result Rules StartFault → ScanState → List ℕ → Type 0
-FindsRules (Ok rules) after file = HasRead (head_of rules) file after
-FindsRules (Err fault) after file = RulesAnswer (Err fault) file
+abbrev pub FindsHeadRules : Result Rules StartFault → ScanState → List ℕ → Type 0
+FindsHeadRules (Ok rules) after file = HasRead (head_of rules) file after
+FindsHeadRules (Err fault) after file = RulesAnswer (Err fault) file
 
 -- a file without records has a new machine
 abbrev pub ReplaysEmpty : Result (State × Extent) StartFault → Rules → Extent → List ℕ → Type 0

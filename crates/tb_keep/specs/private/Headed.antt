@@ -23,10 +23,10 @@ journal_left (Ok journal) = journal.device
 journal_left (Err failed) = failed.device
 
 -- a call on the device failed, or there is no memory
-abbrev pub IsOfDevice : StartFault → Type 0
-IsOfDevice (start.Journal (open_faults.Device NotEmpty)) = ⊥
-IsOfDevice (start.Journal (open_faults.Device fault)) = Unit {0}
-IsOfDevice fault = ⊥
+abbrev pub IsOfFailedDevice : StartFault → Type 0
+IsOfFailedDevice (start.Journal (open_faults.Device NotEmpty)) = ⊥
+IsOfFailedDevice (start.Journal (open_faults.Device fault)) = Unit {0}
+IsOfFailedDevice fault = ⊥
 
 -- the same, and its cause
 abbrev pub IsDeviceCause : Disk → Disk → StartFault → Type 0
@@ -72,8 +72,8 @@ abbrev pub WasRestored : {D : Type 0} → (D → Disk) → Rules → D → State
 WasRestored disk rules device S extent = ((disk device).sound ≡ true → IsOnDisk (disk device)) × IsRestoredFrom rules.profile rules.clients_max (disk device).seen S extent
 
 -- the keeper may serve: no call of it has failed, and where no sync has, its journal is ready
-abbrev pub MayServe : {D : Type 0} → Type 0 → (D → Disk) → D → Result (Keeping D) (NotKept D) → Type 0
-MayServe tells disk device result = IfOk result IsUsable × (tells → (disk device).sound ≡ true → IfOk result (IsFresh disk))
+abbrev pub KeeperMayServe : {D : Type 0} → Type 0 → (D → Disk) → D → Result (Keeping D) (NotKept D) → Type 0
+KeeperMayServe tells disk device result = IfOk result IsUsable × (tells → (disk device).sound ≡ true → IfOk result (IsFresh disk))
 
 -- a keeper with this machine, by which so many torn bytes were cut off
 abbrev pub IsOf : {D : Type 0} → State → ℕ → Keeping D → Type 0

@@ -8,11 +8,11 @@ use Rattle.tb_journal.specs.Scans.{BeginsWith, HasRead, ScanState}
 use Rattle.tb_keep.specs.declared.faults.DumpFault.{DumpFault}
 use Rattle.tb_keep.specs.declared.faults.DumpFault.TheVariants as dump
 use Rattle.tb_keep.specs.Following.{entries_above}
-use Rattle.tb_keep.specs.Reading.{joined}
+use Rattle.tb_keep.specs.Reading.{joined_bytes}
 
 -- the record of an entry of this commit number, if that is above `after`
 abbrev pub above : ℕ → ℕ → List ℕ → List ℕ
-above commit after bytes = joined (drop (after + 1 - commit) (bytes ∷ []))
+above commit after bytes = joined_bytes (drop (after + 1 - commit) (bytes ∷ []))
 
 -- behind the records that were read one more was read, and sent if its number is above `after`; or there is none
 abbrev pub SendsNext : Result Bool DumpFault → ℕ → List (List ℕ) → List ℕ → ScanState → Output → Output → Type 0

@@ -15,13 +15,13 @@ use Rattle.tb_machine.specs.declared.entries.Entry.{Entry}
 use Rattle.tb_machine.specs.declared.serving.RunFault.TheVariants as run
 use Rattle.tb_machine.specs.Histories.{step, reply_at}
 use Rattle.tb_machine.specs.Scripts.{Pair, entry_of, has_time, after_pair}
-use Rattle.tb_machine.specs.Runs.{Reads, is_new_in}
+use Rattle.tb_machine.specs.Runs.{IsUntimely, Reads, is_new_in}
 use Rattle.tb_machine.specs.Dumps.{dumped}
 use Rattle.tb_machine.specs.Recording.{IsRecord}
 use Rattle.tb_keep.specs.declared.faults.KeepFault.{KeepFault}
 use Rattle.tb_keep.specs.declared.faults.KeepFault.TheVariants as keep
 use Rattle.tb_keep.specs.Keeping.{Keeping}
-use Rattle.tb_keep.specs.Rounds.{IsServed, IsUntimely, Commits, IsRead, IsStop, RefusesRecord, records_from, reply_bytes_from, block_bytes_max, IsDue}
+use Rattle.tb_keep.specs.Rounds.{IsServed, Commits, ReadsNoPair, IsStop, RefusesRecord, records_from, reply_bytes_from, block_bytes_max, IsDue}
 use Rattle.tb_keep.specs.declared.replies.Replies.{Replies}
 
 -- a fault of a record that is made to wait: there is no memory for it, or the journal refuses it
@@ -75,20 +75,20 @@ KeepsPair (Err (keep.Serving run.NoMemory)) p before after held grown = after.jo
 KeepsPair (Err fault) p before after held grown = ⊥
 
 -- the next pair is read and served
-pub record Next {D : Type 0} (result : Result (Unit {0}) KeepFault) (before after : Keeping D) (first last : Input) (held grown : List ℕ) : Type 0 where
+pub record ServesNextPair {D : Type 0} (result : Result (Unit {0}) KeepFault) (before after : Keeping D) (first last : Input) (held grown : List ℕ) : Type 0 where
   pub pair : Pair
   pub read : Reads (pair ∷ []) first last
   pub turn : KeepsPair result pair before after held grown
 
 -- a reader gave no pair, and all else is as it was
 pub record Ceases {D : Type 0} (answer : Result (Option (ℕ × Message)) FrameFault) (before after : Keeping D) (first last : Input) (held grown : List ℕ) : Type 0 where
-  pub read : IsRead answer first last
+  pub read : ReadsNoPair answer first last
   pub same : after ≡ before
   pub holds : grown ≡ held
 
 -- whether there was one
 abbrev pub MayBeNext : {D : Type 0} → Bool → Keeping D → Keeping D → Input → Input → List ℕ → List ℕ → Type 0
-MayBeNext true before after first last held grown = Next (Ok tt) before after first last held grown
+MayBeNext true before after first last held grown = ServesNextPair (Ok tt) before after first last held grown
 MayBeNext false before after first last held grown = Ceases (Ok None) before after first last held grown
 
 -- the bytes were sent and nothing is held any more, or the device failed and left a prefix of them
@@ -132,7 +132,7 @@ module _ (tells : Type 0) {D : Type 0} (disk : D → Disk) where
   -- a fault in serving a pair, after which nothing is sent; or a stop, before which what is held is sent
   abbrev pub EndsNext : KeepFault → Keeping D → Keeping D → Input → Input → List ℕ → List ℕ → Output → Output → Type 0
   EndsNext f before after first last held left start written =
-      (IsSudden f × Next (Err f) before after first last held left × (written ≡ start))
+      (IsSudden f × ServesNextPair (Err f) before after first last held left × (written ≡ start))
       ⊎ ((stop : KeepFault) × IsStop stop before.state first last × EndsReplying stop f before after held left start written)
 
   abbrev pub KeepsNext : Result Bool KeepFault → Keeping D → Keeping D → Input → Input → List ℕ → List ℕ → Output → Output → Type 0

@@ -1,6 +1,6 @@
 -- What the private functions behind a command do, as they have its parts.
 use Rattle.std.specs.Prelude.{ℕ, Bool, true, List, [], OnOk}
-use Rattle.tb_records.specs.Transport.{Input, Output}
+use Rattle.tb_records.specs.Transport.{Output}
 use Rattle.tb_records.specs.declared.devices.Sink as sinks
 use Rattle.tb_journal.specs.declared.devices.Device as devices
 use Rattle.tb_journal.specs.Scans.{HasRead, ScanState}
@@ -8,74 +8,68 @@ use Rattle.tb_keep.specs.declared.faults.StartFault.{StartFault}
 use Rattle.tb_keep.specs.declared.recovering.Rules.{Rules}
 use Rattle.tb_keep.specs.declared.salvaging.Salvaged.{Salvaged}
 use Rattle.tb_keep.specs.Keeping.{Keeping}
+use Rattle.tb_keep_commands.specs.Streams.{Change, Streams, new, old}
 use Rattle.tb_keep_commands.specs.declared.faults.KeepCommandFault.{KeepCommandFault}
 use Rattle.tb_keep_commands.specs.declared.following.Part.{Part}
 use Rattle.tb_keep_commands.specs.declared.keeping.FileStart.{FileStart}
 use Rattle.tb_keep_commands.specs.Copies.{CopiesHeaded, CopiesMended, CopiesRefused, EndsCopy, MakesCopy, NotesMended, copied_of, refused_by}
-use Rattle.tb_keep_commands.specs.Ends.{KnownEnds, KnownFiles, On, made_by}
-use Rattle.tb_keep_commands.specs.Following.{EndsRounds, Grown, GrowsBy, HasPartCause, RoundCause, SendsRound, WritesPart}
+use Rattle.tb_keep_commands.specs.Ends.{FileOutput, KnownEnds, KnownFiles, KnownReading, OnDevice, OnEnds, OnWriter, made_by}
+use Rattle.tb_keep_commands.specs.Following.{EndsRounds, WritesGrown, GrowsBy, HasPartCause, RoundCause, SendsRound, WritesPart}
 use Rattle.tb_keep_commands.specs.Live.{LooksAgain}
-use Rattle.tb_keep_commands.specs.Outcomes.{DumpsPart, FollowsFile, Outcome, ServesFile, ServesKept, ServesLong, ServesOpened}
-use Rattle.tb_keep_commands.specs.private.Changes.{Change, OnDevice, OnWriter, new, old}
+use Rattle.tb_keep_commands.specs.Outcomes.{DumpsPart, DumpsFollowing, FileOutcome, ServesFile, ServesKept, ServesLong, ServesOpened, file_of}
 
 -- a start that is reported so
-module _ {D : Type 0} (its : devices.Ghosts D) (outcome : Outcome) where
-  abbrev pub KeepsOver : Keeping D → FileStart → ℕ → Input → Input → Output → Output → Output → Output → Type 0
-  KeepsOver keeper file len = ServesKept its outcome keeper file.path.now file.reports len
+module _ {D : Type 0} (its : devices.Ghosts D) (outcome : FileOutcome) where
+  abbrev pub KeepsOver : Keeping D → FileStart → ℕ → Streams → Streams → Type 0
+  KeepsOver keeper start len = ServesKept its outcome keeper start.path.now start.reports len
 
-  abbrev pub StartsOver : Rules → FileStart → ℕ → D → Input → Input → Output → Output → Output → Output → Type 0
-  StartsOver rules file len device = ServesLong its outcome rules file.path.now file.reports file.existing len device
+  abbrev pub StartsOver : Rules → FileStart → ℕ → D → Streams → Streams → Type 0
+  StartsOver rules start len device = ServesLong its outcome (file_of rules start) start.reports len device
 
-  abbrev pub RunsFile : Rules → FileStart → D → Input → Input → Output → Output → Output → Output → Type 0
-  RunsFile rules file device = ServesFile its outcome rules file.path.now file.reports file.existing device
+  abbrev pub RunsFile : Rules → FileStart → D → Streams → Streams → Type 0
+  RunsFile rules start device = ServesFile its outcome (file_of rules start) start.reports device
 
 -- what is written of a file of so many bytes that was copied, or why it is refused
-abbrev pub EndsSalvage : {E N : Type 0} → devices.Ghosts E → ℕ → Bool → Salvaged N → Outcome → E → E → Output → Output → Type 0
+abbrev pub EndsSalvage : {E N : Type 0} → devices.Ghosts E → ℕ → Bool → Salvaged N → FileOutcome → FileOutput E → FileOutput E → Type 0
 EndsSalvage its len whole salvaged outcome = EndsCopy its (refused_by whole salvaged.stop) (copied_of len salvaged) outcome
 
 -- the part of a dump that was asked for, of what a device holds
-module _ {D W : Type 0} (its : devices.Ghosts D) (sink : sinks.Ghosts W) (Ended : Type 0) (part : Part) (outcome : Outcome) where
+module _ {D W : Type 0} (its : devices.Ghosts D) (sink : sinks.Ghosts W) (Ended : Type 0) (part : Part) (outcome : FileOutcome) where
   abbrev pub DumpsAsked : Change D → Change W → Type 0
   DumpsAsked device writer = OnDevice sink (DumpsPart its Ended part.after part.follows outcome) device writer
 
   abbrev pub FollowsAsked : Change D → Change W → Type 0
-  FollowsAsked device writer = OnDevice sink (FollowsFile its Ended part.after part.follows outcome) device writer
+  FollowsAsked device writer = OnDevice sink (DumpsFollowing its Ended part.after part.follows outcome) device writer
 
 -- a copy, over the files of a command
 module _ {O D E W : Type 0} (its : KnownFiles O D E) (sink : sinks.Ghosts W) where
-  abbrev pub CopiesHeadedOn : List ℕ → Bool → Outcome → E → Change O → Change W → Type 0
+  abbrev pub CopiesHeadedOn : List ℕ → Bool → FileOutcome → E → Change O → Change W → Type 0
   CopiesHeadedOn into whole outcome from opener writer = OnWriter sink (CopiesHeaded its into (old opener) (new opener) whole outcome from) writer
 
-  abbrev pub CopiesRefusedOn : List ℕ → StartFault → Bool → Outcome → E → Change O → Change W → Type 0
+  abbrev pub CopiesRefusedOn : List ℕ → StartFault → Bool → FileOutcome → E → Change O → Change W → Type 0
   CopiesRefusedOn into fault whole outcome from opener writer =
       OnWriter sink (CopiesRefused its into (old opener) (new opener) fault whole outcome from) writer
 
-  abbrev pub CopiesMendedOn : List ℕ → KeepCommandFault → Outcome → E → Change O → Change W → Type 0
+  abbrev pub CopiesMendedOn : List ℕ → KeepCommandFault → FileOutcome → E → Change O → Change W → Type 0
   CopiesMendedOn into refused outcome from opener writer =
       OnWriter sink (CopiesMended its into (old opener) (new opener) refused outcome from) writer
 
-module _ {O D E F W : Type 0} (its : KnownFiles O D E) (reading : devices.Ghosts F) (whole_read : F → List ℕ → Type 0) (sink : sinks.Ghosts W) where
-  abbrev pub MakesCopyOn : List ℕ → Bool → Outcome → Change O → Change F → Change W → Type 0
+module _ {O D E F W : Type 0} (its : KnownFiles O D E) (reading : KnownReading F) (sink : sinks.Ghosts W) where
+  abbrev pub MakesCopyOn : List ℕ → Bool → FileOutcome → Change O → Change F → Change W → Type 0
   MakesCopyOn into whole outcome opener from writer =
-      OnDevice sink (MakesCopy its into reading whole_read (old opener) (new opener) whole outcome) from writer
+      OnDevice sink (MakesCopy its into reading (old opener) (new opener) whole outcome) from writer
 
-abbrev pub NotesMendedOn : {W : Type 0} → sinks.Ghosts W → Outcome → Outcome → Change W → Type 0
+abbrev pub NotesMendedOn : {W : Type 0} → sinks.Ghosts W → FileOutcome → FileOutcome → Change W → Type 0
 NotesMendedOn sink copied outcome writer = OnWriter sink (NotesMended copied outcome) writer
 
--- what was asked for, over the ends of a command
-module _ {O D E R W L : Type 0} (its : KnownEnds O D E R W L) where
-  -- of what its reader gave, and its writer and its writer of lines took
-  abbrev pub OnEnds : (Input → Input → Output → Output → Output → Output → Type 0) → Change R → Change W → Change L → Type 0
-  OnEnds Does reader writer lines =
-      On its.source its.sink its.lines Does (old reader) (new reader) (old writer) (new writer) (old lines) (new lines)
-
-  abbrev pub RunsOpened : Rules → FileStart → Change O → Outcome → Change R → Change W → Change L → Type 0
-  RunsOpened rules file opener outcome reader writer lines =
-      OnEnds (ServesOpened its.files.file (made_by its.files file.existing (old opener) file.path.now) (new opener) outcome rules file.path.now file.reports file.existing)
-      reader writer lines
+-- a ledger was served over the ends of a command
+module _ {O D E R W L : Type 0} (its : KnownEnds O D E R W L) (rules : Rules) (start : FileStart) where
+  abbrev pub RunsOpened : FileOutcome → Change O → Change R → Change W → Change L → Type 0
+  RunsOpened outcome opener =
+      OnEnds its (ServesOpened its.files.file (made_by its.files start.existing (old opener) start.path.now) (new opener) outcome (file_of rules start) start.reports)
 
 -- of the entries above a commit number, of whatever file a device holds
-module _ {D W : Type 0} (holds : D → List ℕ → Type 0) (sink : sinks.Ghosts W) (outcome : Outcome) where
+module _ {D W : Type 0} (holds : D → List ℕ → Type 0) (sink : sinks.Ghosts W) (outcome : FileOutcome) where
   -- of which a scan has read some records: the entries of the others are written
   abbrev pub SendsRest : ℕ → Change ScanState → Change D → Change W → Type 0
   SendsRest after scan device writer =
@@ -85,13 +79,13 @@ module _ {D W : Type 0} (holds : D → List ℕ → Type 0) (sink : sinks.Ghosts
   -- one more round, behind those that wrote what went out so far
   abbrev pub SendsMore : ℕ → Change ScanState → Change D → Change W → Type 0
   SendsMore after scan device writer =
-      (file : List ℕ) (start : Output) → Grown holds after file (old device) (old scan) start (sink.output (old writer))
-      → GrowsBy holds outcome after file (new device) (new scan) start (sink.output (new writer))
+      (file : List ℕ) (start : Output) → WritesGrown (holds (old device)) after file (old scan) start (sink.output (old writer))
+      → GrowsBy (holds (new device)) outcome after file (new scan) start (sink.output (new writer))
 
   -- all that are left
   abbrev pub SendsOn : ℕ → Change ScanState → Change D → Change W → Type 0
   SendsOn after scan device writer =
-      (file : List ℕ) (start : Output) → Grown holds after file (old device) (old scan) start (sink.output (old writer))
+      (file : List ℕ) (start : Output) → WritesGrown (holds (old device)) after file (old scan) start (sink.output (old writer))
       → EndsRounds (holds (new device)) outcome true after file start (sink.output (new writer))
 
   -- of which a scan has read nothing
@@ -110,12 +104,12 @@ module _ {D W : Type 0} (holds : D → List ℕ → Type 0) (sink : sinks.Ghosts
       (file : List ℕ) → holds (old device) file → OnWriter sink (WritesPart (holds (new device)) outcome part.follows part.after rules file) writer
 
 -- a device looked at its file again, whatever it held
-abbrev pub LooksOnOk : {D : Type 0} → (D → List ℕ → Type 0) → (D → List ℕ → Type 0) → Outcome → Change D → Type 0
+abbrev pub LooksOnOk : {D : Type 0} → (D → List ℕ → Type 0) → (D → List ℕ → Type 0) → FileOutcome → Change D → Type 0
 LooksOnOk whole holds outcome device =
     (file : List ℕ) → holds (old device) file → OnOk outcome (LooksAgain whole holds (old device) (new device) file)
 
 -- why, over a device that reports what its calls do
-module _ {D : Type 0} (its : devices.Ghosts D) (outcome : Outcome) where
+module _ {D : Type 0} (its : devices.Ghosts D) (outcome : FileOutcome) where
   abbrev pub HasRoundCause : Change ScanState → Change D → Type 0
   HasRoundCause scan device =
       its.tells → (read : List (List ℕ)) → HasRead read (its.disk (old device)).seen (old scan)

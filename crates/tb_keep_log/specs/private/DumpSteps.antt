@@ -8,14 +8,14 @@ use Rattle.tb_journal.specs.Contents.{Records, contents}
 use Rattle.tb_journal.specs.Scans.{HasRead, ScanState}
 use Rattle.tb_machine.specs.declared.entries.Entry.{Entry}
 use Rattle.tb_machine.specs.Histories.{State}
-use Rattle.tb_machine.specs.Runs.{IsTimely}
+use Rattle.tb_machine.specs.Runs.{IsUntimely, IsTimely}
 use Rattle.tb_machine.specs.Scripts.{Pair, after_pair}
 use Rattle.tb_log.specs.Format.{content_of}
-use Rattle.tb_keep.specs.Rounds.{entered, IsUntimely}
+use Rattle.tb_keep.specs.Rounds.{entered}
 use Rattle.tb_keep_log.specs.declared.faults.DumpLogFault.{DumpLogFault}
 use Rattle.tb_keep_log.specs.declared.faults.DumpLogFault.TheVariants as dump
 use Rattle.tb_keep_log.specs.Dumping.{HasNoPair, StopsRecord, StopsDump}
-use Rattle.tb_keep_log.specs.Parts.{AreNext, DumpsPairs, Halts, shown}
+use Rattle.tb_keep_log.specs.Parts.{AreNext, DumpsPairs, HaltsDump, shown}
 use Rattle.tb_keep_log.specs.Rereading.{fixed_bytes, HasMark}
 use Rattle.tb_keep.specs.declared.recovering.Rules.{Rules}
 
@@ -40,31 +40,31 @@ module _ (above : Option ℕ) where
   SendsShown (Err fault) e before after = ⊥
 
   -- the entry of a pair went out, if it makes one that is wanted; or not
-  abbrev pub DumpsPair : Result (Unit {0}) DumpLogFault → State → State → Pair → Output → Output → Type 0
-  DumpsPair (Ok done) S T p before after = IsTimely S p × (T ≡ after_pair S p) × Sent (flat_map (shown above) (entered S p)) before after
-  DumpsPair (Err dump.TimeExhausted) S T p before after = IsUntimely S p × (after ≡ before)
-  DumpsPair (Err dump.NoMemory) S T p before after = (after ≡ before) ⊎ Sent (flat_map (shown above) (entered S p)) before after
-  DumpsPair (Err dump.Writer) S T p before after = CutOff (flat_map (shown above) (entered S p)) before after
-  DumpsPair (Err fault) S T p before after = ⊥
+  abbrev pub DumpsWantedPair : Result (Unit {0}) DumpLogFault → State → State → Pair → Output → Output → Type 0
+  DumpsWantedPair (Ok done) S T p before after = IsTimely S p × (T ≡ after_pair S p) × Sent (flat_map (shown above) (entered S p)) before after
+  DumpsWantedPair (Err dump.TimeExhausted) S T p before after = IsUntimely S p × (after ≡ before)
+  DumpsWantedPair (Err dump.NoMemory) S T p before after = (after ≡ before) ⊎ Sent (flat_map (shown above) (entered S p)) before after
+  DumpsWantedPair (Err dump.Writer) S T p before after = CutOff (flat_map (shown above) (entered S p)) before after
+  DumpsWantedPair (Err fault) S T p before after = ⊥
 
   abbrev pub DumpsContent : Result (Unit {0}) DumpLogFault → State → State → List ℕ → Output → Output → Type 0
   DumpsContent (Ok done) S T content before after = (ps : List Pair) × (content ≡ content_of ps) × DumpsPairs above ps S T before after
-  DumpsContent (Err fault) S T content before after = StopsContent fault content × Halts above (AreFront content) fault S before after
+  DumpsContent (Err fault) S T content before after = StopsContent fault content × HaltsDump above (AreFront content) fault S before after
 
   abbrev pub DumpsRecord : Result (Unit {0}) DumpLogFault → Profile → ℕ → ℕ → State → State → List ℕ → Output → Output → Type 0
   DumpsRecord (Ok done) profile clients_max last S T bytes before after =
       HasMark profile clients_max bytes × DumpsContent (Ok tt) S T (drop fixed_bytes bytes) before after
   DumpsRecord (Err fault) profile clients_max last S T bytes before after =
-      StopsRecord fault profile clients_max last bytes × Halts above (AreFront (drop fixed_bytes bytes)) fault S before after
+      StopsRecord fault profile clients_max last bytes × HaltsDump above (AreFront (drop fixed_bytes bytes)) fault S before after
 
-  abbrev pub DumpsNext : Result Bool DumpLogFault → Profile → ℕ → List (List ℕ) → List ℕ → ScanState → State → State → Output → Output → Type 0
-  DumpsNext (Ok true) profile clients_max read file scan S T before after =
+  abbrev pub DumpsNextRecord : Result Bool DumpLogFault → Profile → ℕ → List (List ℕ) → List ℕ → ScanState → State → State → Output → Output → Type 0
+  DumpsNextRecord (Ok true) profile clients_max read file scan S T before after =
       (bytes : List ℕ) × HasRead (read ++ bytes ∷ []) file scan
       × (HasMark profile clients_max bytes × DumpsContent (Ok tt) S T (drop fixed_bytes bytes) before after)
-  DumpsNext (Ok false) profile clients_max read file scan S T before after =
+  DumpsNextRecord (Ok false) profile clients_max read file scan S T before after =
       (contents file ≡ Records read) × HasRead read file scan × (T ≡ S) × (after ≡ before)
-  DumpsNext (Err fault) profile clients_max read file scan S T before after =
-      StopsDump fault profile clients_max file × Halts above (AreNext read file) fault S before after
+  DumpsNextRecord (Err fault) profile clients_max read file scan S T before after =
+      StopsDump fault profile clients_max file × HaltsDump above (AreNext read file) fault S before after
 
   -- the same of one entry, of one pair, and of the pairs of a content, over a writer
   module _ {W : Type 0} (output : W → Output) where
@@ -72,14 +72,14 @@ module _ (above : Option ℕ) where
     SendsOver result e writer later = SendsShown result e (output writer) (output later)
 
     abbrev pub DumpsOne : Result (Unit {0}) DumpLogFault → State → State → Pair → W → W → Type 0
-    DumpsOne result S T p writer later = DumpsPair result S T p (output writer) (output later)
+    DumpsOne result S T p writer later = DumpsWantedPair result S T p (output writer) (output later)
 
     abbrev pub DumpsPairsOf : Result (Unit {0}) DumpLogFault → State → State → List ℕ → W → W → Type 0
     DumpsPairsOf result S T content writer later = DumpsContent result S T content (output writer) (output later)
 
     -- and by the rules of a file
     abbrev pub DumpsNextOver : Rules → Result Bool DumpLogFault → ScanState → State → State → W → W → List (List ℕ) → List ℕ → Type 0
-    DumpsNextOver rules result scan S T writer later read file = DumpsNext result rules.profile rules.clients_max read file scan S T (output writer) (output later)
+    DumpsNextOver rules result scan S T writer later read file = DumpsNextRecord result rules.profile rules.clients_max read file scan S T (output writer) (output later)
 
     abbrev pub DumpsRecordOver : Rules → Result (Unit {0}) DumpLogFault → ℕ → State → State → List ℕ → W → W → Type 0
     DumpsRecordOver rules result last S T bytes writer later = DumpsRecord result rules.profile rules.clients_max last S T bytes (output writer) (output later)

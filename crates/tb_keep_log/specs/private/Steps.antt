@@ -19,22 +19,22 @@ use Rattle.tb_machine.specs.Scripts.{Pair}
 use Rattle.tb_log.specs.declared.faults.LogFault.{LogFault}
 use Rattle.tb_log.specs.declared.faults.LogFault.TheVariants as log
 use Rattle.tb_log.specs.Format.{content_of}
-use Rattle.tb_log.specs.Following.{Following, begun, Item, Entry, with_item, given_to, IsAnswered}
+use Rattle.tb_log.specs.Following.{Following, begun_following, Item, Entry, with_item, given_to, IsItemAnswered}
 use Rattle.tb_log.specs.Entries.{IsPairs, ReadsEntry, RefusesEntry}
 use Rattle.tb_log.specs.Follows.{ItemFits}
 use Rattle.tb_log.specs.Steps.{WritesStanding}
 use Rattle.tb_keep.specs.declared.recovering.Rules.{Rules}
-use Rattle.tb_keep.specs.Creating.{IsUntouched}
+use Rattle.tb_keep.specs.Creating.{IsDiskUntouched}
 use Rattle.tb_keep.specs.Rounds.{Commits, RefusesRecord}
 use Rattle.tb_keep_log.specs.declared.faults.KeepLogFault.{KeepLogFault}
 use Rattle.tb_keep_log.specs.declared.faults.KeepLogFault.TheVariants as keep
 use Rattle.tb_keep_log.specs.declared.faults.LogStartFault.{LogStartFault}
 use Rattle.tb_keep_log.specs.declared.faults.LogStartFault.TheVariants as start
 use Rattle.tb_keep_log.specs.declared.beginning.NotStarted.{NotStarted}
-use Rattle.tb_keep_log.specs.Keeping.{By, IsUsable, Keeping, Keeps, Leads, record_bytes, record_of}
-use Rattle.tb_keep_log.specs.Rereading.{EntersRecord, HasLogCause, IsHaltedContent, IsRestored, StopsAt}
-use Rattle.tb_keep_log.specs.Beginning.{IsCreatedCause, IsNotOfFile}
-use Rattle.tb_keep_log.specs.Items.{Point, Turn, Halts, point, Served}
+use Rattle.tb_keep_log.specs.Keeping.{By, IsUsableLog, LogKeeping, KeepsLogRecords, Leads, record_bytes, record_of}
+use Rattle.tb_keep_log.specs.Rereading.{EntersRecord, HasLogCause, IsHaltedContent, IsFollowerRestored, StopsFollowerAt}
+use Rattle.tb_keep_log.specs.Beginning.{IsCreatedCause, IsNotOfLog}
+use Rattle.tb_keep_log.specs.Items.{Point, ItemTurn, HaltsServing, point, ServesSomeItems}
 
 -- a writer into memory fails only when out of memory
 abbrev pub in_memory : LogFault → LogFault
@@ -51,7 +51,7 @@ pub record HoldsEntry (content held : List ℕ) (F G : Following) : Type 0 where
   pub pairs : List Pair
   pub spelled : content ≡ content_of pairs
   pub fit : ItemFits (Entry pairs)
-  pub answered : IsAnswered F (Entry pairs)
+  pub answered : IsItemAnswered F (Entry pairs)
   pub now : G ≡ with_item F (Entry pairs)
   pub holds : held ≡ given_to F (Entry pairs)
 
@@ -61,18 +61,18 @@ DropsEntry fault content F = (fault ≡ log.NoMemory) ⊎ IsHaltedContent fault 
 
 -- records
 
-abbrev pub Enters : Result (Unit {0}) LogStartFault → Profile → ℕ → List ℕ → Following → Following → Type 0
-Enters (Ok done) profile clients_max bytes F G = EntersRecord profile clients_max bytes F G
-Enters (Err fault) profile clients_max bytes F G = StopsAt fault profile clients_max F bytes
+abbrev pub FollowsRecord : Result (Unit {0}) LogStartFault → Profile → ℕ → List ℕ → Following → Following → Type 0
+FollowsRecord (Ok done) profile clients_max bytes F G = EntersRecord profile clients_max bytes F G
+FollowsRecord (Err fault) profile clients_max bytes F G = StopsFollowerAt fault profile clients_max F bytes
 
 -- behind the records that were read one more was read and entered, or there is none
-abbrev pub EntersNext : Result Bool LogStartFault → Profile → ℕ → List (List ℕ) → List ℕ → ScanState → Following → Following → Type 0
-EntersNext (Ok true) profile clients_max read file after F G =
+abbrev pub FollowsNextRecord : Result Bool LogStartFault → Profile → ℕ → List (List ℕ) → List ℕ → ScanState → Following → Following → Type 0
+FollowsNextRecord (Ok true) profile clients_max read file after F G =
     (bytes : List ℕ) × HasRead (read ++ bytes ∷ []) file after × EntersRecord profile clients_max bytes F G
-EntersNext (Ok false) profile clients_max read file after F G = (contents file ≡ Records read) × HasRead read file after × (G ≡ F)
-EntersNext (Err (start.Journal fault)) profile clients_max read file after F G = RefusesFile fault file
-EntersNext (Err fault) profile clients_max read file after F G =
-    (bytes : List ℕ) × BeginsWith (read ++ bytes ∷ []) file × StopsAt fault profile clients_max F bytes
+FollowsNextRecord (Ok false) profile clients_max read file after F G = (contents file ≡ Records read) × HasRead read file after × (G ≡ F)
+FollowsNextRecord (Err (start.Journal fault)) profile clients_max read file after F G = RefusesFile fault file
+FollowsNextRecord (Err fault) profile clients_max read file after F G =
+    (bytes : List ℕ) × BeginsWith (read ++ bytes ∷ []) file × StopsFollowerAt fault profile clients_max F bytes
 
 -- these records were read and entered
 pub record Entered (profile : Profile) (clients_max : ℕ) (read : List (List ℕ)) (file : List ℕ) (scan : ScanState) (F G : Following) : Type 0 where
@@ -87,19 +87,19 @@ pub record EntersSome (fault : LogStartFault) (profile : Profile) (clients_max :
   pub here : Following
   pub begins : BeginsWith ((read ++ records) ++ bytes ∷ []) file
   pub leads : Leads profile clients_max F records here
-  pub stops : StopsAt fault profile clients_max here bytes
+  pub stops : StopsFollowerAt fault profile clients_max here bytes
 
 -- all records behind those that were read, or those before the first one that is refused
-abbrev pub EntersAll : Result (Unit {0}) LogStartFault → Profile → ℕ → List (List ℕ) → List ℕ → ScanState → Following → Following → Type 0
-EntersAll (Ok done) profile clients_max read file after F G =
+abbrev pub FollowsAllRecords : Result (Unit {0}) LogStartFault → Profile → ℕ → List (List ℕ) → List ℕ → ScanState → Following → Following → Type 0
+FollowsAllRecords (Ok done) profile clients_max read file after F G =
     (entered : Entered profile clients_max read file after F G) × (contents file ≡ Records (read ++ entered.records))
-EntersAll (Err (start.Journal fault)) profile clients_max read file after F G = RefusesFile fault file
-EntersAll (Err fault) profile clients_max read file after F G = EntersSome fault profile clients_max read file F
+FollowsAllRecords (Err (start.Journal fault)) profile clients_max read file after F G = RefusesFile fault file
+FollowsAllRecords (Err fault) profile clients_max read file after F G = EntersSome fault profile clients_max read file F
 
 -- serving
 
 -- an entry was read behind its kind, and its pairs were served in memory
-pub record TakesEntry (content held : List ℕ) (F G : Following) (before after : Input) : Type 0 where
+pub record TakesLogEntry (content held : List ℕ) (F G : Following) (before after : Input) : Type 0 where
   pub read : ReadsEntry content F.position before after
   pub holds : HoldsEntry content held F G
 
@@ -112,7 +112,7 @@ MissesEntry fault F before after =
 -- the same over a reader
 module _ {R : Type 0} (input : R → Input) where
   abbrev pub TakesFrom : Following → Following → R → R → Vec ℕ Global × Vec ℕ Global → Type 0
-  TakesFrom F G reader rest taken = TakesEntry taken.0.items taken.1.items F G (input reader) (input rest)
+  TakesFrom F G reader rest taken = TakesLogEntry taken.0.items taken.1.items F G (input reader) (input rest)
 
   abbrev pub MissesFrom : Following → R → R → LogFault → Type 0
   MissesFrom F reader rest fault = MissesEntry fault F (input reader) (input rest)
@@ -143,28 +143,28 @@ module _ (tells : Type 0) {D : Type 0} (disk : D → Disk) where
       ⊎ (tells → HasFailed (disk before.device) (disk after.device) fault
       × LeavesOnly (disk before.device) (disk after.device) (IsBeforeOrAfter (recorded (disk before.device).seen) (bytes ∷ [])))
 
-  abbrev pub Puts : Result (Unit {0}) JournalFault → List ℕ → Kept D → Kept D → Type 0
-  Puts (Ok done) bytes before after = IsPut (bytes ∷ []) before after
-  Puts (Err fault) bytes before after = IsUnput fault bytes before after
+  abbrev pub PutsRecord : Result (Unit {0}) JournalFault → List ℕ → Kept D → Kept D → Type 0
+  PutsRecord (Ok done) bytes before after = IsPut (bytes ∷ []) before after
+  PutsRecord (Err fault) bytes before after = IsUnput fault bytes before after
 
   -- a record was committed, and then its answers were sent
-  abbrev pub CommitsAndReplies : Result (Unit {0}) KeepLogFault → List ℕ → List ℕ → Kept D → Kept D → Output → Output → Type 0
-  CommitsAndReplies (Ok done) bytes held before after start written = IsPut (bytes ∷ []) before after × PassesBytesOn (Ok tt) held start written
-  CommitsAndReplies (Err (keep.Journal fault)) bytes held before after start written = IsUnput fault bytes before after × (written ≡ start)
-  CommitsAndReplies (Err (keep.Log fault)) bytes held before after start written =
+  abbrev pub CommitsAndAnswers : Result (Unit {0}) KeepLogFault → List ℕ → List ℕ → Kept D → Kept D → Output → Output → Type 0
+  CommitsAndAnswers (Ok done) bytes held before after start written = IsPut (bytes ∷ []) before after × PassesBytesOn (Ok tt) held start written
+  CommitsAndAnswers (Err (keep.Journal fault)) bytes held before after start written = IsUnput fault bytes before after × (written ≡ start)
+  CommitsAndAnswers (Err (keep.Log fault)) bytes held before after start written =
       IsPut (bytes ∷ []) before after × PassesBytesOn (Err (keep.Log fault)) held start written
 
   module _ (profile : Profile) (clients_max : ℕ) where
     -- an entry was read behind its kind, with its pairs
-    pub record ReadsWhole (pairs : List Pair) (F : Following) (before after : Input) : Type 0 where
+    pub record ReadsWholeEntry (pairs : List Pair) (F : Following) (before after : Input) : Type 0 where
       pub read : ReadsEntry (content_of pairs) F.position before after
       pub fit : ItemFits (Entry pairs)
-      pub answered : IsAnswered F (Entry pairs)
+      pub answered : IsItemAnswered F (Entry pairs)
 
     -- its record was committed, and then it was answered
-    pub record KeepsEntry (F G : Following) (old new : Kept D) (before after : Input) (start written : Output) : Type 0 where
+    pub record KeepsLogEntry (F G : Following) (old new : Kept D) (before after : Input) (start written : Output) : Type 0 where
       pub pairs : List Pair
-      pub whole : ReadsWhole pairs F before after
+      pub whole : ReadsWholeEntry pairs F before after
       pub now : G ≡ with_item F (Entry pairs)
       pub put : IsPut (record_of profile clients_max F (Entry pairs)) old new
       pub told : PassesBytesOn (Ok tt) (given_to F (Entry pairs)) start written
@@ -172,48 +172,48 @@ module _ (tells : Type 0) {D : Type 0} (disk : D → Disk) where
     -- or it was refused; or its record was not committed, and nothing was sent; or it was, and the writer failed
     abbrev pub FailsEntry : KeepLogFault → Following → Kept D → Kept D → Input → Input → Output → Output → Type 0
     FailsEntry (keep.Journal fault) F old new before after start written =
-        (pairs : List Pair) × ReadsWhole pairs F before after
+        (pairs : List Pair) × ReadsWholeEntry pairs F before after
         × IsUnput fault (record_bytes profile clients_max (with_item F (Entry pairs)) (content_of pairs)) old new × (written ≡ start)
     FailsEntry (keep.Log fault) F old new before after start written =
         (MissesEntry fault F before after × (new ≡ old) × (written ≡ start))
-        ⊎ ((pairs : List Pair) × ReadsWhole pairs F before after × IsPut (record_of profile clients_max F (Entry pairs)) old new
+        ⊎ ((pairs : List Pair) × ReadsWholeEntry pairs F before after × IsPut (record_of profile clients_max F (Entry pairs)) old new
         × PassesBytesOn (Err (keep.Log fault)) (given_to F (Entry pairs)) start written)
 
     abbrev pub EntersEntry : Result (Unit {0}) KeepLogFault → Following → Following → Kept D → Kept D → Input → Input → Output → Output → Type 0
-    EntersEntry (Ok done) F G old new before after start written = KeepsEntry F G old new before after start written
+    EntersEntry (Ok done) F G old new before after start written = KeepsLogEntry F G old new before after start written
     EntersEntry (Err fault) F G old new before after start written = FailsEntry fault F old new before after start written
 
     -- one item, or why there is none
-    abbrev pub Next : Result Bool KeepLogFault → Point D → Point D → Type 0
-    Next (Ok true) first last = (item : Item) × Turn tells disk profile clients_max item first last
-    Next (Ok false) first last = Halts tells disk profile clients_max (Ok first.now.position) first last
-    Next (Err fault) first last = Halts tells disk profile clients_max (Err fault) first last
+    abbrev pub ServesNextItem : Result Bool KeepLogFault → Point D → Point D → Type 0
+    ServesNextItem (Ok true) first last = (item : Item) × ItemTurn tells disk profile clients_max item first last
+    ServesNextItem (Ok false) first last = HaltsServing tells disk profile clients_max (Ok first.now.position) first last
+    ServesNextItem (Err fault) first last = HaltsServing tells disk profile clients_max (Err fault) first last
 
 -- opening
 
 -- the cause of a fault, where some records were read before
-abbrev pub ReadCause : {T : Type 0} → Result T LogStartFault → ScanState → Disk → Disk → Type 0
-ReadCause result scan before after = (read : List (List ℕ)) → HasRead read before.seen scan → HasLogCause result before after
+abbrev pub LogReadCause : {T : Type 0} → Result T LogStartFault → ScanState → Disk → Disk → Type 0
+LogReadCause result scan before after = (read : List (List ℕ)) → HasRead read before.seen scan → HasLogCause result before after
 
 -- a fault that names nothing of the file
-abbrev pub IsOfDevice : LogStartFault → Type 0
-IsOfDevice (start.Journal (open_faults.Device fault)) = Unit {0}
-IsOfDevice fault = ⊥
+abbrev pub IsOfLogDevice : LogStartFault → Type 0
+IsOfLogDevice (start.Journal (open_faults.Device fault)) = Unit {0}
+IsOfLogDevice fault = ⊥
 
 -- a keeper of this follower, or a fault of the device
-abbrev pub OpensAs : {D : Type 0} → Result (Keeping D) (NotStarted D) → Rules → Following → ℕ → Type 0
+abbrev pub OpensAs : {D : Type 0} → Result (LogKeeping D) (NotStarted D) → Rules → Following → ℕ → Type 0
 OpensAs (Ok keeper) rules F cut = (keeper.rules ≡ rules) × (keeper.now ≡ F) × (keeper.cut ≡ cut)
-OpensAs (Err failed) rules F cut = IsOfDevice failed.fault
+OpensAs (Err failed) rules F cut = IsOfLogDevice failed.fault
 
 -- the keeper of a file that was blank
-abbrev pub IsCreated : {D : Type 0} → (D → Disk) → List ℕ → Keeping D → Type 0
-IsCreated disk file keeper = (is_blank file ≡ true) × Keeps disk [] keeper × (keeper.cut ≡ 0)
+abbrev pub IsCreated : {D : Type 0} → (D → Disk) → List ℕ → LogKeeping D → Type 0
+IsCreated disk file keeper = (is_blank file ≡ true) × KeepsLogRecords disk [] keeper × (keeper.cut ≡ 0)
 
 -- where something is in the file none is created, the file is as it was, and no sync has failed that had not
 abbrev pub IsNotCreated : LogStartFault → Disk → Disk → Type 0
-IsNotCreated (start.Journal (open_faults.Device NotEmpty)) before after = IsUntouched before after × (after.sound ≡ before.sound)
+IsNotCreated (start.Journal (open_faults.Device NotEmpty)) before after = IsDiskUntouched before after × (after.sound ≡ before.sound)
 IsNotCreated (start.Journal (open_faults.Device fault)) before after = Unit {0}
-IsNotCreated start.NoMemory before after = IsUntouched before after
+IsNotCreated start.NoMemory before after = IsDiskUntouched before after
 IsNotCreated fault before after = ⊥
 
 pub record HasCreatedCause {T : Type 0} (result : Result T LogStartFault) (before after : Disk) : Type 0 where
@@ -221,25 +221,25 @@ pub record HasCreatedCause {T : Type 0} (result : Result T LogStartFault) (befor
   pub cause : IfErr result (IsCreatedCause before after)
 
 -- by the file that the reads are of
-abbrev pub CreatesIn : {D : Type 0} → (D → List ℕ → Type 0) → Result (Keeping D) (NotStarted D) → Profile → ℕ → List ℕ → Type 0
-CreatesIn holds (Ok keeper) profile clients_max file = (is_blank file ≡ true) × (keeper.now ≡ begun profile clients_max) × (keeper.cut ≡ 0)
-CreatesIn holds (Err failed) profile clients_max file =
-    (failed.fault ≡ start.Journal (open_faults.Device NotEmpty) → (is_blank file ≡ false) × holds failed.device file) × IsNotOfFile failed.fault
+abbrev pub CreatesLogIn : {D : Type 0} → (D → List ℕ → Type 0) → Result (LogKeeping D) (NotStarted D) → Profile → ℕ → List ℕ → Type 0
+CreatesLogIn holds (Ok keeper) profile clients_max file = (is_blank file ≡ true) × (keeper.now ≡ begun_following profile clients_max) × (keeper.cut ≡ 0)
+CreatesLogIn holds (Err failed) profile clients_max file =
+    (failed.fault ≡ start.Journal (open_faults.Device NotEmpty) → (is_blank file ≡ false) × holds failed.device file) × IsNotOfLog failed.fault
 
 -- a file on a disk was read to this extent; what was read is durable, where no sync has failed
 abbrev pub IsReadTo : Rules → Following → Extent → Disk → Type 0
-IsReadTo rules F extent disk = (disk.sound ≡ true → IsOnDisk disk) × By rules IsRestored disk.seen F extent
+IsReadTo rules F extent disk = (disk.sound ≡ true → IsOnDisk disk) × By rules IsFollowerRestored disk.seen F extent
 
 -- a keeper of these rules that may go on
-abbrev pub IsUsableBy : {D : Type 0} → Rules → Keeping D → Type 0
-IsUsableBy rules keeper = IsUsable keeper × (keeper.rules ≡ rules)
+abbrev pub IsUsableBy : {D : Type 0} → Rules → LogKeeping D → Type 0
+IsUsableBy rules keeper = IsUsableLog keeper × (keeper.rules ≡ rules)
 
 -- the same by the rules of a file, of the records that were read of it
 abbrev pub EntersNextBy : Rules → Result Bool LogStartFault → ScanState → Following → Following → List (List ℕ) → List ℕ → Type 0
-EntersNextBy rules result scan F G read file = EntersNext result rules.profile rules.clients_max read file scan F G
+EntersNextBy rules result scan F G read file = FollowsNextRecord result rules.profile rules.clients_max read file scan F G
 
 abbrev pub EntersAllBy : Rules → Result (Unit {0}) LogStartFault → ScanState → Following → Following → List (List ℕ) → List ℕ → Type 0
-EntersAllBy rules result scan F G read file = EntersAll result rules.profile rules.clients_max read file scan F G
+EntersAllBy rules result scan F G read file = FollowsAllRecords result rules.profile rules.clients_max read file scan F G
 
 -- the same by the rules of a file, over a device that reports what its calls do or not, a reader and a writer
 module _ {D : Type 0} (its : devices.Ghosts D) {R : Type 0} (input : R → Input) {W : Type 0} (output : W → Output) (rules : Rules) where
@@ -249,8 +249,8 @@ module _ {D : Type 0} (its : devices.Ghosts D) {R : Type 0} (input : R → Input
 
   abbrev pub NextOn : Result Bool KeepLogFault → Following → Kept D → R → W → Following → Kept D → R → W → Type 0
   NextOn result F old reader writer G new rest later =
-      Next its.tells its.disk rules.profile rules.clients_max result (point F old (input reader) (output writer)) (point G new (input rest) (output later))
+      ServesNextItem its.tells its.disk rules.profile rules.clients_max result (point F old (input reader) (output writer)) (point G new (input rest) (output later))
 
   abbrev pub ServedOn : Result ℕ KeepLogFault → Following → Kept D → R → W → Following → Kept D → R → W → Type 0
   ServedOn result F old reader writer G new rest later =
-      Served its.tells its.disk rules.profile rules.clients_max result (point F old (input reader) (output writer)) (point G new (input rest) (output later))
+      ServesSomeItems its.tells its.disk rules.profile rules.clients_max result (point F old (input reader) (output writer)) (point G new (input rest) (output later))

@@ -2,7 +2,7 @@
 ghost use Rattle.std.specs.Prelude.{◌≡◌};
 ghost use Rattle.tb_journal.specs.Memory.{memory_disk};
 ghost use Rattle.tb_journal.specs.Ready.{IsReady};
-ghost use Rattle.tb_keep_log.specs.Keeping.{IsUsable};
+ghost use Rattle.tb_keep_log.specs.Keeping.{IsUsableLog};
 
 use crate::keep_log::logs::{answers, bytes_of, kept, log, part, started};
 use crate::steps::{copy_of, expect, expect_end, expect_same, file_of, rules, sure};
@@ -91,7 +91,7 @@ fn entries_answered(told: usize) -> u64 {
 
 /// Keeps the log over a keeper: the file as it reads, and what was acknowledged.
 fn kept_by(rt: &impl Abort, alloc: Global, keeper: LogKeeper<Memory>) -> (Vec<u8>, Vec<u8>)
-    requires usable { IsUsable keeper }
+    requires usable { IsUsableLog keeper }
     requires ready { IsReady memory_disk keeper.journal }
 {
     let mut keeper = keeper;

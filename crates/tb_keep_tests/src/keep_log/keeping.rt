@@ -60,7 +60,7 @@ fn dump_has_no_positions(rt: HostRuntime) {
     let mut device = file_of(&rt, alloc, &bytes);
     drop(bytes);
     let mut writer = Counting::new(Vec::new(alloc));
-    let dumped = write_log_dump(alloc, &mut device, rules(&rt), &mut writer);
+    let dumped = write_log_dump(alloc, &mut device, &rules(&rt), &mut writer);
     drop(device);
     expect(&rt, is_well(dumped));
     let found = writer.into_inner();

@@ -2,7 +2,7 @@
 ghost use Rattle.std.specs.Prelude.{◌≡◌, true, Ok};
 ghost use Rattle.tb_journal.specs.Memory.{memory_disk};
 ghost use Rattle.tb_journal.specs.Ready.{IsReady};
-ghost use Rattle.tb_keep_log.specs.Keeping.{IsUsable};
+ghost use Rattle.tb_keep_log.specs.Keeping.{IsUsableLog};
 
 use crate::steps::{file_of, rules, sure};
 use std::alloc::Global;
@@ -108,7 +108,7 @@ pub fn answers(rt: &impl Abort, alloc: Global, log: &[u8]) -> Vec<u8> {
 /// The keeper of a file.
 pub fn started_on(rt: &impl Abort, alloc: Global, file: Memory) -> LogKeeper<Memory>
     requires { (memory_disk file).sound ≡ true }
-    ensures usable { IsUsable result }
+    ensures usable { IsUsableLog result }
     ensures ready { IsReady memory_disk result.journal }
 {
     sure(rt, LogKeeper::start(alloc, alloc, file, rules(rt)))
@@ -116,7 +116,7 @@ pub fn started_on(rt: &impl Abort, alloc: Global, file: Memory) -> LogKeeper<Mem
 
 /// The keeper of a file with these bytes.
 pub fn started(rt: &impl Abort, alloc: Global, bytes: &[u8]) -> LogKeeper<Memory>
-    ensures usable { IsUsable result }
+    ensures usable { IsUsableLog result }
     ensures ready { IsReady memory_disk result.journal }
 {
     started_on(rt, alloc, file_of(rt, alloc, bytes))
@@ -135,7 +135,7 @@ pub fn kept(
     keeper: &mut LogKeeper<Memory>,
     log: &[u8],
 ) -> (Result<u64, KeepLogFault>, Vec<u8>)
-    requires usable { IsUsable keeper.old }
+    requires usable { IsUsableLog keeper.old }
     requires ready { IsReady memory_disk keeper.old.journal }
 {
     let mut reader = Counting::new(log);

@@ -25,8 +25,8 @@ Passes t time undo_log d c amount d' c' grown =
     × NotesPair d c undo_log grown
 
 -- t is judged by both rows: it passes, or it is refused and all stays
-abbrev pub Exchanges : Transfer → ℕ → Noted → AccountRow → AccountRow → Result ℕ CreateTransferResult → AccountRow → AccountRow → Noted → Type 0
-Exchanges t time undo_log d c result d' c' grown =
+abbrev pub ExchangesRows : Transfer → ℕ → Noted → AccountRow → AccountRow → Result ℕ CreateTransferResult → AccountRow → AccountRow → Noted → Type 0
+ExchangesRows t time undo_log d c result d' c' grown =
     Judges transfer_result_code result (pair_code (Some (row_now d)) (Some (row_now c)) t time)
     × MatchResult result (λ amount. Passes t time undo_log d c amount d' c' grown) (λ _. (d' ≡ d) × (c' ≡ c) × (grown ≡ undo_log))
 

@@ -3,6 +3,7 @@ use Rattle.std.specs.Prelude.{ℕ, ◌≡◌, ◌+◌, ◌≤◌, List, Some, Re
 use Rattle.tb_records.specs.declared.records.Transfer.{Transfer}
 use Rattle.tb_records.specs.declared.transfer_results.CreateTransferResult.{CreateTransferResult}
 use Rattle.tb_records.specs.TransferResults.{transfer_result_code}
+use Rattle.tb_records.specs.declared.limits.TheConstants.{AMOUNT_MAX}
 use Rattle.tb_ledger.specs.declared.tables.accounts.Side.{Side}
 use Rattle.tb_ledger.specs.declared.tables.accounts.AccountRow.{AccountRow}
 use Rattle.tb_ledger.specs.Books.{Books, closing_debit, closing_credit}
@@ -10,7 +11,7 @@ use Rattle.tb_ledger.specs.private.Exchanges.{account_row_at}
 use Rattle.tb_ledger.specs.private.Found.{Judges}
 use Rattle.tb_ledger.specs.Kept.{row_closed, on_debits, on_credits, released_and_gained, accounts_released_and_gained}
 use Rattle.tb_ledger.specs.private.Noted.{Noted, NotesPair}
-use Rattle.tb_ledger.specs.Verdicts.{closed_at, closed_tests, first_of, int_max}
+use Rattle.tb_ledger.specs.Verdicts.{closed_at, closed_tests, first_of}
 
 -- the code of t by the accounts of p, as they are now
 abbrev pub closed_code : Books → Transfer → Transfer → ℕ
@@ -19,7 +20,7 @@ closed_code B t p = first_of (closed_tests t (closed_at B p.debit_account_id) (c
 -- the side holds what p does, of which r takes no more, and its sums fit
 pub record CanSettle (p r : Transfer) (s : Side) : Type 0 where
   pub enough : p.amount ≤ s.pending
-  pub fit : s.pending + s.posted ≤ int_max
+  pub fit : s.pending + s.posted ≤ AMOUNT_MAX
   pub at_most : r.amount ≤ p.amount
 
 -- the rows d and c of both accounts are settled, where they can be, and are noted as they were

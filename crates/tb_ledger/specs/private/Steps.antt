@@ -9,9 +9,9 @@ use Rattle.tb_ledger.specs.Batches.{Kind, Outcome, chain_failed, chain_open, cha
 use Rattle.tb_ledger.specs.Books.{Books, resolves, transfer_at}
 use Rattle.tb_ledger.specs.private.Capacity.{Capacity, capacity_of, Uses}
 use Rattle.tb_ledger.specs.private.Found.{FoundPending, Judges}
-use Rattle.tb_ledger.specs.Kept.{books_in, IsKept, PrecedesTimeouts}
+use Rattle.tb_ledger.specs.Kept.{books_in, AreRowsKept, PrecedesTimeouts}
 use Rattle.tb_ledger.specs.private.Noted.{HasCapacityFor}
-use Rattle.tb_ledger.specs.private.UndoLog.{Grows, LeadsBack, chained}
+use Rattle.tb_ledger.specs.private.UndoLog.{GrowsUndoLog, LeadsBack, chained}
 use Rattle.tb_records.specs.Ordered.{put}
 use Rattle.tb_records.specs.TransferResults.{transfer_result_code}
 use Rattle.tb_records.specs.declared.transfer_results.CreateTransferResult.{CreateTransferResult}
@@ -20,14 +20,14 @@ use Rattle.tb_ledger.specs.Sound.{transfer_key}
 
 -- ready for one event with the stamp
 pub record IsPrepared {A : Type 0} (HasCapacity : ℕ → Capacity → Type 0) (work : Work A) (stamp : ℕ) : Type 0 where
-  pub kept : IsKept work.rows
+  pub kept : AreRowsKept work.rows
   pub capacity : HasCapacity 1 (capacity_of work.rows)
   pub stamped : PrecedesTimeouts work.rows stamp
   pub log : HasCapacityFor UNDOS_PER_EVENT work.undo_log
 
 -- ready for n events in a row, the first with the stamp
 pub record IsPreparedFor {A : Type 0} (HasCapacity : ℕ → Capacity → Type 0) (n : ℕ) (work : Work A) (stamp : ℕ) : Type 0 where
-  pub kept : IsKept work.rows
+  pub kept : AreRowsKept work.rows
   pub capacity : HasCapacity n (capacity_of work.rows)
   pub stamped : PrecedesTimeouts work.rows stamp
   pub in_range : stamp + n < 2 ^ 64
@@ -36,8 +36,8 @@ pub record IsPreparedFor {A : Type 0} (HasCapacity : ℕ → Capacity → Type 0
 
 -- after one event: rows that are kept, from which the log leads back; failed ids, the time and the results so far stay
 pub record Leaves {A : Type 0} (work later : Work A) : Type 0 where
-  pub kept : IsKept later.rows
-  pub grows : Grows UNDOS_PER_EVENT (LeadsBack (chained work.rows) (chained later.rows)) work.undo_log later.undo_log
+  pub kept : AreRowsKept later.rows
+  pub grows : GrowsUndoLog UNDOS_PER_EVENT (LeadsBack (chained work.rows) (chained later.rows)) work.undo_log later.undo_log
   pub failed : later.rows.failed ≡ work.rows.failed
   pub time : later.rows.time ≡ work.rows.time
   pub capacity : Uses 1 (capacity_of work.rows) (capacity_of later.rows)
@@ -45,7 +45,7 @@ pub record Leaves {A : Type 0} (work later : Work A) : Type 0 where
 
 -- after n events: rows that are kept, at the same time, and n results more at most
 pub record LeavesAfter {A : Type 0} (n : ℕ) (work later : Work A) : Type 0 where
-  pub kept : IsKept later.rows
+  pub kept : AreRowsKept later.rows
   pub time : later.rows.time ≡ work.rows.time
   pub capacity : Uses n (capacity_of work.rows) (capacity_of later.rows)
   pub log : later.undo_log.capacity ≡ work.undo_log.capacity

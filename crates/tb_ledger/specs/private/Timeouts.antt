@@ -2,9 +2,9 @@
 use Rattle.std.specs.Prelude.{ℕ, ◌≡◌, ◌+◌, ◌-◌, ◌*◌, ◌≤◌, ◌<◌, ◌==◌, List, map, find, Option, Some, None}
 use Rattle.std.specs.List.{slice_get}
 use Rattle.tb_records.specs.Ordered.{put, taken_out, Each, Rising}
+use Rattle.tb_records.specs.declared.limits.TheConstants.{AMOUNT_MAX}
 use Rattle.avl_tree.specs.Map.{Map, entries}
 use Rattle.tb_ledger.specs.declared.tables.timeouts.Timeout.{Timeout}
-use Rattle.tb_ledger.specs.Verdicts.{int_max}
 use Rattle.tb_ledger.specs.Tables.{freed, pairs_in, Stored}
 
 -- timeouts are by time, and by id where times are the same
@@ -24,7 +24,7 @@ timeouts_in m = timeouts_of (pairs_in m)
 -- by rising key, and ids are ids
 pub record AreTimeouts (ds : List Timeout) : Type 0 where
   pub rising : Rising timeout_key ds
-  pub fit : Each (λ d. d.id ≤ int_max) ds
+  pub fit : Each (λ d. d.id ≤ AMOUNT_MAX) ds
 
 -- timeouts and their spare rows, with one timeout more
 abbrev pub with_timeout : Timeout → Stored Timeout → Stored Timeout

@@ -7,9 +7,9 @@ use Rattle.tb_ledger.specs.declared.tables.timeouts.Timeout.{Timeout}
 use Rattle.tb_ledger.specs.declared.tables.work.Undo.{Undo}
 use Rattle.tb_ledger.specs.declared.tables.work.Undo.TheVariants.{Account, Transfer, AddedAccount, AddedTransfer}
 use Rattle.tb_records.specs.Ordered.{replaced, taken_out}
+use Rattle.tb_records.specs.declared.limits.TheConstants.{LAST_MOMENT}
 use Rattle.tb_ledger.specs.Kept.{account_row_key, transfer_row_key, times_out, listed, unlisted, CanList}
 use Rattle.tb_ledger.specs.Books.{expires_at}
-use Rattle.tb_ledger.specs.Verdicts.{max_time}
 use Rattle.tb_ledger.specs.Tables.{Stored}
 use Rattle.tb_ledger.specs.private.Noted.{Noted}
 
@@ -39,7 +39,7 @@ abbrev pub CanUndo : Undo → Chained → Type 0
 CanUndo (Account row) x = Unit {0}
 CanUndo (Transfer row) x = times_out row ≡ true → CanList row x.timeouts
 CanUndo (AddedAccount id) x = Unit {0}
-CanUndo (AddedTransfer row) x = times_out row ≡ true → expires_at row.recorded ≤ max_time
+CanUndo (AddedTransfer row) x = times_out row ≡ true → expires_at row.recorded ≤ LAST_MOMENT
 
 abbrev pub CanUnwind : List Undo → Chained → Type 0
 CanUnwind [] x = Unit {0}
@@ -60,7 +60,7 @@ pub record IsUndoneTo {A : Type 0} (x : Chained) (rows later : Rows A) : Type 0 
   pub time : later.time ≡ rows.time
 
 -- no more than n changes were added, and where they are noted at all they lead back
-pub record Grows (n : ℕ) (back : List Undo → List Undo → Type 0) (undo_log grown : Noted) : Type 0 where
+pub record GrowsUndoLog (n : ℕ) (back : List Undo → List Undo → Type 0) (undo_log grown : Noted) : Type 0 where
   pub leads : undo_log.noting ≡ true → back undo_log.changes grown.changes
   pub noting : grown.noting ≡ undo_log.noting
   pub length : length grown.changes ≤ length undo_log.changes + n
@@ -68,8 +68,8 @@ pub record Grows (n : ℕ) (back : List Undo → List Undo → Type 0) (undo_log
 
 -- accounts changed, with n records more at most that lead back
 abbrev pub IsNoted : ℕ → List AccountRow → List AccountRow → Noted → Noted → Type 0
-IsNoted n accounts later = Grows n (λ us vs. (x : Chained) → LeadsBack (record x { accounts = accounts }) (record x { accounts = later }) us vs)
+IsNoted n accounts later = GrowsUndoLog n (λ us vs. (x : Chained) → LeadsBack (record x { accounts = accounts }) (record x { accounts = later }) us vs)
 
 -- a transfer's row changed or added, and its timeout with it, with n records more at most that lead back
 abbrev pub IsMarked : ℕ → List TransferRow → List TransferRow → Stored Timeout → Stored Timeout → Noted → Noted → Type 0
-IsMarked n transfers later ts ts_later = Grows n (λ us vs. (accounts : List AccountRow) → LeadsBack (record { accounts = accounts; transfers = transfers; timeouts = ts }) (record { accounts = accounts; transfers = later; timeouts = ts_later }) us vs)
+IsMarked n transfers later ts ts_later = GrowsUndoLog n (λ us vs. (accounts : List AccountRow) → LeadsBack (record { accounts = accounts; transfers = transfers; timeouts = ts }) (record { accounts = accounts; transfers = later; timeouts = ts_later }) us vs)

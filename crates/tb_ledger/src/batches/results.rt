@@ -1,8 +1,8 @@
 //! The results of a chain that breaks.
 ghost use Rattle.std.specs.Prelude.{◌≡◌, ◌≢◌, ◌+◌, ◌^◌, ◌<◌, ◌≤◌, ◌&&◌, ◌++◌, [], ◌∷◌, length, replicate, if◌then◌else◌};
-ghost use Rattle.tb_ledger.specs.Batches.{chain_failed, chain_open, timed_from, undone, results_from};
+ghost use Rattle.tb_ledger.specs.Batches.{chain_failed, chain_open, timed_from, undone};
 ghost use Rattle.tb_ledger.specs.private.Steps.{broken_codes};
-ghost use Rattle.tb_ledger.specs.private.Gathered.{AddsResults};
+ghost use Rattle.tb_ledger.specs.private.Gathered.{AddsResults, results_from};
 
 use crate::batches::Event;
 use crate::tables::work::Results;

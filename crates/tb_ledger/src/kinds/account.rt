@@ -1,7 +1,7 @@
 //! An account that is added: what is wrong with it, and its row where it passes.
 ghost use Rattle.std.specs.Prelude.{◌≡◌, Some, ◌<◌, ◌==◌, length, ◌-◌, find, None};
 ghost use Rattle.tb_ledger.specs.private.Found.{Judges};
-ghost use Rattle.tb_ledger.specs.Kept.{books_in, IsKept, row_now, account_row_key, blank, new_row};
+ghost use Rattle.tb_ledger.specs.Kept.{books_in, AreRowsKept, row_now, account_row_key, blank, new_row};
 ghost use Rattle.tb_ledger.specs.private.UndoLog.{IsNoted};
 ghost use Rattle.tb_ledger.specs.Verdicts.{account_verdict, first_of, account_exists_tests, account_own_tests, account_new_tests};
 ghost use Rattle.tb_records.specs.AccountResults.{account_result_code};
@@ -81,7 +81,7 @@ pub(crate) fn judge_account<A: Allocator + Clone>(
     rows: &Rows<A>,
     a: &Account,
 ) -> Result<(), CreateAccountResult>
-    requires { IsKept rows.now }
+    requires { AreRowsKept rows.now }
     ensures { Judges account_result_code result (account_verdict (books_in rows.now) a.now) }
 {
     account_own(a)?;

@@ -6,7 +6,7 @@ ghost use Rattle.tb_ledger.specs.Books.{resolves};
 ghost use Rattle.tb_ledger.specs.private.Capacity.{HasTransfers};
 ghost use Rattle.tb_ledger.specs.private.Exchanges.{account_row_at};
 ghost use Rattle.tb_ledger.specs.private.Found.{FoundPending, Judges};
-ghost use Rattle.tb_ledger.specs.Kept.{books_in, transfer_row_key, times_out, unlisted, IsListed, settled, state_given_by, row_closed, IsKept, gained, released};
+ghost use Rattle.tb_ledger.specs.Kept.{books_in, transfer_row_key, times_out, unlisted, IsListed, settled, state_given_by, row_closed, AreRowsKept, gained, released};
 ghost use Rattle.tb_ledger.specs.private.Settlings.{CanSettle, Settles, SettlesIn, closed_code};
 ghost use Rattle.tb_ledger.specs.private.Steps.{IsPrepared, IsResolution, TakesEvent, TakesResolution};
 ghost use Rattle.tb_ledger.specs.private.UndoLog.{IsMarked};
@@ -179,7 +179,7 @@ pub(crate) fn judge_resolving<'a, A: Allocator + Clone>(
     rows: &'a Rows<A>,
     t: &Transfer,
 ) -> Result<Resolution<'a>, CreateTransferResult>
-    requires kept { IsKept rows.now }
+    requires kept { AreRowsKept rows.now }
     requires resolving { resolves t.now ≡ true }
     ensures refused { IfErr result
         (λ refusal.

@@ -7,7 +7,7 @@ ghost use Rattle.tb_ledger.specs.Batches.{is_final, transfer_events};
 ghost use Rattle.tb_ledger.specs.Books.{resolves, balancing};
 ghost use Rattle.tb_ledger.specs.private.Capacity.{HasTransfers, Uses, capacity_of};
 ghost use Rattle.tb_ledger.specs.private.Found.{Judges};
-ghost use Rattle.tb_ledger.specs.Kept.{books_in, IsKept};
+ghost use Rattle.tb_ledger.specs.Kept.{books_in, AreRowsKept};
 ghost use Rattle.tb_ledger.specs.private.Steps.{IsPrepared, StaysButFailed, TakesEvent};
 ghost use Rattle.tb_ledger.specs.Verdicts.{failed_tests, filled, first_of, id_code, transfer_exists_tests, is_not, transfer_own_tests};
 ghost use Rattle.tb_records.specs.TransferResults.{transfer_result_code};
@@ -105,13 +105,13 @@ pub(crate) fn note_failed<A: Allocator + Clone>(
     t: &Transfer,
     refusal: CreateTransferResult,
 )
-    requires kept { IsKept rows.old }
+    requires kept { AreRowsKept rows.old }
     requires capacity { rows.old.keeps_failed ≡ true → 1 ≤ rows.old.failed.spare }
     requires fresh { is_final (transfer_result_code refusal) ≡ true
         → option_map_or (list_any (λ id. id == t.now.id)) (books_in rows.old).failed false ≡ false }
     ensures books { books_in rows.new
         ≡ transfer_events.refused (books_in rows.old) t.now (transfer_result_code refusal) }
-    ensures kept { IsKept rows.new }
+    ensures kept { AreRowsKept rows.new }
     ensures stays { StaysButFailed rows.old rows.new }
     ensures uses { Uses 1 (capacity_of rows.old) (capacity_of rows.new) }
 {

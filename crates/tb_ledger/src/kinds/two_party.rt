@@ -4,13 +4,13 @@ ghost use Rattle.std.specs.Prelude.{if◌then◌else◌, ◌≡◌, ◌^◌, ◌
 ghost use Rattle.tb_ledger.specs.Batches.{transfer_events};
 ghost use Rattle.tb_ledger.specs.Books.{resolves, pending, moves};
 ghost use Rattle.tb_ledger.specs.private.Capacity.{HasTransfers};
-ghost use Rattle.tb_ledger.specs.private.Exchanges.{Exchanges, ExchangesIn, missing_account};
+ghost use Rattle.tb_ledger.specs.private.Exchanges.{ExchangesRows, ExchangesIn, missing_account};
 ghost use Rattle.tb_ledger.specs.private.Found.{Judges};
 ghost use Rattle.tb_ledger.specs.Kept.{books_in, row_now, gained};
 ghost use Rattle.tb_ledger.specs.private.Steps.{IsPrepared, TakesEvent};
-ghost use Rattle.tb_ledger.specs.Verdicts.{id_code, first_of, int_max, max_time, balanced_amount, amount_tests, pair_code, pair_tests, two_party_own_tests};
+ghost use Rattle.tb_ledger.specs.Verdicts.{id_code, first_of, balanced_amount, amount_tests, pair_code, pair_tests, two_party_own_tests};
 ghost use Rattle.tb_records.specs.TransferResults.{transfer_result_code};
-ghost use Rattle.tb_records.specs.declared.limits.TheConstants.{NANOSECONDS_PER_SECOND};
+ghost use Rattle.tb_records.specs.declared.limits.TheConstants.{NANOSECONDS_PER_SECOND, AMOUNT_MAX, LAST_MOMENT};
 
 use crate::tables::accounts::{AccountRow, Side};
 use crate::tables::index::{add_row, new_transfer_row};
@@ -75,7 +75,7 @@ fn exchange_rows<A: Allocator + Clone>(
     time: u64,
     undo_log: &mut UndoLog<A>,
 ) -> Result<u128, CreateTransferResult>
-    ensures judged { Exchanges t.now time undo_log.old debit.old credit.old result debit.new credit.new undo_log.new }
+    ensures judged { ExchangesRows t.now time undo_log.old debit.old credit.old result debit.new credit.new undo_log.new }
     ensures same_debit { debit.new.created ≡ debit.old.created }
     ensures same_credit { credit.new.created ≡ credit.old.created }
 {
@@ -256,14 +256,14 @@ fn amounts(
 
 /// The sum is above the largest number.
 fn above(x: u128, y: u128) -> bool
-    ensures { result ≡ nat_lt int_max (x + y) }
+    ensures { result ≡ nat_lt AMOUNT_MAX (x + y) }
 {
     x.checked_add(y).is_none()
 }
 
 /// The sum of three is above the largest number.
 fn sum_above(x: u128, y: u128, z: u128) -> bool
-    ensures { result ≡ nat_lt int_max (x + y + z) }
+    ensures { result ≡ nat_lt AMOUNT_MAX (x + y + z) }
 {
     match x.checked_add(y) {
         Some(sum) => above(sum, z),
@@ -286,7 +286,7 @@ fn sum_exceeds(x: u128, y: u128, z: u128, limit: u128) -> bool
 
 /// A timeout would end after the last moment of the clock.
 fn overdue(time: u64, timeout: u32) -> bool
-    ensures { result ≡ nat_lt max_time (time + timeout * NANOSECONDS_PER_SECOND) }
+    ensures { result ≡ nat_lt LAST_MOMENT (time + timeout * NANOSECONDS_PER_SECOND) }
 {
     u128::from(LAST_MOMENT)
         < u128::from(time) + u128::from(timeout) * u128::from(NANOSECONDS_PER_SECOND)
@@ -311,7 +311,7 @@ pub(super) fn posted_part(t: &Transfer) -> u128
 }
 
 pub(crate) fn gain_side(s: Side, t: &Transfer, closes: bool) -> Side
-    requires { s.pending + s.posted + t.now.amount ≤ int_max }
+    requires { s.pending + s.posted + t.now.amount ≤ AMOUNT_MAX }
     ensures { result ≡ gained (λ _. closes) t.now s }
 {
     let held = pending_part(t);

@@ -4,8 +4,8 @@ ghost use Rattle.tb_ledger.specs.Books.{expires_at};
 ghost use Rattle.tb_ledger.specs.Kept.{transfer_row_key, times_out, listed, CanList, new_transfer_row, timeout_of, unlisted};
 ghost use Rattle.tb_ledger.specs.private.Timeouts.{AreTimeouts};
 ghost use Rattle.tb_ledger.specs.private.UndoLog.{IsMarked};
-ghost use Rattle.tb_ledger.specs.Verdicts.{int_max, max_time};
 ghost use Rattle.tb_records.specs.Ordered.{put, Rising};
+ghost use Rattle.tb_records.specs.declared.limits.TheConstants.{AMOUNT_MAX, LAST_MOMENT};
 
 use crate::tables::map::Table;
 use crate::tables::timeouts::{Timeout, Timeouts};
@@ -18,7 +18,7 @@ use tb_records::{NANOSECONDS_PER_SECOND, Transfer};
 pub(crate) fn new_transfer_row(recorded: Transfer) -> TransferRow
     requires plain { recorded.flags < 2 ^ 8 }
     ensures row { result ≡ new_transfer_row recorded }
-    ensures fits { recorded.id ≤ int_max }
+    ensures fits { recorded.id ≤ AMOUNT_MAX }
 {
     TransferRow::new(&recorded)
 }
@@ -58,7 +58,7 @@ fn times_out(row: &TransferRow) -> bool
 }
 
 fn timeout_of(row: &TransferRow) -> Timeout
-    requires { expires_at row.now.recorded ≤ max_time }
+    requires { expires_at row.now.recorded ≤ LAST_MOMENT }
     ensures { result ≡ timeout_of row.now }
 {
     let t = row.recorded();
@@ -81,7 +81,7 @@ pub fn list<A: Allocator + Clone>(timeouts: &mut Timeouts<A>, row: &TransferRow)
 
 /// Takes the timeout of a transfer that has one and was open.
 pub fn unlist<A: Allocator + Clone>(timeouts: &mut Timeouts<A>, row: &TransferRow)
-    requires { times_out row.now ≡ true → expires_at row.now.recorded ≤ max_time }
+    requires { times_out row.now ≡ true → expires_at row.now.recorded ≤ LAST_MOMENT }
     ensures timeouts { timeouts.new ≡ unlisted row.now timeouts.old }
     ensures ordered { times_out row.now ≡ true → AreTimeouts timeouts.old.items }
 {

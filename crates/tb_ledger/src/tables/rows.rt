@@ -1,7 +1,7 @@
 //! The tables of a ledger: what it keeps of its accounts and transfers.
 ghost use Rattle.std.specs.Prelude.{◌≡◌};
 ghost use Rattle.tb_ledger.specs.Books.{empty_books};
-ghost use Rattle.tb_ledger.specs.Kept.{books_in, IsKept};
+ghost use Rattle.tb_ledger.specs.Kept.{books_in, AreRowsKept};
 
 use crate::tables::accounts::AccountRow;
 use crate::tables::map::Table;
@@ -28,7 +28,7 @@ pub struct Rows<A: Allocator + Clone> {
 impl<A: Allocator + Clone> Rows<A> {
     /// The rows of a new ledger. No memory is taken.
     pub fn new(profile: Profile) -> Self
-        ensures kept { IsKept result }
+        ensures kept { AreRowsKept result }
         ensures books { books_in result ≡ empty_books profile }
     {
         Rows {

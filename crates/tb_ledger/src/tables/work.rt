@@ -2,7 +2,7 @@
 //! results so far.
 ghost use Rattle.std.specs.Prelude.{◌≡◌, ◌+◌, ◌<◌, ◌≤◌, ◌++◌, [], ◌∷◌, length, OnOk, ◌*◌, false, IfSome, IfNone};
 ghost use Rattle.tb_ledger.specs.Books.{empty_books};
-ghost use Rattle.tb_ledger.specs.Kept.{books_in, IsKept};
+ghost use Rattle.tb_ledger.specs.Kept.{books_in, AreRowsKept};
 ghost use Rattle.tb_ledger.specs.private.Noted.{with_noted, NotesPair};
 ghost use Rattle.tb_ledger.specs.private.UndoLog.{chained, undone_by, unwound, CanUndo, CanUnwind, IsUndoneTo};
 ghost use Rattle.tb_records.specs.declared.limits.TheConstants.{ITEMS_MAX};
@@ -28,7 +28,7 @@ pub(crate) struct Work<A: Allocator + Clone> {
 impl<A: Allocator + Clone> Work<A> {
     /// Of a new ledger. No memory is taken.
     pub(crate) fn new(profile: Profile) -> Self
-        ensures kept { IsKept result.rows }
+        ensures kept { AreRowsKept result.rows }
         ensures books { books_in result.rows ≡ empty_books profile }
     {
         Work {

@@ -6,10 +6,9 @@ use Rattle.tb_records.specs.AtHand.{holds_pair, holds_item}
 use Rattle.tb_records.specs.Transport.{Input, Output, Sent, CutOff}
 use Rattle.tb_machine.specs.declared.serving.RunFault.{RunFault}
 use Rattle.tb_machine.specs.declared.serving.RunFault.TheVariants as fault
-use Rattle.tb_records.specs.Messages.{Message, Answer, count, item_count, items_max, IsRight}
+use Rattle.tb_records.specs.Messages.{Message, Answer, count, item_count, IsRight, operation, answered}
 use Rattle.tb_records.specs.ReplyFrames.{reply_bytes, IsReply}
 use Rattle.tb_ledger.specs.Books.{Books}
-use Rattle.tb_ledger.specs.Verdicts.{max_time}
 use Rattle.tb_sessions.specs.declared.rows.Row.{Row}
 use Rattle.tb_sessions.specs.Judged.{class_of}
 use Rattle.tb_machine.specs.declared.executing.Delivery.{Delivery}
@@ -18,13 +17,15 @@ use Rattle.tb_machine.specs.declared.executing.Served.{Served}
 use Rattle.tb_machine.specs.declared.executing.Served.TheVariants as served
 use Rattle.tb_machine.specs.Runs.{AnswersPair}
 use Rattle.tb_machine.specs.declared.entries.Entry.{Entry}
-use Rattle.tb_machine.specs.Histories.{State, found, row_with, step, executed}
+use Rattle.tb_machine.specs.Histories.{State, found, step, executed, session_of}
 use Rattle.tb_machine.specs.DumpRuns.{marks_at, mark_before, changed_profile}
 use Rattle.tb_machine.specs.Dumps.{dumped}
 use Rattle.tb_machine.specs.Scripts.{Pair}
 use Rattle.tb_machine.specs.Judging.{IsDelivered, IfWhole}
 use Rattle.tb_records.specs.declared.bodies.Body.{Body}
+use Rattle.tb_records.specs.declared.replies.Status.TheVariants as status
 use Rattle.tb_records.specs.declared.bodies.ReplyBody.{ReplyBody}
+use Rattle.tb_records.specs.declared.limits.TheConstants.{ITEMS_MAX, LAST_MOMENT}
 
 -- nothing is held back where the next pair, or the next item of a dump, may have to be waited for
 abbrev pub IsPromptForPair : Input → Output → Type 0
@@ -38,26 +39,36 @@ abbrev pub Delivers : Result (Unit {0}) RunFault → List ℕ → Output → Out
 Delivers result bytes before after = MatchResult result (λ _. Sent bytes before after) (λ f. (f ≡ fault.Frame Device) × CutOff bytes before after)
 
 -- an entry of a commit number and a time
-abbrev pub made : ℕ → ℕ → Message → Entry
-made commit time r = record { commit = commit; time = time; request = r }
+abbrev pub made_entry : ℕ → ℕ → Message → Entry
+made_entry commit time r = record { commit = commit; time = time; request = r }
+
+-- the reply to an entry, with a body
+abbrev pub reply_with : Entry → ReplyBody → Answer
+reply_with e body = answered e.request.client (session_of e) e.request.request (operation e.request.body) status.Reply e.commit body
 
 -- the row that an entry leaves its client, where the ledger is so before it
 abbrev pub row_in : Books → Entry → Row
-row_in B e = row_with e (found B e.request.body e.time)
+row_in B e = record {
+  client = e.request.client;
+  session = session_of e;
+  request = e.request;
+  reply = reply_with e (found B e.request.body e.time);
+  commit = e.commit;
+}
 
 -- what an entry asks of the ledger before it, and of its reply
 abbrev pub MayBeExecuted : Books → Entry → Type 0
 MayBeExecuted B e =
-    (item_count e.request.body ≤ items_max)
+    (item_count e.request.body ≤ ITEMS_MAX)
     × (B.time + max (count e.request.body) 1 ≤ e.time)
-    × (e.time ≤ max_time)
+    × (e.time ≤ LAST_MOMENT)
     × IsRight (row_in B e).reply
 
 -- a body was executed at a time, and what its reply says was answered; where there was no memory nothing happened
 abbrev pub ExecutesBody : Result ReplyBody AllocError → Books → Body → ℕ → Books → Type 0
 ExecutesBody result B body time later = MatchResult result (λ answer. (later ≡ executed B body time) × (answer ≡ found B body time)) (λ _. later ≡ B)
 
--- an entry's request was executed, and its client's row made; where there was no memory the entry came back
+-- an entry's request was executed, and its client's row made_entry; where there was no memory the entry came back
 abbrev pub MakesRow : Result Row Entry → Books → Entry → Books → Type 0
 MakesRow result B e later = MatchResult result (λ row. (later ≡ executed B e.request.body e.time) × (row ≡ row_in B e)) (λ back. (back ≡ e) × (later ≡ B))
 

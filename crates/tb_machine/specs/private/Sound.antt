@@ -1,7 +1,7 @@
 -- What a machine keeps of its numbers: each entry took time, and each row's session began before its last reply.
 use Rattle.std.specs.Prelude.{ℕ, ◌<◌, ◌≤◌}
 use Rattle.tb_records.specs.Ordered.{Each}
-use Rattle.tb_ledger.specs.Verdicts.{max_time}
+use Rattle.tb_records.specs.declared.limits.TheConstants.{LAST_MOMENT}
 use Rattle.tb_sessions.specs.declared.rows.Row.{Row}
 use Rattle.tb_machine.specs.Histories.{State}
 
@@ -14,4 +14,4 @@ pub record IsNumbered (last : ℕ) (row : Row) : Type 0 where
 pub record IsSound (S : State) : Type 0 where
   pub rows : Each (IsNumbered S.commit) S.rows
   pub commits : S.commit ≤ S.books.time
-  pub in_range : S.books.time ≤ max_time
+  pub in_range : S.books.time ≤ LAST_MOMENT

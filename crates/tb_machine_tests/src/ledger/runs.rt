@@ -1,6 +1,6 @@
 //! A ledger that one request after another moves on, each as soon as it may come.
 ghost use Rattle.std.specs.Prelude.{◌+◌, ◌≤◌, max};
-ghost use Rattle.tb_ledger.specs.Verdicts.{max_time};
+ghost use Rattle.tb_records.specs.declared.limits.TheConstants.{LAST_MOMENT};
 
 use crate::comparing::{holds, holds_at};
 use std::alloc::Global;
@@ -33,7 +33,7 @@ fn expect_codes(rt: &impl Abort, results: Vec<EventResult>, want: &[(u32, u32)])
 fn next_time(rt: &impl Abort, run: &Run, n: usize) -> u64
     ensures count { n ≤ 8190 }
     ensures later { run.now.ledger.time + max n 1 ≤ result }
-    ensures in_range { result ≤ max_time }
+    ensures in_range { result ≤ LAST_MOMENT }
 {
     assert!(rt; n <= 8190 && run.ledger.time() < LATEST);
     run.ledger.time() + (n as u64).max(1)

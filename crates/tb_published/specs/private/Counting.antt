@@ -7,8 +7,8 @@ use Rattle.tb_machine.specs.declared.entries.Entry.{Entry}
 pub record CountsEntries (cells : List Cell) (log : List Entry) : Type 0 where
   pub words : cells ≡ (length log, true) ∷ (0, true) ∷ []
 
-abbrev pub head_of : Book → Named
-head_of b = record { tracked = true; key = 0; book = b }
+abbrev pub named_head : Book → Named
+named_head b = record { tracked = true; key = 0; book = b }
 
 -- the entry was added to all that had been seen, or the count was another
 abbrev pub Adds : Step Entry → View Entry ℕ → ℕ → View Entry ℕ → Type 0

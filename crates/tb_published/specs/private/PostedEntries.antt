@@ -19,9 +19,9 @@ PostsNext before after history posted =
     MatchOption posted (after ≡ before) (λ o. (o.front ≡ after) × (after ≡ with_entry before o.entry) × IsPrefix after.list history)
 
 -- posted entries behind a prefix, one after another
-abbrev pub Follows : Prefix → List PostedEntry → Type 0
-Follows l [] = Unit {0}
-Follows l (o ∷ os) = (o.front ≡ with_entry l o.entry) × Follows o.front os
+abbrev pub FollowsPrefix : Prefix → List PostedEntry → Type 0
+FollowsPrefix l [] = Unit {0}
+FollowsPrefix l (o ∷ os) = (o.front ≡ with_entry l o.entry) × FollowsPrefix o.front os
 
 -- the prefix behind the last of them
 abbrev pub prefix_after : Prefix → List PostedEntry → Prefix

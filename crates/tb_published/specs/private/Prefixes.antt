@@ -13,8 +13,8 @@ pub record Prefix : Type 0 where
 abbrev pub prefix : Opening → List Entry → Prefix
 prefix o h = record { opening = o; list = h }
 
-abbrev pub state_of : Prefix → State
-state_of l = after_in l.opening l.list
+abbrev pub prefix_state : Prefix → State
+prefix_state l = after_in l.opening l.list
 
 abbrev pub with_entry : Prefix → Entry → Prefix
 with_entry l e = prefix l.opening (l.list ++ e ∷ [])
@@ -27,8 +27,8 @@ IsPrefixOf l m = (l.opening ≡ m.opening) × IsPrefix l.list m.list
 abbrev pub Agree : Prefix → Prefix → Type 0
 Agree l m = IsPrefixOf l m ⊎ IsPrefixOf m l
 
-abbrev pub longer : Prefix → Prefix → Prefix
-longer l m = if nat_lt (length l.list) (length m.list) then m else l
+abbrev pub longer_prefix : Prefix → Prefix → Prefix
+longer_prefix l m = if nat_lt (length l.list) (length m.list) then m else l
 
 -- the entry is the last
 abbrev pub EndsWith : List Entry → Entry → Type 0

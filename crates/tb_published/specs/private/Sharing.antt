@@ -7,8 +7,8 @@ use Rattle.tb_published.specs.private.Prefixes.{Prefix, IsPrefixOf}
 use Rattle.tb_published.specs.private.PostedEntries.{TwoCopies, prefix_after, showing}
 
 -- what the copies show begins with all that any reader and the publisher have seen
-abbrev pub Shows : Prefix → List (Option Prefix) → Type 0
-Shows x views = (seat : ℕ) (l : Prefix) → get_elem? views seat ≡ some (Some l) → IsPrefixOf l x
+abbrev pub ShowsToReaders : Prefix → List (Option Prefix) → Type 0
+ShowsToReaders x views = (seat : ℕ) (l : Prefix) → get_elem? views seat ≡ some (Some l) → IsPrefixOf l x
 
 -- what a step tells: all that is shown after it was seen, and begins with what had been seen before
 abbrev pub Sees : Option Prefix → Prefix → Prefix → Option Prefix → Type 0

@@ -5,7 +5,7 @@ use Rattle.tb_machine.specs.declared.entries.Entry.{Entry}
 use Rattle.tb_machine.specs.Histories.{State}
 use Rattle.tb_published.specs.Openings.{Opening, LegalIn, after_in}
 use Rattle.tb_published.specs.private.Prefixes.{Prefix}
-use Rattle.tb_published.specs.private.PostedEntries.{TwoCopies, Follows, prefix_after}
+use Rattle.tb_published.specs.private.PostedEntries.{TwoCopies, FollowsPrefix, prefix_after}
 
 -- the history is legal, and the machine is what follows it; the posted entries that the copies have not taken in lead from what
 -- they show to what was offered to them, which is a prefix of the history
@@ -15,5 +15,5 @@ pub record Ties (o : Opening) (history : List Entry) (machine : State) (offered 
   pub named : offered.opening ≡ o
   pub offered_is : IsPrefix offered.list history
   pub seen_is : copies.seen ≡ Some copies.shown
-  pub follows : Follows copies.shown copies.posted
+  pub follows : FollowsPrefix copies.shown copies.posted
   pub leads : prefix_after copies.shown copies.posted ≡ offered

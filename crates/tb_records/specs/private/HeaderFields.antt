@@ -8,11 +8,12 @@ use Rattle.tb_records.specs.declared.faults.FrameFault.TheVariants.{ClientZero, 
 use Rattle.tb_records.specs.declared.operations.Operation.{Operation}
 use Rattle.tb_records.specs.declared.operations.Operation.TheVariants as op
 use Rattle.tb_records.specs.Inputs.{Answers}
-use Rattle.tb_records.specs.Messages.{Message, operation, item_count, items_max, first_fault}
+use Rattle.tb_records.specs.Messages.{Message, operation, item_count, first_fault}
 use Rattle.tb_records.specs.Operations.{operation_code}
 use Rattle.tb_records.specs.private.Reading.{ReadsOr}
 use Rattle.tb_records.specs.Transport.{Input}
 use Rattle.tb_records.specs.Frames.{body_bytes, BodyFits, IsRequest, header_bytes, header_fault, length_tests, client_at, session_at, request_at, operation_at, length_at, item_size}
+use Rattle.tb_records.specs.declared.limits.TheConstants.{ITEMS_MAX}
 
 -- an answer that is right, or the fault that there is
 abbrev pub RightOr : {X : Type 0} → Result X FrameFault → (X → Type 0) → Option FrameFault → Type 0
@@ -53,7 +54,7 @@ numbers_tests client session request code count =
     (client == 0, ClientZero)
     ∷ (code == operation_code op.Register && not (session == 0 && request == 0), RegisterNumbers)
     ∷ (not (code == operation_code op.Register) && request == 0, RequestZero)
-    ∷ (nat_lt items_max count, TooMany)
+    ∷ (nat_lt ITEMS_MAX count, TooMany)
     ∷ []
 
 abbrev pub numbers_fault : ℕ → ℕ → ℕ → ℕ → ℕ → Option FrameFault

@@ -7,16 +7,16 @@ use Rattle.tb_service.specs.Names.{Name, service_of}
 use Rattle.tb_service.specs.Ports.{Offers}
 
 -- a port of a service, with this number, that has offered nothing
-abbrev pub IsFresh : Name → ℕ → Offers → Type 0
-IsFresh name number port = (port.offered ≡ []) × (port.number ≡ number) × (port.service ≡ name)
+abbrev pub IsFreshPort : Name → ℕ → Offers → Type 0
+IsFreshPort name number port = (port.offered ≡ []) × (port.number ≡ number) × (port.service ≡ name)
 
 -- no order was taken, and the service is the same
-abbrev pub TakesNone : Pass Order View → Pass Order View → Type 0
-TakesNone before after = ((view after).taken ≡ (view before).taken) × (service_of after ≡ service_of before)
+abbrev pub TakesNoOrder : Pass Order View → Pass Order View → Type 0
+TakesNoOrder before after = ((view after).taken ≡ (view before).taken) × (service_of after ≡ service_of before)
 
 -- an order was taken, or none
-abbrev pub TakesNext : Option Order → Pass Order View → Pass Order View → Type 0
-TakesNext next before after =
+abbrev pub TakesNextOrder : Option Order → Pass Order View → Pass Order View → Type 0
+TakesNextOrder next before after =
     MatchOption next ((view after).taken ≡ (view before).taken) (λ order. (view after).taken ≡ (view before).taken ++ order ∷ [])
 
 -- no port was made, and the service is the same

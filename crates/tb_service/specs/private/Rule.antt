@@ -5,7 +5,7 @@ use lib.ListN.{get_elem?}
 use Rattle.tb_records.specs.Messages.{Message}
 use Rattle.tb_service.specs.declared.orders.Order.{Order}
 use Rattle.tb_service.specs.declared.rule.View.{View}
-use Rattle.tb_service.specs.Sent.{requests_in, closes, requests_of, is_closed, has_none_of, ends_at_close}
+use Rattle.tb_service.specs.Sent.{requests_in, closes, requests_of, is_port_closed, has_none_of, ends_at_close}
 
 -- a pass that knows nothing
 abbrev pub spent : View
@@ -39,7 +39,7 @@ pub record IsPort (sent_orders : List Order) (ports : ℕ) (seat : ℕ → ℕ) 
   pub seated : seat v.port ≡ pass
   pub made : v.port < ports
   pub offers : requests_of v.port sent_orders ≡ v.offered
-  pub ends : is_closed v.port sent_orders ≡ v.closed
+  pub ends : is_port_closed v.port sent_orders ≡ v.closed
 
 -- a port that the server took in: it offers nothing more
 pub record HasJoined (sent_orders : List Order) (ports : ℕ) (seat : ℕ → ℕ) (reader : ℕ) (v : View) : Type 0 where
@@ -55,8 +55,8 @@ pub record IsServer (sent_orders taken : List Order) (ports : ℕ) (seat : ℕ �
   pub apart : v.offers ≡ false
   pub knows : v.knows ≡ true → HasJoined sent_orders ports seat reader v
 
-abbrev pub Fits : List Order → List Order → ℕ → (ℕ → ℕ) → ℕ → ℕ → View → Type 0
-Fits sent_orders taken ports seat reader pass v =
+abbrev pub FitsOrders : List Order → List Order → ℕ → (ℕ → ℕ) → ℕ → ℕ → View → Type 0
+FitsOrders sent_orders taken ports seat reader pass v =
     (v.offers ≡ true → IsPort sent_orders ports seat pass v) × (v.serves ≡ true → IsServer sent_orders taken ports seat reader pass v)
 
 -- The orders taken and then those queued are all that were sent: in them each port's requests are what it offered, in order, and nothing
@@ -68,11 +68,11 @@ pub record Queued (items : List Order) (views : List View) : Type 0 where
   pub seat : ℕ → ℕ
   pub unmade : (p : ℕ) → ports ≤ p → has_none_of p (taken ++ items) ≡ true
   pub ended : (p : ℕ) → ends_at_close p (taken ++ items) ≡ true
-  pub fits : (pass : ℕ) (v : View) → get_elem? views pass ≡ some v → Fits (taken ++ items) taken ports seat reader pass v
+  pub fits : (pass : ℕ) (v : View) → get_elem? views pass ≡ some v → FitsOrders (taken ++ items) taken ports seat reader pass v
 
 -- Of the port taken in last: what was taken of it and what is queued is what it offered; nothing is queued where its close was
 -- taken.
-pub record Accounts (v : View) (items : List Order) : Type 0 where
+pub record TalliesOrders (v : View) (items : List Order) : Type 0 where
   pub whole : requests_of v.known_port v.taken ++ requests_of v.known_port items ≡ v.known
   pub made : v.known_port < v.ports
-  pub ended : is_closed v.known_port v.taken ≡ true → requests_of v.known_port items ≡ []
+  pub ended : is_port_closed v.known_port v.taken ≡ true → requests_of v.known_port items ≡ []

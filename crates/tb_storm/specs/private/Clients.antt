@@ -13,14 +13,14 @@ use Rattle.tb_service.specs.Finished.{Finish, IsOffered}
 use Rattle.tb_caller.specs.declared.callers.Heard.{Heard}
 use Rattle.tb_caller.specs.declared.callers.Heard.TheVariants as hearing
 use Rattle.tb_caller.specs.declared.callers.Phase.TheVariants.{Idle}
-use Rattle.tb_caller.specs.Clients.{fresh, client_of, open_request, made, call_fault, called, heard, received}
+use Rattle.tb_caller.specs.Clients.{fresh, client_with, open_request, made, call_fault, called, heard, received}
 use Rattle.tb_caller.specs.Endpoints.{IsAmong}
 use Rattle.tb_caller.specs.Calls.{IsTaken}
 use Rattle.tb_caller_service.specs.SeatCalls.{IsFromSeat}
 use Rattle.tb_storm.specs.declared.clients.Client.{Client}
 use Rattle.tb_storm.specs.declared.network.Line.{Line}
 use Rattle.tb_storm.specs.declared.network.Line.TheVariants as line
-use Rattle.tb_storm.specs.Calls.{session_with, transfer_call}
+use Rattle.tb_storm.specs.Calls.{sent_in_session, transfer_call}
 
 -- the port of a line, open or closed
 abbrev pub port_of : Line → Option Offers
@@ -54,7 +54,7 @@ repeats_at client session k =
 
 module _ {J : Type 0} where
   -- a new client, on a port that sent nothing
-  pub record IsNew (service : Name) (port number : ℕ) (c : Client J) : Type 0 where
+  pub record IsNewClient (service : Name) (port number : ℕ) (c : Client J) : Type 0 where
     pub number_is : c.number ≡ number
     pub caller_is : c.caller ≡ fresh number
     pub port_is : port_of c.line ≡ Some (record { service = service; number = port; offered = [] })
@@ -96,15 +96,15 @@ module _ {J : Type 0} where
   -- nothing else.
   pub record Stands (o : Opening) (id : ℕ) (call : ℕ → Body) (count : ℕ) (start : Option Offers) (c : Client J) : Type 0 where
     pub number_is : c.number ≡ id
-    pub caller_is : c.caller ≡ client_of id c.caller.session count Idle
+    pub caller_is : c.caller ≡ client_with id c.caller.session count Idle
     pub returned : List (Message × Answer)
-    pub all : map (λ p. p.0) returned ≡ session_with id c.caller.session call count
-    pub lawful : Each (λ (r : Message). IsTrue (is_lawful r)) (session_with id c.caller.session call count)
-    pub taken : Each (IsTaken (session_with id c.caller.session call count)) returned
+    pub all : map (λ p. p.0) returned ≡ sent_in_session id c.caller.session call count
+    pub lawful : Each (λ (r : Message). IsTrue (is_lawful r)) (sent_in_session id c.caller.session call count)
+    pub taken : Each (IsTaken (sent_in_session id c.caller.session call count)) returned
     pub given : Each (λ (p : Message × Answer). IsFromSeat o c.seat p.1) returned
     pub more : List Message
     pub sent : port_of c.line ≡ more_by start more
-    pub own : Each (λ (r : Message). IsAmong r (session_with id c.caller.session call count)) more
+    pub own : Each (λ (r : Message). IsAmong r (sent_in_session id c.caller.session call count)) more
 
   -- a new client made so many calls
   abbrev pub Plays : Opening → (ℕ → Body) → ℕ → Client J → Client J → Type 0

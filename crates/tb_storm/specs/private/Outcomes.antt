@@ -8,15 +8,15 @@ use Rattle.tb_storm.specs.declared.faults.StormFault.TheVariants as storm
 use Rattle.tb_storm.specs.declared.totals.Totals.{Totals}
 
 -- of two faults the first, but that a client gave up is reported only where there is no other
-abbrev pub first_of : Option StormFault → Option StormFault → Option StormFault
-first_of None next = next
-first_of (Some storm.GaveUp) None = Some storm.GaveUp
-first_of (Some storm.GaveUp) (Some fault) = Some fault
-first_of (Some fault) next = Some fault
+abbrev pub first_reported : Option StormFault → Option StormFault → Option StormFault
+first_reported None next = next
+first_reported (Some storm.GaveUp) None = Some storm.GaveUp
+first_reported (Some storm.GaveUp) (Some fault) = Some fault
+first_reported (Some fault) next = Some fault
 
 -- the fault that is reported of clients: of the first one's and the others'
 abbrev pub fared : {J : Type 0} → Option StormFault → List (Client J) → Option StormFault
-fared first others = fold first_of first (map (λ client. client.fault) others)
+fared first others = fold first_reported first (map (λ client. client.fault) others)
 
 -- Of how the server ended, the fault of the clients and what a seat found at the end: that the server found no memory is reported
 -- before all else, and that a client gave up only where the seat met no fault.
@@ -27,10 +27,10 @@ outcome_of way.Closed (Some storm.GaveUp) (Err fault) = Err fault
 outcome_of way.Closed (Some fault) found = Err fault
 
 -- totals of fewer entries than there were replies are none: a client gave up
-abbrev pub answered : ℕ → Result Totals StormFault → Result Totals StormFault
-answered replies (Ok totals) = if nat_lt totals.commits replies then Err storm.GaveUp else Ok totals
-answered replies (Err fault) = Err fault
+abbrev pub totals_answered : ℕ → Result Totals StormFault → Result Totals StormFault
+totals_answered replies (Ok totals) = if nat_lt totals.commits replies then Err storm.GaveUp else Ok totals
+totals_answered replies (Err fault) = Err fault
 
 -- what is reported where the server ended so and the clients fared so, whatever a seat found
 abbrev pub Concludes : ℕ → Ended → Option StormFault → Result Totals StormFault → Type 0
-Concludes replies ended fared told = (found : Result Totals StormFault) × (told ≡ answered replies (outcome_of ended fared found))
+Concludes replies ended fared told = (found : Result Totals StormFault) × (told ≡ totals_answered replies (outcome_of ended fared found))

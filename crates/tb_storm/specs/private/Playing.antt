@@ -18,9 +18,9 @@ use Rattle.tb_caller_service.specs.SeatCalls.{IsFromSeat}
 use Rattle.tb_storm.specs.declared.clients.Client.{Client}
 use Rattle.tb_storm.specs.declared.playing.Clients.{Clients}
 use Rattle.tb_storm.specs.declared.totals.Totals.{Totals}
-use Rattle.tb_storm.specs.Calls.{session_with, accounts_call, transfer_call}
+use Rattle.tb_storm.specs.Calls.{sent_in_session, accounts_call, transfer_call}
 use Rattle.tb_storm.specs.private.Found.{replies_of, Totaled}
-use Rattle.tb_storm.specs.private.Clients.{port_of, IsNew, Repeats, Stands, Plays, IsConcluded}
+use Rattle.tb_storm.specs.private.Clients.{port_of, IsNewClient, Repeats, Stands, Plays, IsConcluded}
 
 -- a port that sent nothing
 abbrev pub new_port : Name → ℕ → Offers
@@ -31,16 +31,16 @@ module _ {J : Type 0} where
   pub record IsNewOn (number : ℕ) (before after : List Offers) (c : Client J) : Type 0 where
     pub port : Offers
     pub last : before ≡ after ++ port ∷ []
-    pub is_new : port.offered ≡ [] → IsNew port.service port.number number c
+    pub is_new : port.offered ≡ [] → IsNewClient port.service port.number number c
 
   -- clients 1, 2, 3 and so on, so many, on ports that go down to 0
   pub record AreNew (service : Name) (count : ℕ) (others : List (Client J)) : Type 0 where
     pub count_is : length others ≡ count
-    pub each : (i : ℕ) (d : Client J) → i < count → IsNew service (count - 1 - i) (i + 1) (slice_index_or others i d)
+    pub each : (i : ℕ) (d : Client J) → i < count → IsNewClient service (count - 1 - i) (i + 1) (slice_index_or others i d)
 
   -- client 100, on the port after theirs, and they
   pub record AreReady (service : Name) (count : ℕ) (clients : Clients J) : Type 0 where
-    pub first : IsNew service count 100 clients.first
+    pub first : IsNewClient service count 100 clients.first
     pub others : AreNew service count clients.others.items
 
   -- where it met no fault, a client made its calls on its port
@@ -70,14 +70,14 @@ module _ {J : Type 0} where
     pub each : (i : ℕ) (d : Client J) → i < length old → IsClosed (slice_index_or old i d) (slice_index_or new i d)
 
   -- ports of one service
-  abbrev pub AreOf : Name → List (Client J) → Type 0
-  AreOf service clients = (i : ℕ) (d : Client J) → i < length clients → IfSome (port_of (slice_index_or clients i d).line) (λ port. port.service ≡ service)
+  abbrev pub AreOfService : Name → List (Client J) → Type 0
+  AreOfService service clients = (i : ℕ) (d : Client J) → i < length clients → IfSome (port_of (slice_index_or clients i d).line) (λ port. port.service ≡ service)
 
   abbrev pub HaveNoFault : List (Client J) → Type 0
   HaveNoFault clients = (i : ℕ) (d : Client J) → i < length clients → (slice_index_or clients i d).fault ≡ None
 
-  abbrev pub AreServed : Finish → List (Client J) → Type 0
-  AreServed finish clients = (i : ℕ) (d : Client J) → i < length clients → IsConcluded finish (slice_index_or clients i d)
+  abbrev pub AreServedBy : Finish → List (Client J) → Type 0
+  AreServedBy finish clients = (i : ℕ) (d : Client J) → i < length clients → IsConcluded finish (slice_index_or clients i d)
 
   -- client 100's seat has learnt more
   pub record IsLearnt (old new : Clients J) : Type 0 where
@@ -95,14 +95,14 @@ HasRun count before finish = (offered : ℕ → List Message) → ((p : ℕ) →
 
 -- What is left of a client whose port the server took in: all its calls returned a reply that was given after a prefix of the history,
 -- and what its port sent is nothing else.
-pub record IsLeft (o : Opening) (finish : Finish) (port id : ℕ) (call : ℕ → Body) (count : ℕ) (sent : List Message) : Type 0 where
+pub record IsClientLeft (o : Opening) (finish : Finish) (port id : ℕ) (call : ℕ → Body) (count : ℕ) (sent : List Message) : Type 0 where
   pub session : ℕ
   pub returned : List (Message × Answer)
-  pub all : map (λ p. p.0) returned ≡ session_with id session call count
-  pub lawful : Each (λ (r : Message). IsTrue (is_lawful r)) (session_with id session call count)
-  pub taken : Each (IsTaken (session_with id session call count)) returned
+  pub all : map (λ p. p.0) returned ≡ sent_in_session id session call count
+  pub lawful : Each (λ (r : Message). IsTrue (is_lawful r)) (sent_in_session id session call count)
+  pub taken : Each (IsTaken (sent_in_session id session call count)) returned
   pub given : Each (λ (p : Message × Answer). IsFromSeat o finish.publisher.history p.1) returned
-  pub own : Each (λ (r : Message). IsAmong r (session_with id session call count)) sent
+  pub own : Each (λ (r : Message). IsAmong r (sent_in_session id session call count)) sent
   pub offered : IsOffered sent finish.taken (places_from port 1 finish.owners) finish.ended
 
 -- the number, the calls and their count of the client on a port: the last one is client 100's
@@ -118,7 +118,7 @@ count_at count transfers port = if port == count then 1 else transfers
 -- of all clients, by their ports
 pub record AreLeft (o : Opening) (finish : Finish) (count transfers : ℕ) : Type 0 where
   pub sent : ℕ → List Message
-  pub each : (p : ℕ) → p < count + 1 → IsLeft o finish p (number_at count p) (call_at count p) (count_at count transfers p) (sent p)
+  pub each : (p : ℕ) → p < count + 1 → IsClientLeft o finish p (number_at count p) (call_at count p) (count_at count transfers p) (sent p)
 
 -- the totals are of the history of a server that has finished, which has an entry for each reply, or more; and its ports were those of the clients
 pub record EndsWell (o : Opening) (count transfers : ℕ) (finish : Finish) (totals : Totals) : Type 0 where

@@ -13,7 +13,7 @@ returns-in-Ok-clause-found g c file holds has =
     let passes = c.in-Ok.ensures.passes file (head ∷ []) holds has in
     c.order_of.ensures.found file (c.in-Ok.ensures.same file holds)
     (extent_found file (head ∷ passes.0) scan c.extent.result passes.1 passes.2 c.extent.ensures.end c.extent.ensures.count)
-    (in_order rules file scan c.in-Ok.time (c.get-clients.ensures.positive, c.get-clients.ensures.at_most) passes)
+    (in_order rules file scan c.in-Ok.time c.expose_bound.ensures passes)
 
 pub returns-in-Err-clause-found : goal.returns-in-Err-clause-found
 returns-in-Err-clause-found g c file holds has =

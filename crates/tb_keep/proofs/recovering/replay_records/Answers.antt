@@ -21,7 +21,7 @@ returns-in-Ok-true-clause-cause g c t has =
     let mid = g.D.Device.disk c.read_head_record.new.device in
     let seen = (c.read_head_record.ensures.stays t).untouched.seen in
     let first = (rw c.in-Ok-true.field-0-test at c.in-Ok-true.ensures.head) old.seen (g.met.D.Device.holds_seen c.args.device.now t) has in
-    let here = subst (λ (f : List ℕ). HasRead (head_record c.args.rules.profile c.args.rules.clients_max ∷ []) f c.read_head_record.new.scan) (sym seen) first in
+    let here = subst (λ (f : List ℕ). HasRead (head_record c.args.rules.now.profile c.args.rules.now.clients_max ∷ []) f c.read_head_record.new.scan) (sym seen) first in
     has_start_then old mid (g.D.Device.disk c.replay_behind_head.new.device) (c.in-Ok-true.ensures.cause t has).ok seen c.replay_behind_head.result (c.replay_behind_head.ensures.cause t here)
 
 pub returns-in-Ok-false-clause-found : goal.returns-in-Ok-false-clause-found

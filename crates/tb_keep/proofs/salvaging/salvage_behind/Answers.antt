@@ -9,19 +9,19 @@ use Rattle.tb_keep.proofs.salvaging.salvage_behind.Goals as goal
 
 pub returns-in-Ok-take_behind-clause-salvaged : goal.returns-in-Ok-take_behind-clause-salvaged
 returns-in-Ok-take_behind-clause-salvaged g c =
-    salvaged_all c.args.rules (c.get-clients.ensures.positive, c.get-clients.ensures.at_most) g.N.Device.disk g.N.Device.tells (g.D.Device.holds c.args.from.now) c.args.scan.now c.in-Ok.keeper
+    salvaged_all c.args.rules c.expose_bound.ensures g.N.Device.disk g.N.Device.tells (g.D.Device.holds c.args.from.now) c.args.scan.now c.in-Ok.keeper
     c.take_behind.new.keeper (λ t. c.in-Ok.ensures.kept t (c.requires.sound t)) c.in-Ok.ensures.empty
     (c.take_behind.ensures.stays_used.0 ∙ c.in-Ok.ensures.usable.kept) (c.take_behind.ensures.stays_used.1 ∙ c.in-Ok.ensures.uncut)
     c.in-Ok-take_behind.extent c.in-Ok-take_behind.stop c.in-Ok-take_behind.ensures.takes
 
 pub returns-in-Err-take_behind-clause-unsalvaged : goal.returns-in-Err-take_behind-clause-unsalvaged
 returns-in-Err-take_behind-clause-unsalvaged g c file of =
-    unsalvaged_all c.args.rules (c.get-clients.ensures.positive, c.get-clients.ensures.at_most) g.N.Device.disk g.N.Device.tells (g.D.Device.holds c.args.from.now) c.args.scan.now c.in-Ok.keeper
+    unsalvaged_all c.args.rules c.expose_bound.ensures g.N.Device.disk g.N.Device.tells (g.D.Device.holds c.args.from.now) c.args.scan.now c.in-Ok.keeper
     c.take_behind.new.keeper (λ t. c.in-Ok.ensures.kept t (c.requires.sound t)) c.in-Ok.ensures.empty c.in-Err-take_behind.fault c.in-Err-take_behind.ensures.takes file of
 
 pub returns-in-Ok-take_behind-clause-any_moment : goal.returns-in-Ok-take_behind-clause-any_moment
 returns-in-Ok-take_behind-clause-any_moment g c t =
-    moments_behind c.args.rules (c.get-clients.ensures.positive, c.get-clients.ensures.at_most) g.N.Device.disk g.N.Device.tells (g.D.Device.holds c.args.from.now) c.args.scan.now c.in-Ok.keeper
+    moments_behind c.args.rules c.expose_bound.ensures g.N.Device.disk g.N.Device.tells (g.D.Device.holds c.args.from.now) c.args.scan.now c.in-Ok.keeper
     c.take_behind.new.keeper (λ u. c.in-Ok.ensures.kept u (c.requires.sound u)) c.in-Ok.ensures.empty t (Ok (c.in-Ok-take_behind.extent, c.in-Ok-take_behind.stop)) (g.N.Device.disk c.args.into)
     (c.in-Ok.ensures.blank t) (c.in-Ok.ensures.any_moment t (c.requires.sound t)) c.in-Ok-take_behind.ensures.takes
 
@@ -29,13 +29,13 @@ pub returns-in-Err-take_behind-clause-any_moment : goal.returns-in-Err-take_behi
 returns-in-Err-take_behind-clause-any_moment g c t =
     let reads = HoldsRead (g.D.Device.holds c.args.from.now) (head_record c.args.rules.profile c.args.rules.clients_max ∷ []) c.args.scan.now in
     subst (λ d. LeavesOnly (g.N.Device.disk c.args.into) (g.N.Device.disk d) (MayBeSalvaged reads (g.N.Device.disk c.args.into))) (sym c.into_device.ensures)
-    (moments_behind c.args.rules (c.get-clients.ensures.positive, c.get-clients.ensures.at_most) g.N.Device.disk g.N.Device.tells (g.D.Device.holds c.args.from.now) c.args.scan.now c.in-Ok.keeper
+    (moments_behind c.args.rules c.expose_bound.ensures g.N.Device.disk g.N.Device.tells (g.D.Device.holds c.args.from.now) c.args.scan.now c.in-Ok.keeper
     c.take_behind.new.keeper (λ u. c.in-Ok.ensures.kept u (c.requires.sound u)) c.in-Ok.ensures.empty t (Err c.in-Err-take_behind.fault) (g.N.Device.disk c.args.into)
     (c.in-Ok.ensures.blank t) (c.in-Ok.ensures.any_moment t (c.requires.sound t)) c.in-Err-take_behind.ensures.takes)
 
 pub returns-in-Err-clause-any_moment : goal.returns-in-Err-clause-any_moment
 returns-in-Err-clause-any_moment g c t =
-    moments_not_made c.args.rules (c.get-clients.ensures.positive, c.get-clients.ensures.at_most) (g.D.Device.holds c.args.from.now) c.args.scan.now (g.N.Device.disk c.args.into)
+    moments_not_made c.args.rules c.expose_bound.ensures (g.D.Device.holds c.args.from.now) c.args.scan.now (g.N.Device.disk c.args.into)
     (g.N.Device.disk c.in-Err.failed.device) (c.in-Err.ensures.any_moment t (c.requires.sound t))
 
 pub returns-in-Err-clause-cause_new : goal.returns-in-Err-clause-cause_new
@@ -47,14 +47,14 @@ returns-in-Err-clause-cause_new g c t = record {
 
 pub returns-in-Ok-take_behind-clause-cause_new : goal.returns-in-Ok-take_behind-clause-cause_new
 returns-in-Ok-take_behind-clause-cause_new g c t =
-    cause_behind c.args.rules (c.get-clients.ensures.positive, c.get-clients.ensures.at_most) g.N.Device.disk g.N.Device.tells (g.D.Device.holds c.args.from.now) c.args.scan.now c.in-Ok.keeper
+    cause_behind c.args.rules c.expose_bound.ensures g.N.Device.disk g.N.Device.tells (g.D.Device.holds c.args.from.now) c.args.scan.now c.in-Ok.keeper
     c.take_behind.new.keeper (λ u. c.in-Ok.ensures.kept u (c.requires.sound u)) c.in-Ok.ensures.empty t (Ok (c.in-Ok-take_behind.extent, c.in-Ok-take_behind.stop)) (g.N.Device.disk c.args.into)
     (c.in-Ok.ensures.cause t).ok c.in-Ok-take_behind.ensures.takes
 
 pub returns-in-Err-take_behind-clause-cause_new : goal.returns-in-Err-take_behind-clause-cause_new
 returns-in-Err-take_behind-clause-cause_new g c t =
     subst (λ d. HasNewCause (new_part c.in-Err-take_behind.fault) (g.N.Device.disk c.args.into) (g.N.Device.disk d)) (sym c.into_device.ensures)
-    (cause_behind c.args.rules (c.get-clients.ensures.positive, c.get-clients.ensures.at_most) g.N.Device.disk g.N.Device.tells (g.D.Device.holds c.args.from.now) c.args.scan.now c.in-Ok.keeper
+    (cause_behind c.args.rules c.expose_bound.ensures g.N.Device.disk g.N.Device.tells (g.D.Device.holds c.args.from.now) c.args.scan.now c.in-Ok.keeper
     c.take_behind.new.keeper (λ u. c.in-Ok.ensures.kept u (c.requires.sound u)) c.in-Ok.ensures.empty t (Err c.in-Err-take_behind.fault) (g.N.Device.disk c.args.into)
     (c.in-Ok.ensures.cause t).ok c.in-Err-take_behind.ensures.takes)
 

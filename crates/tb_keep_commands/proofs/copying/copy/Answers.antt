@@ -26,5 +26,5 @@ returns-in-Err g c = record {
     same = c.in-Err.ensures.same;
     looks = c.in-Err.ensures.looks;
   };
-  copies = (rw c.disk_fault.ensures refl, refl, refl);
+  copies = (rw c.disk_fault.ensures refl, refl);
 }

@@ -5,4 +5,4 @@ pub returns-in-Ok : goal.returns-in-Ok
 returns-in-Ok g c = record { answer = Ok c.in-Ok.into; answered = c.in-Ok.ensures.made; done = c.copy.ensures }
 
 pub returns-in-Err : goal.returns-in-Err
-returns-in-Err g c = record { answer = Err c.in-Err.fault; answered = c.in-Err.ensures.made; done = (refl, (refl, refl)) }
+returns-in-Err g c = record { answer = Err c.in-Err.fault; answered = c.in-Err.ensures.made; done = (refl, refl) }

@@ -14,5 +14,5 @@ returns-in-Err g c = record {
   len = Err c.in-Err.fault;
   between = c.len.new.self;
   asked = record { long = c.in-Err.ensures.bytes; same = c.in-Err.ensures.same; looks = c.in-Err.ensures.looks };
-  serves = (rw c.disk_fault.ensures refl, refl, refl, refl);
+  serves = (rw c.disk_fault.ensures refl, refl);
 }

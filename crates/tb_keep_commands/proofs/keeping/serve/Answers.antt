@@ -10,7 +10,7 @@ returns g c = record {
   cut = printed_cut _ _ _ _ _ _ c.cut_bytes-cut.ensures (omega arith) c.print_cut.ensures;
   ready = rw (c.commit.ensures.value, c.time.ensures, c.machine-machine.ensures) at c.print_ready.ensures;
   result = c.keep-kept.result;
-  after = c.keep-kept.new.keeper;
+  left = c.keep-kept.new.keeper;
   served = c.keep-kept.ensures.served;
   outcome_is = rw (c.kept_outcome.ensures, c.failed_pipe.ensures, c.failures-failures.ensures, c.failures.ensures) refl;
 }

@@ -25,8 +25,6 @@ returns-in-Err g c = record {
     outcome_is = refl;
     left = c.refused.ensures.0;
     names = c.refused.ensures.1;
-    unread = refl;
-    unwritten = refl;
-    silent = refl;
+    nothing = refl;
   };
 }

@@ -20,3 +20,9 @@ returns-in-SyncFailed g c = rw c.in-SyncFailed.is c.put_named-in-SyncFailed.ensu
 
 pub returns-in-Gone : goal.returns-in-Gone
 returns-in-Gone g c = rw c.in-Gone.is c.put_named-in-Gone.ensures
+
+pub returns-in-Request : goal.returns-in-Request
+returns-in-Request g c = rw c.in-Request.is (rw c.name.ensures at c.put_both.ensures)
+
+pub returns-in-Damaged : goal.returns-in-Damaged
+returns-in-Damaged g c = rw c.in-Damaged.is (rw c.next_of.ensures at c.put_damaged.ensures)

@@ -12,6 +12,18 @@ returns-in-Former g c = rw c.in-Former.is c.put_named-in-Former.ensures
 pub returns-in-Dump : goal.returns-in-Dump
 returns-in-Dump g c = rw c.in-Dump.is c.put_named-in-Dump.ensures
 
+pub returns-in-NoRecord : goal.returns-in-NoRecord
+returns-in-NoRecord g c = rw c.in-NoRecord.is c.put_named-in-NoRecord.ensures
+
+pub returns-in-Begun : goal.returns-in-Begun
+returns-in-Begun g c = rw c.in-Begun.is c.put_named-in-Begun.ensures
+
+pub returns-in-Ledger : goal.returns-in-Ledger
+returns-in-Ledger g c = rw c.in-Ledger.is c.put_named-in-Ledger.ensures
+
+pub returns-in-Log : goal.returns-in-Log
+returns-in-Log g c = rw c.in-Log.is c.put_named-in-Log.ensures
+
 pub returns-in-Script : goal.returns-in-Script
 returns-in-Script g c = rw c.in-Script.is c.put_named-in-Script.ensures
 

@@ -30,5 +30,11 @@ returns-in-Empty g c = rw c.in-Empty.is c.put_named-in-Empty.ensures
 pub returns-in-Full : goal.returns-in-Full
 returns-in-Full g c = rw c.in-Full.is c.put_named-in-Full.ensures
 
+pub returns-in-ReadOnly : goal.returns-in-ReadOnly
+returns-in-ReadOnly g c = rw c.in-ReadOnly.is c.put_named-in-ReadOnly.ensures
+
+pub returns-in-TooMany : goal.returns-in-TooMany
+returns-in-TooMany g c = rw c.in-TooMany.is c.put_named-in-TooMany.ensures
+
 pub returns-in-Forbidden : goal.returns-in-Forbidden
 returns-in-Forbidden g c = rw c.in-Forbidden.is c.put_named-in-Forbidden.ensures

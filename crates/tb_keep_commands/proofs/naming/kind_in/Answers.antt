@@ -1,12 +1,12 @@
 use Rattle.std.proofs.Common.{Ok, Err, refl, ap, ◌∙◌, arith}
-use Rattle.tb_keep_commands.specs.Kinds.{kind_of}
+use Rattle.tb_keep_commands.specs.Kinds.{file_kind}
 use Rattle.tb_keep_commands.proofs.FirstBytes.{first_bytes}
 use Rattle.tb_keep_commands.proofs.naming.kind_in.Goals as goal
 
 pub returns-in-Ok : goal.returns-in-Ok
 returns-in-Ok g c = record {
   read = Ok c.in-Ok.count;
-  kind_is = λ file holds. c.kind_of.ensures ∙ ap kind_of (first_bytes c.in-Ok.count 56 _ file (c.in-Ok.ensures.bytes file holds) (omega arith));
+  kind_is = λ file holds. c.kind_of.ensures ∙ ap file_kind (first_bytes c.in-Ok.count 56 _ file (c.in-Ok.ensures.bytes file holds) (omega arith));
   looks = c.in-Ok.ensures.looks;
 }
 

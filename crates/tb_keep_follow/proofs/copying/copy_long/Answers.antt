@@ -14,7 +14,7 @@ returns-in-Ok g c = record {
     untouched = c.in-Ok.ensures.untouched;
     cause_old = c.in-Ok.ensures.cause_old;
   };
-  copies = c.end_copy.ensures;
+  copies = c.end_by.ensures;
 }
 
 pub returns-in-Err : goal.returns-in-Err
@@ -30,5 +30,11 @@ returns-in-Err g c = record {
     untouched = c.in-Err.ensures.untouched;
     cause_old = c.in-Err.ensures.cause_old;
   };
-  copies = (rw c.uncopied_fault.ensures refl, refl, refl);
+  copies = (rw c.uncopied_fault.ensures refl, refl);
 }
+
+pub end_by-requires-clause-usable : goal.end_by-requires-clause-usable
+end_by-requires-clause-usable g c = (c.in-Ok.ensures.copied).usable
+
+pub end_by-requires-clause-ready : goal.end_by-requires-clause-ready
+end_by-requires-clause-ready g c = (c.in-Ok.ensures.copied).ready

@@ -10,7 +10,7 @@ returns g c = record {
   cut = printed_cut _ _ _ _ _ _ c.cut_bytes-cut.ensures (omega arith) c.print_cut.ensures;
   wanted = rw c.position.ensures at c.print_wanted.ensures;
   result = c.keep_log-kept.result;
-  after = c.keep_log-kept.new.keeper;
+  left = c.keep_log-kept.new.keeper;
   served = c.keep_log-kept.ensures.served;
   outcome_is = rw (c.kept_outcome.ensures, c.failed_pipe.ensures, c.failures-failures.ensures, c.failures.ensures) refl;
 }

@@ -19,8 +19,6 @@ returns-in-Err g c = record {
   follows = record {
     left = c.named-fault.new.device;
     refused = record { named = c.named-fault.result; outcome_is = refl; names = c.named-fault.ensures };
-    unread = refl;
-    unwritten = refl;
-    silent = refl;
+    nothing = refl;
   };
 }

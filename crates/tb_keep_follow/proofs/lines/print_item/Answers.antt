@@ -1,10 +1,10 @@
 use Rattle.tb_keep_follow.proofs.lines.print_item.Goals as goal
 
 pub returns-in-UnknownKind : goal.returns-in-UnknownKind
-returns-in-UnknownKind g c = rw c.in-UnknownKind.is c.print_number.ensures
+returns-in-UnknownKind g c = rw c.in-UnknownKind.is c.print_place.ensures
 
 pub returns-in-Gap : goal.returns-in-Gap
-returns-in-Gap g c = rw c.in-Gap.is c.print_number-in-Gap.ensures
+returns-in-Gap g c = rw c.in-Gap.is c.print_number.ensures
 
 pub returns-in-Repeat : goal.returns-in-Repeat
 returns-in-Repeat g c = rw c.in-Repeat.is c.print_number-in-Repeat.ensures
@@ -19,7 +19,7 @@ pub returns-in-TimeExhausted : goal.returns-in-TimeExhausted
 returns-in-TimeExhausted g c = rw c.in-TimeExhausted.is c.print_number-in-TimeExhausted.ensures
 
 pub returns-in-BadEntry : goal.returns-in-BadEntry
-returns-in-BadEntry g c = rw c.in-BadEntry.is (rw c.name.ensures at c.print_place.ensures)
+returns-in-BadEntry g c = rw c.in-BadEntry.is (rw c.name.ensures at c.print_place-in-BadEntry.ensures)
 
 pub returns-in-Short : goal.returns-in-Short
 returns-in-Short g c = rw c.in-Short.is c.print_text.ensures

@@ -1,11 +1,9 @@
 use Rattle.std.proofs.Common.{ℕ, List}
-use Rattle.tb_records.specs.Transport.{Output}
-use Rattle.tb_machine.specs.Histories.{State}
-use Rattle.tb_keep_follow.specs.Parts.{Grown}
+use Rattle.tb_keep_follow.specs.Parts.{DumpPoint, WritesGrownLog, point_at, selected}
 use Rattle.tb_keep_follow.proofs.parts.send_on.Given as goal
 
 abbrev pub invariant-loop : goal.invariant-loop
 invariant-loop g l =
-    (S : State) (file : List ℕ) (before : Output)
-    → Grown (g.O.Reading.Device.holds l.fn.device) l.fn.wanted.above l.fn.wanted.rules S file l.fn.reading.scan l.fn.reading.machine before (g.W.Sink.output l.fn.writer)
-    → Grown (g.O.Reading.Device.holds l.device) l.fn.wanted.above l.fn.wanted.rules S file l.reading.scan l.reading.machine before (g.W.Sink.output l.writer)
+    (file : List ℕ) (before : DumpPoint)
+    → WritesGrownLog (g.O.Reading.Device.holds l.fn.device) (selected l.fn.wanted) file l.fn.reading.scan before (point_at g.W.Sink l.fn.reading l.fn.writer)
+    → WritesGrownLog (g.O.Reading.Device.holds l.device) (selected l.fn.wanted) file l.reading.scan before (point_at g.W.Sink l.reading l.writer)

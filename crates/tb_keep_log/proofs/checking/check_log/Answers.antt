@@ -7,7 +7,7 @@ use Rattle.tb_keep_log.proofs.checking.check_log.Goals as goal
 pub returns-in-Ok-clause-found : goal.returns-in-Ok-clause-found
 returns-in-Ok-clause-found g c file holds =
     let restored = c.in-Ok.ensures.found file holds in
-    checks_end c.args.rules.profile c.args.rules.clients_max file c.in-Ok.follower c.in-Ok.extent restored c.ends_short.result
+    checks_end c.args.rules.now.profile c.args.rules.now.clients_max file c.in-Ok.follower c.in-Ok.extent restored c.ends_short.result
     ((rw c.of-reached.ensures at c.ends_short.ensures.ends) file (c.in-Ok.ensures.same file holds) restored.extent_is)
 
 pub returns-in-Ok-clause-untouched : goal.returns-in-Ok-clause-untouched
@@ -21,7 +21,7 @@ returns-in-Ok-clause-cause g c t =
     c.ends_short.result (c.ends_short.ensures.cause t)
 
 pub returns-in-Err-clause-found : goal.returns-in-Err-clause-found
-returns-in-Err-clause-found g c file holds = stops_opening c.args.rules.profile c.args.rules.clients_max c.in-Err.fault file (c.in-Err.ensures.found file holds)
+returns-in-Err-clause-found g c file holds = stops_opening c.args.rules.now.profile c.args.rules.now.clients_max c.in-Err.fault file (c.in-Err.ensures.found file holds)
 
 pub returns-in-Err-clause-cause : goal.returns-in-Err-clause-cause
 returns-in-Err-clause-cause g c t = record { ok = tt; cause = (c.in-Err.ensures.cause t).cause }

@@ -8,7 +8,7 @@ use Rattle.tb_keep_log.proofs.copying.copy_log.Goals as goal
 pub returns-in-Ok-clause-copied : goal.returns-in-Ok-clause-copied
 returns-in-Ok-clause-copied g c =
     ok_of (HoldsRead (g.D.Device.holds c.start.new.device) [] c.in-Ok.scan) (g.D.Device.holds c.args.from.now)
-    (λ file of. (c.in-Ok.ensures.same file of, c.in-Ok.ensures.begun file of)) c.args.rules.profile c.args.rules.clients_max g.N.Device.tells g.N.Device.disk c.copy_by.result c.copy_by.ensures.copied
+    (λ file of. (c.in-Ok.ensures.same file of, c.in-Ok.ensures.begun file of)) c.args.rules.now.profile c.args.rules.now.clients_max g.N.Device.tells g.N.Device.disk c.copy_by.result c.copy_by.ensures.copied
 
 pub returns-in-Ok-clause-uncopied : goal.returns-in-Ok-clause-uncopied
 returns-in-Ok-clause-uncopied g c file of = c.copy_by.ensures.uncopied file (c.in-Ok.ensures.same file of, c.in-Ok.ensures.begun file of)
@@ -16,7 +16,7 @@ returns-in-Ok-clause-uncopied g c file of = c.copy_by.ensures.uncopied file (c.i
 pub returns-in-Ok-clause-any_moment : goal.returns-in-Ok-clause-any_moment
 returns-in-Ok-clause-any_moment g c t =
     moments_of (HoldsRead (g.D.Device.holds c.start.new.device) [] c.in-Ok.scan) (g.D.Device.holds c.args.from.now)
-    (λ file of. (c.in-Ok.ensures.same file of, c.in-Ok.ensures.begun file of)) c.args.rules.profile c.args.rules.clients_max (g.N.Device.disk c.args.into) _ (c.copy_by.ensures.any_moment t)
+    (λ file of. (c.in-Ok.ensures.same file of, c.in-Ok.ensures.begun file of)) c.args.rules.now.profile c.args.rules.now.clients_max (g.N.Device.disk c.args.into) _ (c.copy_by.ensures.any_moment t)
 
 pub returns-in-Ok-clause-cause_old : goal.returns-in-Ok-clause-cause_old
 returns-in-Ok-clause-cause_old g c t =
@@ -31,4 +31,4 @@ returns-in-Err-clause-uncopied g c file holds = start_uncopied c.in-Err.fault fi
 
 pub returns-in-Err-clause-any_moment : goal.returns-in-Err-clause-any_moment
 returns-in-Err-clause-any_moment g c t =
-    none_made (g.N.Device.disk c.args.into) (g.D.Device.holds c.args.from.now) c.args.rules.profile c.args.rules.clients_max (g.met.N.Device.only_now c.args.into)
+    none_made (g.N.Device.disk c.args.into) (g.D.Device.holds c.args.from.now) c.args.rules.now.profile c.args.rules.now.clients_max (g.met.N.Device.only_now c.args.into)

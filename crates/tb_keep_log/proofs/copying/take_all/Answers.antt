@@ -15,7 +15,7 @@ loop-fault-init g c = record {
   ready = c.requires.ready;
   taken = (
     [],
-    taken_none g.N.Device.tells g.N.Device.disk c.args.rules.profile c.args.rules.clients_max (g.D.Device.holds c.args.from.now) c.args.scan.now c.args.follower.now c.args.journal.now
+    taken_none g.N.Device.tells g.N.Device.disk c.args.rules.now.profile c.args.rules.now.clients_max (g.D.Device.holds c.args.from.now) c.args.scan.now c.args.follower.now c.args.journal.now
         (λ t. g.met.N.Device.only_now c.args.journal.now.device) c.requires.usable c.requires.ready,
   );
 }
@@ -23,7 +23,7 @@ loop-fault-init g c = record {
 pub loop-fault-preserved : goal.loop-fault-preserved
 loop-fault-preserved g c =
     let (records, so_far) = c.loop-fault.invariant.taken in
-    let on = taken_on g.N.Device.tells g.N.Device.disk c.args.rules.profile c.args.rules.clients_max (g.D.Device.holds c.args.from.now) (g.D.Device.holds c.loop-fault.from) c.loop-fault.invariant.same
+    let on = taken_on g.N.Device.tells g.N.Device.disk c.args.rules.now.profile c.args.rules.now.clients_max (g.D.Device.holds c.args.from.now) (g.D.Device.holds c.loop-fault.from) c.loop-fault.invariant.same
     records c.args.scan.now c.loop-fault.scan c.take_next.new.scan c.args.follower.now c.loop-fault.follower c.take_next.new.follower c.args.journal.now c.loop-fault.journal c.take_next.new.journal so_far
     (rw c.in-Ok-true.field-0-test at c.in-Ok-true.ensures.takes) in
     record {
@@ -52,8 +52,9 @@ returns-in-Ok-false-clause-takes g c =
       reached_is = rw c.of-reached.ensures refl;
       end = rw (c.of-reached.ensures, c.extent.ensures.end) refl;
       count = rw (c.of-reached.ensures, c.extent.ensures.count) refl;
-      ends = ends_by g.N.Device.tells g.N.Device.disk c.args.rules.profile c.args.rules.clients_max (g.D.Device.holds c.args.from.now) (g.D.Device.holds c.loop-fault.from) c.loop-fault.invariant.same (Ok tt)
+      ends = ends_by g.N.Device.tells g.N.Device.disk c.args.rules.now.profile c.args.rules.now.clients_max (g.D.Device.holds c.args.from.now) (g.D.Device.holds c.loop-fault.from) c.loop-fault.invariant.same (Ok tt)
           c.loop-fault.scan c.loop-fault.follower c.loop-fault.journal c.take_next.new.journal (rw c.in-Ok-false.field-0-test at c.in-Ok-false.ensures.takes);
+      unread = rw c.in-Ok-false.field-0-test at c.in-Ok-false.ensures.unread;
     }
 
 pub returns-in-Err-clause-takes : goal.returns-in-Err-clause-takes
@@ -68,8 +69,9 @@ returns-in-Err-clause-takes g c =
       reached_is = rw c.of-reached.ensures refl;
       end = rw (c.of-reached.ensures, c.extent.ensures.end) refl;
       count = rw (c.of-reached.ensures, c.extent.ensures.count) refl;
-      ends = ends_by g.N.Device.tells g.N.Device.disk c.args.rules.profile c.args.rules.clients_max (g.D.Device.holds c.args.from.now) (g.D.Device.holds c.loop-fault.from) c.loop-fault.invariant.same (Err c.in-Err.fault)
+      ends = ends_by g.N.Device.tells g.N.Device.disk c.args.rules.now.profile c.args.rules.now.clients_max (g.D.Device.holds c.args.from.now) (g.D.Device.holds c.loop-fault.from) c.loop-fault.invariant.same (Err c.in-Err.fault)
           c.loop-fault.scan c.loop-fault.follower c.loop-fault.journal c.take_next.new.journal c.in-Err.ensures.takes;
+      unread = c.in-Err.ensures.unread;
     }
 
 pub returns-in-Err-clause-stays : goal.returns-in-Err-clause-stays

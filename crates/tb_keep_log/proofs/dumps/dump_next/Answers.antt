@@ -19,7 +19,7 @@ pub returns-in-Err-dump_record-clause-dumps : goal.returns-in-Err-dump_record-cl
 returns-in-Err-dump_record-clause-dumps g c file read holds has =
     let new = c.read_record.new.scan in
     let next = (rw c.in-Ok-true.field-0-test at c.in-Ok-true.ensures.reads) file read holds has in
-    next_halts c.args.above c.args.rules.profile c.args.rules.clients_max read new.last file next.reads.begins c.in-Err-dump_record.fault c.extent-last.result.count new c.args.machine.now c.dump_record.new.machine
+    next_halts c.args.above c.args.rules.now.profile c.args.rules.now.clients_max read new.last file next.reads.begins c.in-Err-dump_record.fault c.extent-last.result.count new c.args.machine.now c.dump_record.new.machine
     (g.W.Sink.output c.args.writer.now) (g.W.Sink.output c.dump_record.new.writer) (c.extent-last.ensures.count ∙ has.count) (rw c.record-bytes.ensures at c.in-Err-dump_record.ensures)
 
 pub returns-in-Err-clause-dumps : goal.returns-in-Err-clause-dumps
@@ -32,6 +32,6 @@ returns-in-Err-clause-dumps g c file read holds has =
 pub returns-in-Err-dump_record-clause-cause : goal.returns-in-Err-dump_record-clause-cause
 returns-in-Err-dump_record-clause-cause g c t read has = record {
   ok = tt;
-  cause = dump_cause (g.D.Device.disk c.args.device.now) (g.D.Device.disk c.read_record.new.device) c.in-Err-dump_record.fault c.args.rules.profile c.args.rules.clients_max c.extent-last.result.count
+  cause = dump_cause (g.D.Device.disk c.args.device.now) (g.D.Device.disk c.read_record.new.device) c.in-Err-dump_record.fault c.args.rules.now.profile c.args.rules.now.clients_max c.extent-last.result.count
       c.record-bytes.result.now c.in-Err-dump_record.ensures.0 (c.in-Ok-true.ensures.cause t read has).ok;
 }

@@ -16,11 +16,11 @@ by above profile clients_max last S T bytes a b (Err fault) marked dumps = recor
 
 pub returns-in-Ok : goal.returns-in-Ok
 returns-in-Ok g c =
-    by c.args.above c.args.rules.profile c.args.rules.clients_max c.args.last c.args.machine.now c.dump_content.new.machine c.args.bytes.now (g.W.Sink.output c.args.writer.now) (g.W.Sink.output c.dump_content.new.writer)
+    by c.args.above c.args.rules.now.profile c.args.rules.now.clients_max c.args.last c.args.machine.now c.dump_content.new.machine c.args.bytes.now (g.W.Sink.output c.args.writer.now) (g.W.Sink.output c.dump_content.new.writer)
     c.dump_content.result (c.in-Ok.ensures.marked, c.in-Ok.ensures.long)
     (subst (λ (bs : List ℕ). DumpsContent c.args.above c.dump_content.result c.args.machine.now c.dump_content.new.machine bs (g.W.Sink.output c.args.writer.now) (g.W.Sink.output c.dump_content.new.writer))
     (whole_content c.args.bytes.now) c.dump_content.ensures)
 
 pub returns-in-Err : goal.returns-in-Err
 returns-in-Err g c =
-    record_refused c.args.above c.args.rules.profile c.args.rules.clients_max c.args.last c.args.machine.now c.args.machine.now c.args.bytes.now (g.W.Sink.output c.args.writer.now) c.in-Err.fault c.in-Err.ensures.refused
+    record_refused c.args.above c.args.rules.now.profile c.args.rules.now.clients_max c.args.last c.args.machine.now c.args.machine.now c.args.bytes.now (g.W.Sink.output c.args.writer.now) c.in-Err.fault c.in-Err.ensures.refused

@@ -10,7 +10,7 @@ loop-fault-init g c = record {
   same = λ file holds. holds;
   stays = λ t. stays_none (g.D.Device.disk c.args.device.now) (g.met.D.Device.only_now c.args.device.now);
   none = λ t read has fault. refl;
-  dumped = λ file read holds has. dumped_none c.args.above c.args.rules.profile c.args.rules.clients_max read file c.args.scan.now c.args.machine.now (g.W.Sink.output c.args.writer.now) has;
+  dumped = λ file read holds has. dumped_none c.args.above c.args.rules.now.profile c.args.rules.now.clients_max read file c.args.scan.now c.args.machine.now (g.W.Sink.output c.args.writer.now) has;
 }
 
 pub loop-fault-preserved : goal.loop-fault-preserved
@@ -27,7 +27,7 @@ loop-fault-preserved g c = record {
       none_since old now (g.D.Device.disk c.dump_next.new.device) (c.loop-fault.invariant.none t read has) (c.in-Ok-true.ensures.cause t (read ++ so_far.records) here).ok;
   dumped = λ file read holds has.
       let so_far = c.loop-fault.invariant.dumped file read holds has in
-      dumped_more c.args.above c.args.rules.profile c.args.rules.clients_max read file file c.loop-fault.scan c.dump_next.new.scan c.args.machine.now c.loop-fault.machine c.dump_next.new.machine
+      dumped_more c.args.above c.args.rules.now.profile c.args.rules.now.clients_max read file file c.loop-fault.scan c.dump_next.new.scan c.args.machine.now c.loop-fault.machine c.dump_next.new.machine
       (g.W.Sink.output c.args.writer.now) (g.W.Sink.output c.loop-fault.writer) (g.W.Sink.output c.dump_next.new.writer) so_far
       ((rw c.in-Ok-true.field-0-test at c.in-Ok-true.ensures.dumps) file (read ++ so_far.records) (c.loop-fault.invariant.same file holds) so_far.has);
 }
@@ -35,7 +35,7 @@ loop-fault-preserved g c = record {
 pub returns-in-Ok-false-clause-dumps : goal.returns-in-Ok-false-clause-dumps
 returns-in-Ok-false-clause-dumps g c file read holds has =
     let so_far = c.loop-fault.invariant.dumped file read holds has in
-    dumped_all c.args.above c.args.rules.profile c.args.rules.clients_max read file file c.loop-fault.scan c.dump_next.new.scan c.args.machine.now c.loop-fault.machine c.dump_next.new.machine
+    dumped_all c.args.above c.args.rules.now.profile c.args.rules.now.clients_max read file file c.loop-fault.scan c.dump_next.new.scan c.args.machine.now c.loop-fault.machine c.dump_next.new.machine
     (g.W.Sink.output c.args.writer.now) (g.W.Sink.output c.loop-fault.writer) (g.W.Sink.output c.dump_next.new.writer) so_far
     ((rw c.in-Ok-false.field-0-test at c.in-Ok-false.ensures.dumps) file (read ++ so_far.records) (c.loop-fault.invariant.same file holds) so_far.has)
 
@@ -50,7 +50,7 @@ returns-in-Ok-false-clause-cause g c t read has =
 pub returns-in-Err-clause-dumps : goal.returns-in-Err-clause-dumps
 returns-in-Err-clause-dumps g c file read holds has =
     let so_far = c.loop-fault.invariant.dumped file read holds has in
-    dumped_not c.args.above c.args.rules.profile c.args.rules.clients_max read file file c.loop-fault.scan c.dump_next.new.scan c.args.machine.now c.loop-fault.machine c.dump_next.new.machine
+    dumped_not c.args.above c.args.rules.now.profile c.args.rules.now.clients_max read file file c.loop-fault.scan c.dump_next.new.scan c.args.machine.now c.loop-fault.machine c.dump_next.new.machine
     (g.W.Sink.output c.args.writer.now) (g.W.Sink.output c.loop-fault.writer) (g.W.Sink.output c.dump_next.new.writer) so_far c.in-Err.fault
     (c.in-Err.ensures.dumps file (read ++ so_far.records) (c.loop-fault.invariant.same file holds) so_far.has)
 

@@ -3,4 +3,4 @@ use Rattle.tb_keep_log.proofs.entries.enter_record.Goals as goal
 
 pub returns-in-Err : goal.returns-in-Err
 returns-in-Err g c =
-    mark_stops c.in-Err.fault c.args.rules.profile c.args.rules.clients_max c.args.follower.now c.args.bytes.now (rw c.position.ensures at c.in-Err.ensures.refused)
+    mark_stops c.in-Err.fault c.args.rules.now.profile c.args.rules.now.clients_max c.args.follower.now c.args.bytes.now (rw c.position.ensures at c.in-Err.ensures.refused)

@@ -10,7 +10,7 @@ loop-fault-init g c = record {
   same = λ file holds. holds;
   stays = λ t. stays_none (g.D.Device.disk c.args.device.now) (g.met.D.Device.only_now c.args.device.now);
   none = λ t read has fault. refl;
-  entered = λ file read holds has. entered_none c.args.rules.profile c.args.rules.clients_max read file c.args.scan.now c.args.follower.now has;
+  entered = λ file read holds has. entered_none c.args.rules.now.profile c.args.rules.now.clients_max read file c.args.scan.now c.args.follower.now has;
 }
 
 pub loop-fault-preserved : goal.loop-fault-preserved
@@ -27,14 +27,14 @@ loop-fault-preserved g c = record {
       none_since old now (g.D.Device.disk c.enter_next.new.device) (c.loop-fault.invariant.none t read has) (c.in-Ok-true.ensures.cause t (read ++ so_far.records) here).ok;
   entered = λ file read holds has.
       let so_far = c.loop-fault.invariant.entered file read holds has in
-      entered_more c.args.rules.profile c.args.rules.clients_max read file c.loop-fault.scan c.enter_next.new.scan c.args.follower.now c.loop-fault.follower c.enter_next.new.follower so_far
+      entered_more c.args.rules.now.profile c.args.rules.now.clients_max read file c.loop-fault.scan c.enter_next.new.scan c.args.follower.now c.loop-fault.follower c.enter_next.new.follower so_far
       ((rw c.in-Ok-true.field-0-test at c.in-Ok-true.ensures.enters) file (read ++ so_far.records) (c.loop-fault.invariant.same file holds) so_far.has);
 }
 
 pub returns-in-Ok-false-clause-enters : goal.returns-in-Ok-false-clause-enters
 returns-in-Ok-false-clause-enters g c file read holds has =
     let so_far = c.loop-fault.invariant.entered file read holds has in
-    entered_all c.args.rules.profile c.args.rules.clients_max read file c.loop-fault.scan c.enter_next.new.scan c.args.follower.now c.loop-fault.follower c.enter_next.new.follower so_far
+    entered_all c.args.rules.now.profile c.args.rules.now.clients_max read file c.loop-fault.scan c.enter_next.new.scan c.args.follower.now c.loop-fault.follower c.enter_next.new.follower so_far
     ((rw c.in-Ok-false.field-0-test at c.in-Ok-false.ensures.enters) file (read ++ so_far.records) (c.loop-fault.invariant.same file holds) so_far.has)
 
 pub returns-in-Ok-false-clause-cause : goal.returns-in-Ok-false-clause-cause
@@ -48,7 +48,7 @@ returns-in-Ok-false-clause-cause g c t read has =
 pub returns-in-Err-clause-enters : goal.returns-in-Err-clause-enters
 returns-in-Err-clause-enters g c file read holds has =
     let so_far = c.loop-fault.invariant.entered file read holds has in
-    entered_not c.args.rules.profile c.args.rules.clients_max read file c.loop-fault.scan c.enter_next.new.scan c.args.follower.now c.loop-fault.follower c.enter_next.new.follower so_far c.in-Err.fault
+    entered_not c.args.rules.now.profile c.args.rules.now.clients_max read file c.loop-fault.scan c.enter_next.new.scan c.args.follower.now c.loop-fault.follower c.enter_next.new.follower so_far c.in-Err.fault
     (c.in-Err.ensures.enters file (read ++ so_far.records) (c.loop-fault.invariant.same file holds) so_far.has)
 
 pub returns-in-Err-clause-cause : goal.returns-in-Err-clause-cause

@@ -17,7 +17,7 @@ pub returns-in-Err-enter_record-clause-enters : goal.returns-in-Err-enter_record
 returns-in-Err-enter_record-clause-enters g c file read holds has =
     let new = c.read_record.new.scan in
     let next = (rw c.in-Ok-true.field-0-test at c.in-Ok-true.ensures.reads) file read holds has in
-    enters_not c.args.rules.profile c.args.rules.clients_max c.in-Err-enter_record.fault read file new.last new c.args.follower.now c.enter_record.new.follower next.reads.begins
+    enters_not c.args.rules.now.profile c.args.rules.now.clients_max c.in-Err-enter_record.fault read file new.last new c.args.follower.now c.enter_record.new.follower next.reads.begins
     (rw c.record.ensures at c.in-Err-enter_record.ensures)
 
 pub returns-in-Err-clause-enters : goal.returns-in-Err-clause-enters
@@ -28,6 +28,6 @@ returns-in-Err-clause-enters g c file read holds has =
 pub returns-in-Err-enter_record-clause-cause : goal.returns-in-Err-enter_record-clause-cause
 returns-in-Err-enter_record-clause-cause g c t read has = record {
   ok = tt;
-  cause = record_cause (g.D.Device.disk c.args.device.now) (g.D.Device.disk c.read_record.new.device) c.in-Err-enter_record.fault c.args.rules.profile c.args.rules.clients_max c.args.follower.now
+  cause = record_cause (g.D.Device.disk c.args.device.now) (g.D.Device.disk c.read_record.new.device) c.in-Err-enter_record.fault c.args.rules.now.profile c.args.rules.now.clients_max c.args.follower.now
       c.record.result.now c.in-Err-enter_record.ensures (c.in-Ok-true.ensures.cause t read has).ok;
 }

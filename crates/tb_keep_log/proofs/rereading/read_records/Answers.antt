@@ -4,12 +4,12 @@ use Rattle.tb_keep_log.proofs.rereading.read_records.Goals as goal
 
 pub returns-in-Ok-enter_all-clause-found : goal.returns-in-Ok-enter_all-clause-found
 returns-in-Ok-enter_all-clause-found g c file holds has =
-    restored_whole c.args.rules.profile c.args.rules.clients_max file c.enter_all.new.scan c.in-Ok.follower c.enter_all.new.follower c.in-Ok.ensures c.extent.result c.extent.ensures.end c.extent.ensures.count
+    restored_whole c.args.rules.now.profile c.args.rules.now.clients_max file c.enter_all.new.scan c.in-Ok.follower c.enter_all.new.follower c.in-Ok.ensures c.extent.result c.extent.ensures.end c.extent.ensures.count
     (c.in-Ok-enter_all.ensures.enters file [] holds has)
 
 pub returns-in-Err-clause-found : goal.returns-in-Err-clause-found
 returns-in-Err-clause-found g c file holds has =
-    restored_not c.args.rules.profile c.args.rules.clients_max file c.enter_all.new.scan c.in-Ok.follower c.enter_all.new.follower c.in-Ok.ensures c.in-Err.fault
+    restored_not c.args.rules.now.profile c.args.rules.now.clients_max file c.enter_all.new.scan c.in-Ok.follower c.enter_all.new.follower c.in-Ok.ensures c.in-Err.fault
     (c.in-Err.ensures.enters file [] holds has)
 
 pub returns-in-Ok-enter_all-clause-cause : goal.returns-in-Ok-enter_all-clause-cause

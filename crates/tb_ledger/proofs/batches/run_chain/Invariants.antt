@@ -1,4 +1,4 @@
-use Rattle.tb_ledger.proofs.Common.{◌≡◌, ◌+◌, ◌*◌, ◌-◌, ◌<◌, ◌≤◌, true, [], length, drop, UNDOS_PER_EVENT, failure_from, all_recorded, timed_from, capacity_of, Uses, books_in, IsKept, chained, LeadsBack}
+use Rattle.tb_ledger.proofs.Common.{◌≡◌, ◌+◌, ◌*◌, ◌-◌, ◌<◌, ◌≤◌, true, [], length, drop, UNDOS_PER_EVENT, failure_from, all_recorded, timed_from, capacity_of, Uses, books_in, AreRowsKept, chained, LeadsBack}
 use Rattle.tb_ledger.proofs.batches.run_chain.Given as goal
 
 abbrev pub invariant-loop-i : goal.invariant-loop-i
@@ -9,7 +9,7 @@ invariant-loop-i g l = let kind = g.E.Event.kind in let start = l.initial.work.r
   back : l.i < length l.chain → LeadsBack (chained start) (chained l.work.rows) [] l.work.undo_log.changes;
   failed : l.work.rows.failed ≡ start.failed;
   time : l.work.rows.time ≡ start.time;
-  kept : IsKept l.work.rows;
+  kept : AreRowsKept l.work.rows;
   results : l.work.results ≡ l.initial.work.results;
   stamp : l.stamp ≡ l.time + l.i;
   within : l.i ≤ length l.chain;

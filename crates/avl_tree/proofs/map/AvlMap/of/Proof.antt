@@ -29,7 +29,7 @@ use denote.Triple.Walked.{Stays, stay_dropped, walk_of, Goes-dropped}
 use Rattle.std.specs.declared.alloc.Allocator as Allocator
 use Rattle.std.proofs.alloc.Calls.{Goes-blank}
 use Rattle.std.proofs.raw_atomic.Walks.{proved_at, leaves}
-use Rattle.avl_tree.specs.Nodes.{IsWhole, search_of}
+use Rattle.avl_tree.specs.Nodes.{IsWholeTree, search_of}
 use Rattle.avl_tree.specs.declared.tree.Tree.TheVariants.{Empty, Fork'}
 use Rattle.avl_tree.specs.contracts.tree.Tree as Tree
 use Rattle.avl_tree.specs.contracts.spare.SpareNodes as SpareNodes
@@ -83,7 +83,7 @@ of_spec 𝓤 𝓛 𝓜 𝓡 wired K V A LK LV LA CK o od e ed pe ped po pod c cd
     let Row : RattleType = AvlMap.the_row RK RV RA o pe po g ac in let value : Row.Denot = AvlMap.the_view RK RV RA o pe po g ac made in
     let Ts : List RattleType = types_at En.signature.params z.0.0 in
     let Post : Val → SProp 𝓤 = (walk_of 𝓛 En hs cl).post z in let Run : List Val → SProp 𝓤 = λ ws. WpFn 𝓤 H 𝓣.C 𝓣.Λ fn ws Post in
-    let whole : Type 0 = IsWhole o.cmp root len spare in
+    let whole : Type 0 = IsWholeTree o.cmp root len spare in
     qed 𝓛 ((raw (alive 𝓛 En.signature z.0.0 z.0.1) ⊛ ‵ (owns Ts z.0.3 z.0.4)) ∷ raw (fact 𝓤 _) ∷ raw (fact 𝓤 _) ∷ raw (fact 𝓤 _) ∷ raw (fact 𝓤 whole) ∷ []) ∵
     keep ! (4 ∷ 0 ∷ []) $ heard ! whole (λ holds. split ! $ move ! (1 ∷ []) $
     rewrite ! 0 (λ (ws : Valss Ts). ‵ (owns Ts z.0.3 ws)) (λ i. (e0 i, (e1 i, (e2 i, (e3 i, tt))))) refl $

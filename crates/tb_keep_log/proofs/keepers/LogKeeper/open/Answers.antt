@@ -1,5 +1,5 @@
 use Rattle.std.proofs.Common.{sym, subst, List, ℕ, ◌∙◌}
-use Rattle.tb_keep_log.specs.Rereading.{IsRestored}
+use Rattle.tb_keep_log.specs.Rereading.{IsFollowerRestored}
 use Rattle.tb_keep_log.proofs.Opened.{opened_ready, opens_still, refused_reading, refused_still, stops_opening, untouched_opens}
 use Rattle.tb_keep_log.proofs.keepers.LogKeeper.open.Goals as goal
 
@@ -7,7 +7,7 @@ pub open_unless_torn_long-requires-clause-read : goal.open_unless_torn_long-requ
 open_unless_torn_long-requires-clause-read g c t =
     let old = g.D.Device.disk c.args.device in (
       λ sound. c.in-Ok.ensures.kept t (sym (c.in-Ok.ensures.sound t) ∙ sound),
-      subst (λ (f : List ℕ). IsRestored c.args.rules.profile c.args.rules.clients_max f c.in-Ok.follower c.in-Ok.extent) (sym (c.read_log.ensures.untouched t).seen)
+      subst (λ (f : List ℕ). IsFollowerRestored c.args.rules.profile c.args.rules.clients_max f c.in-Ok.follower c.in-Ok.extent) (sym (c.read_log.ensures.untouched t).seen)
           (c.in-Ok.ensures.found old.seen (g.met.D.Device.holds_seen c.args.device t)),
     )
 

@@ -1,7 +1,7 @@
 use Rattle.std.proofs.Common.{sym, ap, ◌∙◌}
 use Rattle.tb_journal.specs.Creating.{is_blank}
 use Rattle.tb_keep.proofs.Opened.{looked}
-use Rattle.tb_keep_log.specs.Beginning.{why_left}
+use Rattle.tb_keep_log.specs.Beginning.{why_log_left}
 use Rattle.tb_keep_log.proofs.Entering.{has_log_then}
 use Rattle.tb_keep_log.proofs.Opened.{created_as_started, created_at_last, creates_file, has_start_of_created, has_start_of_log, has_start_of_look, looked_at_last, none_aside, not_created_at_last, opened_as_started, start_refused, starts_at_last, starts_file}
 use Rattle.tb_keep_log.proofs.keepers.LogKeeper.start.Goals as goal
@@ -58,7 +58,7 @@ returns-in-Ok-true-clause-cause g c t =
     let disk = g.D.Device.disk in
     let finds = c.in-Ok-true.ensures.finds t in
     has_start_of_created (disk c.args.device) (disk c.finds_blank.new.device) _ finds.cause.ok finds.seen (ap is_blank finds.seen ∙ sym finds.ok ∙ c.in-Ok-true.field-0-test)
-    (why_left c.create.result) (c.create.ensures.cause t)
+    (why_log_left c.create.result) (c.create.ensures.cause t)
 
 pub returns-in-Ok-true-clause-any_moment : goal.returns-in-Ok-true-clause-any_moment
 returns-in-Ok-true-clause-any_moment g c t sound =

@@ -1,4 +1,4 @@
-use Rattle.tb_ledger.proofs.Common.{◌≡◌, ◌==◌, ◌^◌, ◌<◌, ◌||◌, find, refl, sym, subst, ap, ◌∙◌, transfer_result_code, Judges, has, posts, transfer_at, books_in, filled, recorded_transfer}
+use Rattle.tb_ledger.proofs.Common.{◌≡◌, ◌==◌, ◌^◌, ◌<◌, ◌||◌, find, refl, sym, subst, ap, ◌∙◌, transfer_result_code, Judges, posts, transfer_at, books_in, filled, recorded_transfer, has_flag}
 use Rattle.tb_ledger.proofs.Accepted.{id_free, found_stamped}
 use Rattle.tb_ledger.proofs.Refusals.{decides_none}
 use Rattle.tb_ledger.proofs.SoundLaws.{filled_flags}
@@ -32,7 +32,7 @@ settle-requires-clause-resolution g c =
       fresh = ap (transfer_at B) (ap (λ f. f.id) its.filled ∙ filled_id B t) ∙ id_free B t c.requires.free;
       found = ap (λ id. find (λ row. row.recorded.id == id) c.args.work.now.rows.transfers.items) (ap (λ f. f.pending_id) its.filled ∙ filled_pending_id B t) ∙ its.pending;
       plain = subst (λ flags. flags < 2 ^ 8) (sym flags) c.requires.plain;
-      is_resolver = ap (λ flags. has 4 flags || has 8 flags) flags ∙ c.requires.resolving;
+      is_resolver = ap (λ flags. has_flag 4 flags || has_flag 8 flags) flags ∙ c.requires.resolving;
       pending = found_stamped B c.in_ok-pending.field-0.filled c.args.time its.found;
     }
 

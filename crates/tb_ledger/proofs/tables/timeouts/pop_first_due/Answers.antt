@@ -1,4 +1,4 @@
-use Rattle.tb_ledger.proofs.Common.{◌≤◌, ◌+◌, refl, is_some, if◌then◌else◌, sym, ap, subst, ◌∙◌, rising-taken_out, each-taken_out, entries, timeout_key, timeouts_of, AreTimeouts, int_max}
+use Rattle.tb_ledger.proofs.Common.{◌≤◌, ◌+◌, refl, is_some, if◌then◌else◌, sym, ap, subst, ◌∙◌, rising-taken_out, each-taken_out, entries, timeout_key, timeouts_of, AreTimeouts, AMOUNT_MAX}
 use Rattle.tb_ledger.proofs.Entries.{popped-found, popped-rest, popped-some}
 use Rattle.tb_ledger.proofs.tables.timeouts.pop_first_due.Goals as goal
 
@@ -15,7 +15,7 @@ returns g c =
     record {
       ordered = subst AreTimeouts (sym rest) (record {
         rising = rising-taken_out timeout_key (timeout_key d) (timeouts_of es) c.requires.rising;
-        fit = each-taken_out timeout_key (λ d. d.id ≤ int_max) (timeout_key d) (timeouts_of es) c.requires.fit;
+        fit = each-taken_out timeout_key (λ d. d.id ≤ AMOUNT_MAX) (timeout_key d) (timeouts_of es) c.requires.fit;
       });
       taken = (due.0, found, rw (rest, one) refl);
     }

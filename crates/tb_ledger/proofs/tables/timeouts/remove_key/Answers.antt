@@ -1,4 +1,4 @@
-use Rattle.tb_ledger.proofs.Common.{◌≤◌, ◌+◌, is_some, if◌then◌else◌, sym, ap, subst, ◌∙◌, arith, nat_cmp, ordering_then, rising-taken_out, each-taken_out, rows-removed, seen, entries, timeout_key, timeout_at, timeouts_of, AreTimeouts, int_max}
+use Rattle.tb_ledger.proofs.Common.{◌≤◌, ◌+◌, is_some, if◌then◌else◌, sym, ap, subst, ◌∙◌, arith, nat_cmp, ordering_then, rising-taken_out, each-taken_out, rows-removed, seen, entries, timeout_key, timeout_at, timeouts_of, AreTimeouts, AMOUNT_MAX}
 use Rattle.tb_ledger.proofs.Entries.{timeouts-agree}
 use Rattle.tb_ledger.proofs.tables.timeouts.remove_key.Goals as goal
 
@@ -17,7 +17,7 @@ returns-clause-ordered g c =
     ∙ rows-removed (λ x y. ordering_then (nat_cmp x.0 y.0) (nat_cmp x.1 y.1)) timeout_at timeout_key (d.at, d.id) (timeout_key d) es (timeouts-agree (d.at, d.id) es (omega arith) c.requires.ordered.fit) in
     subst AreTimeouts (sym taken) (record {
       rising = rising-taken_out timeout_key (timeout_key d) (timeouts_of es) c.requires.ordered.rising;
-      fit = each-taken_out timeout_key (λ d. d.id ≤ int_max) (timeout_key d) (timeouts_of es) c.requires.ordered.fit;
+      fit = each-taken_out timeout_key (λ d. d.id ≤ AMOUNT_MAX) (timeout_key d) (timeouts_of es) c.requires.ordered.fit;
     })
 
 pub returns-clause-capacity : goal.returns-clause-capacity

@@ -1,7 +1,7 @@
 use Rattle.std.proofs.Common.{◌≡◌, ◌+◌, ◌++◌, ◌∷◌, [], length, sym, ◌∙◌, ap, subst, IsTrue}
 use Rattle.logbook.specs.Pages.{step}
 use Rattle.tb_machine.specs.Histories.{fits}
-use Rattle.tb_published.specs.private.Prefixes.{Prefix, state_of}
+use Rattle.tb_published.specs.private.Prefixes.{Prefix, prefix_state}
 use Rattle.tb_published.proofs.Adding.{adds_moves, added, front_on}
 use Rattle.tb_published.proofs.front.Front.followed_by.Goals as goal
 
@@ -22,7 +22,7 @@ compare_exchange-found-requires c =
 
 pub invariant_of-result : goal.invariant_of-result
 invariant_of-result c =
-    let next = subst (λ (l : Prefix). IsTrue (fits (state_of l) c.args.entry.now)) (sym c.self.view_is) c.requires.next in
+    let next = subst (λ (l : Prefix). IsTrue (fits (prefix_state l) c.args.entry.now)) (sym c.self.view_is) c.requires.next in
     let grown : c.compare_exchange-found.new.seen.log ≡ c.self.inside.seen.log ++ c.args.entry.now ∷ [] =
     added (step c.args.head.now.key c.self.inside.count (c.self.inside.count + 1) c.plain-offer.result.ask)
     (c.again-seen.result.log, (c.no_pen-pen.result.nib, c.plain-offer.result.state)) c.compare_exchange-found.result

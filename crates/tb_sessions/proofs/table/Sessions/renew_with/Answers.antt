@@ -3,10 +3,11 @@ use Rattle.avl_tree.specs.Map.{entries}
 use Rattle.tb_records.proofs.Entries.{found-row}
 use Rattle.tb_sessions.specs.declared.rows.Row.{Row}
 use Rattle.tb_sessions.specs.declared.classes.Class.TheVariants.{New}
-use Rattle.tb_sessions.specs.Judged.{class_beside, class_by, client_of, row_of}
+use Rattle.tb_sessions.specs.Judged.{class_beside, row_of, client_of}
 use Rattle.tb_sessions.specs.Admission.{Table}
 use Rattle.tb_sessions.specs.Renewal.{TakesBoth, Renews, CalledBeside}
 use Rattle.tb_sessions.proofs.Renewing.{same_oldest, index_served, rows_served, entries_kept, of_err}
+use Rattle.tb_sessions.proofs.ByRow.{class_by}
 use Rattle.tb_sessions.proofs.table.Sessions.renew_with.Goals as goal
 
 pub update-served-requires : goal.update-served-requires

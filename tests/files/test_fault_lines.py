@@ -1,0 +1,146 @@
+"""Lines of faults, each of which names the file, the cause and what to do next: over files that a
+crash or a cut leaves, files of the other kind, disks and limits of the system.
+
+    python3 -m pytest -m quick tests/files/test_fault_lines.py
+"""
+
+import os
+import resource
+import shutil
+import subprocess
+
+import pytest
+
+from . import kinds
+from .kinds import CLOSED, LEDGER, MAGIC, SCRIPT, block, changed, none, ran
+
+pytestmark = pytest.mark.quick
+BEGUN = none(
+    "ends before its first record; restore a backup if it had one, or start without --existing"
+)
+NO_RECORD = none("has no record yet; tbd run makes a ledger in it, and tbd follow a log")
+NO_HEAD = none("has a first record that is no ledger's head; restore a backup")
+A_LOG = none("is a log; tbd follow serves it")
+A_LEDGER = 5, "tbd: Plain: ledger is a ledger without positions; tbd run serves it\n"
+EMPTY = none("is empty; without --existing tbd run makes a ledger in it, and tbd follow a log")
+RUN, FOLLOW = "run ledger 2 --existing", "follow ledger 2 --existing"
+READS = "check ledger", "dump ledger", "salvage ledger new", "backup ledger new"
+LOG_RECORD = b"TBF1\1\2" + (1).to_bytes(8, "little") + bytes(65)
+ROTTEN_LOG = changed(MAGIC + block(LOG_RECORD) + CLOSED, 60)
+ROTTEN_LEDGER = changed(LEDGER, 23)
+HEAD_AT = (
+    6,
+    "tbd: Damaged: ledger: the block at byte 8 (the head) is not what was written; restore a"
+    " backup: tbd salvage needs the head\n",
+)
+FIRST_ENTRY_AT = (
+    6,
+    "tbd: Damaged: ledger: the block at byte 8 (entry 1) is not what was written; restore a backup:"
+    " no entry is before it\n",
+)
+# A file, what is asked for over it, and what is answered.
+ROWS = [
+    *((MAGIC[:5], words, BEGUN) for words in (RUN, FOLLOW, *READS)),
+    *((MAGIC, words, BEGUN) for words in (RUN, FOLLOW, *READS)),
+    *((MAGIC + CLOSED[:2], words, BEGUN) for words in (RUN, FOLLOW, *READS)),
+    *((MAGIC + CLOSED, words, NO_RECORD) for words in READS),
+    *((MAGIC + block(b"\1\2\3") + CLOSED, words, NO_HEAD) for words in (RUN, *READS)),
+    (MAGIC + block(LOG_RECORD) + CLOSED, RUN, A_LOG),
+    (ROTTEN_LOG, RUN, A_LOG),
+    (ROTTEN_LOG, FOLLOW, FIRST_ENTRY_AT),
+    (LEDGER, FOLLOW, A_LEDGER),
+    (ROTTEN_LEDGER, FOLLOW, A_LEDGER),
+    *((ROTTEN_LEDGER, words, HEAD_AT) for words in (RUN, *READS)),
+    *((b"", words, EMPTY) for words in (RUN, FOLLOW)),
+]
+
+
+@pytest.fixture(name="tbd")
+def fixture_tbd(program):
+    return str(program("tbd").resolve())
+
+
+@pytest.mark.parametrize("data, words, told", ROWS)
+def test_files_without_a_record_or_of_the_other_kind(tbd, tmp_path, data, words, told):
+    """The line says what the file is, and nothing is changed."""
+    (tmp_path / "ledger").write_bytes(data)
+    status, line = told
+    assert ran(tbd, tmp_path, words.split()) == (status, b"", line)
+    assert (tmp_path / "ledger").read_bytes() == data and not (tmp_path / "new").exists()
+
+
+@pytest.mark.parametrize("words", ["check ledger", "run ledger 2", "follow log 2"])
+def test_too_many_open_files(tbd, tmp_path, words):
+    """Each file takes one descriptor more for a moment."""
+    kinds.made(tmp_path, "a ledger")
+
+    def few():
+        resource.setrlimit(resource.RLIMIT_NOFILE, (4, 4))
+
+    told = ran(tbd, tmp_path, words.split(), preexec_fn=few)
+    file = words.split()[1]
+    line = "too many files are open; raise their number by ulimit -n"
+    assert told == (1, b"", f"tbd: Device: cannot open {file}: {line}\n")
+    assert (tmp_path / "ledger").read_bytes() == LEDGER
+
+
+READ_ONLY = 'mount --bind "$1" "$1" && mount -o remount,bind,ro "$1" && shift && exec "$@"'
+
+
+@pytest.mark.parametrize(
+    "words, file",
+    [
+        ("run shelf/ledger 2", "shelf/ledger"),
+        ("run shelf/other 2", "shelf/other"),
+        ("follow shelf/log 2", "shelf/log"),
+        ("backup shelf/ledger shelf/new", "shelf/new"),
+    ],
+)
+def test_a_disk_that_is_read_only(tbd, tmp_path, words, file):
+    """In a namespace of its own, where one can be made."""
+    shelf = tmp_path / "shelf"
+    shelf.mkdir()
+    kinds.made(shelf, "a ledger")
+    mounted = ["unshare", "-rm", "sh", "-c", READ_ONLY, "sh", str(shelf)]
+    probe = [*mounted, "sh", "-c", '! touch "$0"', str(shelf / "ledger")]
+    if (
+        not shutil.which("unshare")
+        or subprocess.run(probe, capture_output=True, check=False).returncode
+    ):
+        pytest.skip("no read-only mount can be made here")
+    told = ran(mounted[0], tmp_path, [*mounted[1:], tbd, *words.split()])
+    line = "is on a disk that is read-only; mount it for writing, or name a file on another disk"
+    assert told == (1, b"", f"tbd: Device: {file} {line}\n")
+
+
+@pytest.mark.parametrize(
+    "given, name", [(SCRIPT[:-1], "Short"), (SCRIPT + b"\0", "Short"), (bytes(200), "ClientZero")]
+)
+def test_a_request_that_is_refused(tbd, tmp_path, given, name):
+    """What comes before it was answered, and the line says where it came from."""
+    status, out, said = ran(tbd, tmp_path, ["run", "ledger", "2"], given)
+    assert (status, said.splitlines()[1:]) == (
+        2,
+        [
+            f"tbd: {name}: the next request on standard input is refused; those before it were"
+            " answered"
+        ],
+    )
+    assert kinds.REPLIES.startswith(out)
+
+
+@pytest.mark.parametrize("form", ["salvage", "backup"])
+def test_a_new_file_that_is_not_whole(tbd, shim, tmp_path, form):
+    """The line says what the next try needs, and after that it is made."""
+    kinds.made(tmp_path, "a ledger")
+    env = {**os.environ, "LD_PRELOAD": shim, "KEEP_FILE": "new", "KEEP_FAULT": "full 90"}
+    told = ran(tbd, tmp_path, [form, "ledger", "new"], env=env)
+    line = (
+        "tbd: Full: new: the disk is full, or the file has its greatest length; remove it, free"
+        " space, and start again\n"
+    )
+    assert told == (8, b"", line)
+    assert ran(tbd, tmp_path, [form, "ledger", "new"])[0] == 2
+    (tmp_path / "new").unlink()
+    assert ran(tbd, tmp_path, [form, "ledger", "new"])[0] == 0
+    assert (tmp_path / "new").read_bytes() == LEDGER
