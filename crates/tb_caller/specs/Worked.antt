@@ -1,4 +1,4 @@
--- A schedule in which a worked_register and a worked_lookup return: the premises of the laws can be met.
+-- A schedule in which a register and a lookup return: the premises of the laws can be met.
 use Rattle.std.specs.Prelude.{ℕ, true, ◌≡◌, List, [], ◌∷◌, length, None}
 use Rattle.tb_records.specs.declared.bodies.Body.TheVariants.{Register, LookupAccounts}
 use Rattle.tb_records.specs.declared.limits.Profile.TheVariants.{One}
@@ -25,7 +25,7 @@ second_entry = record { commit = 2; time = 2; request = worked_lookup }
 abbrev pub answer_in : List Entry → Message → Answer
 answer_in h r = answer_to (next_in One 4 None h) r
 
--- the lookup's process ends while the worked_lookup waits, and another one goes on; a stale NotYet comes between, and the frame comes twice
+-- the lookup's process ends while the lookup waits, and another one goes on; a stale NotYet comes between, and the frame comes twice
 abbrev pub worked_events : List Event
 worked_events =
     Client 7 (Call Register)

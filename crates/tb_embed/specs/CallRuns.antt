@@ -1,4 +1,4 @@
--- What calls make of a server, one after another: a legal history of the requests that were answered_calls.
+-- What calls make of a server, one after another: a legal history of the requests that were answered.
 use Rattle.std.specs.Prelude.{ℕ, Bool, true, false, ◌≡◌, List, [], ◌∷◌, length, take, filter, Some}
 use Rattle.tb_records.specs.declared.limits.Profile.{Profile}
 use Rattle.tb_records.specs.Messages.{Answer}
@@ -24,7 +24,7 @@ abbrev pub Follow : State → List Call → State → Type 0
 Follow S [] T = T ≡ S
 Follow S (c ∷ cs) T = (U : State) × ServesFrame (Some S) (Some U) c.moment c.bytes c.room c.outcome × Follow U cs T
 
--- the calls that were answered_calls, also where the room was too small for the reply
+-- the calls that were answered, also where the room was too small for the reply
 abbrev pub is_answered : Outcome → Bool
 is_answered (Done n) = true
 is_answered (TooSmall n) = true
@@ -50,7 +50,7 @@ AreAsked [] [] [] = Unit {0}
 AreAsked (c ∷ cs) (p ∷ ps) (a ∷ replies) = Asked c p a × AreAsked cs ps replies
 AreAsked cs ps replies = ⊥
 
--- the server is in the state after the legal history that is accepted of the requests that were answered_calls, and gave their replies
+-- the server is in the state after the legal history that is accepted of the requests that were answered, and gave their replies
 pub record MakesHistory (profile : Profile) (clients_max : ℕ) (cs : List Call) (T : State) : Type 0 where
   pub pairs : List Pair
   pub lawful : AreLawful pairs

@@ -16,7 +16,7 @@ use Rattle.tb_journal.proofs.Steps.{closed_front}
 use Rattle.tb_journal.proofs.Fronts.{at_least, asked_told, front_told}
 use Rattle.tb_journal.proofs.Growths.{extends_later, later_extends, final_later, damaged_final, damage_final, later_same, later_then, begins_part, begins_later, leads_within, leads_kept, leads_later}
 
--- what is at the head of bytes is known from as many as are asked_bytes for
+-- what is at the head of bytes is known from as many as are asked for
 
 asked_least : (l : List ℕ) → 11 ≤ asked_bytes l
 asked_least [] = omega arith

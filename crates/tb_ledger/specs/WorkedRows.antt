@@ -1,4 +1,4 @@
--- Worked examples: what the definitions answer to requests of which the row_answers are known.
+-- Worked examples: what the definitions answer to requests of which the answers are known.
 use Rattle.std.specs.Prelude.{◌≡◌, ℕ, ◌+◌, max, List, [], ◌∷◌, map, ◌++◌, length, Option, Some, None}
 use Rattle.std.specs.Option.{option_map}
 use Rattle.tb_records.specs.declared.records.Account.{Account}
@@ -44,7 +44,7 @@ request B transfers = batch_after transfer_events B transfers (B.time + max (len
 abbrev pub start_books : Profile → Books
 start_books profile = (create (record (empty_books profile) { time = 10 }) (account 1 0 ∷ account 2 0 ∷ [])).books
 
--- one request worked_books another: the books worked_books them, and each one's pairs (index, code)
+-- one request after another: the books after them, and each one's pairs (index, code)
 abbrev pub books_after : Books → List (List Transfer) → Books
 books_after B [] = B
 books_after B (transfers ∷ later) = books_after (request B transfers).books later
@@ -53,7 +53,7 @@ abbrev pub row_answers : Books → List (List Transfer) → List (List (ℕ × �
 row_answers B [] = []
 row_answers B (transfers ∷ later) = map (λ r. (r.index, r.result)) (results (request B transfers).codes) ∷ row_answers (request B transfers).books later
 
--- each transfer in a request of its own: the books worked_books them, and the code of each
+-- each transfer in a request of its own: the books after them, and the code of each
 abbrev pub worked_books : Books → List (Row Transfer) → Books
 worked_books B rows = books_after B (map (λ row. row.0 ∷ []) rows)
 
@@ -255,7 +255,7 @@ ReservedFlags profile =
     CreatedAs (start_books profile) ((account 3 16, 5) ∷ (account 3 64, 5) ∷ (account 3 128, 5) ∷ (account 3 32768, 5) ∷ (account 3 8, 0) ∷ [])
     × RowsAnswered (start_books profile) ((transfer 1 1 2 1 256, 4) ∷ (transfer 1 1 2 1 512, 4) ∷ (transfer 1 1 2 1 32768, 4) ∷ (transfer 1 1 2 1 258, 4) ∷ (transfer 1 1 2 1 2, 0) ∷ [])
 
--- sums that don't fit: worked_books a transfer of the largest amount, and worked_books a pending one
+-- sums that don't fit: after a transfer of the largest amount, and after a pending one
 
 abbrev pub start_of_three : Profile → Books
 start_of_three profile = (create (start_books profile) (account 3 0 ∷ [])).books
@@ -303,7 +303,7 @@ held_for_a_second profile = (batch_after transfer_events (start_books profile) (
 abbrev pub closed_for_a_second : Profile → Books
 closed_for_a_second profile = (batch_after transfer_events (start_books profile) (with_timeout 1 (transfer 62 1 2 0 66) ∷ []) 100).books
 
--- worked_books transfer 63 was refused, while the account was still closed
+-- after transfer 63 was refused, while the account was still closed
 abbrev pub refused_while_closed : Profile → Books
 refused_while_closed profile = (batch_after transfer_events (closed_for_a_second profile) (transfer 63 1 2 1 0 ∷ []) 1000000099).books
 

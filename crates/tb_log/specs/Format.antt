@@ -53,7 +53,7 @@ reply_item position index answer = placed position index (reply_bytes answer)
 abbrev pub standing_item : ℕ → List ℕ → List ℕ → List ℕ
 standing_item position log replies = 2 ∷ number_bytes 8 position ++ log ++ replies
 
--- chained_hash hashes
+-- chained hashes
 
 abbrev pub no_hash : List ℕ
 no_hash = replicate 32 0

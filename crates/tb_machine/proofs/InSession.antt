@@ -45,7 +45,7 @@ module _ {A E P : Type 0} where
   of_err (Ok a) refused delivery is p = absurd (let both : true ≡ false = sym is ∙ delivery in cc)
   of_err (Err e) refused delivery is p = p
 
--- what the server answers where the step was made_entry
+-- what the server answers where the step was made
 serves_delivered : (answer : Result Delivery AllocError) (S T : State) (p : Pair) (before after : Output) → IsLawful p.1 → class_of S.rows p.1 ≡ New → has_time S p ≡ true → T ≡ step S (entry_of S p)
     → (refused : Bool) → refused ≡ is_err answer → refused ≡ false → DeliversReply answer (reply_at S (entry_of S p)) before after → ServesPair (served_as answer) S T p before after
 serves_delivered (Ok delivery.Whole) S T p before after lawful class time stepped refused is none delivers = entered_answer (Ok tt) S T p before after lawful class time stepped delivers.delivery.0 delivers.delivery.1

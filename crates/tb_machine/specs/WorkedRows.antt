@@ -23,7 +23,7 @@ use Rattle.tb_machine.specs.Restoring.{cause_of}
 use Rattle.tb_machine.specs.Scripts.{Pair, has_time, accepted, replies_from, replies_to}
 use Rattle.tb_machine.specs.ReplicaLaws.{all_ticks}
 
--- an worked_account and a worked_transfer as the rows write them
+-- an account and a transfer as the rows write them
 abbrev worked_account : ℕ → Account
 worked_account id = record { id = id; debits_pending = 0; debits_posted = 0; credits_pending = 0; credits_posted = 0; user_data_128 = 0; user_data_64 = 0; user_data_32 = 0; reserved = 0; ledger = 700; code = 10; flags = 0; timestamp = 0 }
 
@@ -33,7 +33,7 @@ worked_transfer id debit credit amount = record { id = id; debit_account_id = de
 abbrev register : ℕ → Message
 register client = asked client 0 0 Register
 
--- a request for no worked_account
+-- a request for no account
 abbrev empty_lookup : ℕ → ℕ → ℕ → Message
 empty_lookup client session number = asked client session number (LookupAccounts [])
 
@@ -79,7 +79,7 @@ FirstRequests = replies_to One 2 (script (register 7 ∷ first_requests))
     ∷ []
 
 -- after them: the last request again, the one before it, the last with another amount, a number too great, a session too
--- great, a session too small, a client without a session; none of them is entered_count
+-- great, a session too small, a client without a session; none of them is entered
 abbrev refused_requests : List Message
 refused_requests =
     transfers 100
@@ -98,8 +98,8 @@ Refusals =
     ∷ (0, 1, 4) ∷ (4, 1, 0) ∷ (5, 1, 0) ∷ (6, 1, 0) ∷ (3, 2, 0) ∷ (2, 0, 0) ∷ (1, 1, 0) ∷ [])
     × (entered_count 2 (first_requests ++ refused_requests) ≡ 4)
 
--- client 7 moves the greatest amount, 2^128 - 1, from worked_account 1 to worked_account 2, and 1 more, by which worked_account 1's debits would
--- overflow: the second worked_transfer is refused (49), and worked_account 2's sum is the greatest that has a frame
+-- client 7 moves the greatest amount, 2^128 - 1, from account 1 to account 2, and 1 more, by which account 1's debits would
+-- overflow: the second transfer is refused (49), and account 2's sum is the greatest that has a frame
 abbrev greatest : Message
 greatest = asked 7 1 2 (CreateTransfers (worked_transfer 11 1 2 AMOUNT_MAX ∷ worked_transfer 12 1 2 1 ∷ []))
 
@@ -118,7 +118,7 @@ Eviction =
     summaries 2 (register 7 ∷ register 8 ∷ empty_lookup 7 1 1 ∷ register 9 ∷ empty_lookup 8 2 1 ∷ register 8 ∷ empty_lookup 8 2 1 ∷ register 7 ∷ empty_lookup 9 4 1 ∷ [])
     ≡ (0, 1, 1) ∷ (0, 2, 2) ∷ (0, 1, 3) ∷ (0, 4, 4) ∷ (1, 2, 0) ∷ (0, 5, 5) ∷ (2, 2, 0) ∷ (0, 6, 6) ∷ (1, 4, 0) ∷ []
 
--- the last moment can be the time of an worked_entry: there is no time after it, nor for a later moment
+-- the last moment can be the time of an entry: there is no time after it, nor for a later moment
 abbrev last_entry : List Pair
 last_entry = (LAST_MOMENT, register 7) ∷ []
 
@@ -143,12 +143,12 @@ EvictionStorm =
     ++ ((0, 100, 101) ∷ (0, 102, 102) ∷ (2, 1, 0) ∷ (1, 100, 0) ∷ []))
     × (entered_count 1 storm ≡ 102)
 
--- an worked_entry by its numbers
+-- an entry by its numbers
 abbrev worked_entry : ℕ → ℕ → Message → Entry
 worked_entry commit time r = record { commit = commit; time = time; request = r }
 
 -- behind client 7's register at time 10: another commit number, a time that is no later, one above the last, a request that is
--- not new; the cause is the first of these; and an worked_entry that follows
+-- not new; the cause is the first of these; and an entry that follows
 abbrev pub UnfitEntries : Type 0
 UnfitEntries =
     let S = after One 2 (worked_entry 1 10 (register 7) ∷ []) in
@@ -159,7 +159,7 @@ UnfitEntries =
     × (cause_of S (worked_entry 2 11 (register 7)) ≡ Some NotNew)
     × (cause_of S (worked_entry 2 11 (register 8)) ≡ None)
 
--- a mark behind client 7's register: the next worked_entry is executed by profile 2, the register by profile 1; the register sent
+-- a mark behind client 7's register: the next entry is executed by profile 2, the register by profile 1; the register sent
 -- again still gets its reply
 abbrev pub MarkedHistory : Type 0
 MarkedHistory =
@@ -182,7 +182,7 @@ ScriptInParts =
     × (summaries 2 second_part ≡ (1, 1, 0) ∷ (1, 1, 0) ∷ [])
     × (entered_count 2 second_part ≡ 0)
 
--- client 7's worked_transfer comes again behind its next request: the copy is refused (4), and the last request is commit 6 with it
+-- client 7's transfer comes again behind its next request: the copy is refused (4), and the last request is commit 6 with it
 -- and without it. In one place client 7's register comes again when client 8 has driven it out: it is new, and drives 8 out
 abbrev pub CopiesInAScript : Type 0
 CopiesInAScript =

@@ -117,7 +117,7 @@ module _ {M G : Type 0} (o : Opening) (tells : M → ℕ → M → Type 0) (pass
   serves_on_at x x' y y' n n' rs a a' b b' xs ns as' bs ys =
       subst (λ (t : ServerState M G × ℕ × List (ℕ × TakeFault) × List (ℕ × TakeFault) × ServerState M G). ServesOn o tells passes t.0 t.1 rs t.2 t.3 t.4) (λ i. (xs i, ns i, as' i, bs i, ys i))
 
-  -- one turn at the place n of a request that is pairs_kept, and of one that is left out
+  -- one turn at the place n of a request that is kept, and of one that is left out
 
   pub serves_on_kept : (x y : ServerState M G) (n place moment : ℕ) (r : Message) (a : List (ℕ × TakeFault)) → place ≡ n → HasTurn o x.history (turn_of moment r None) y.history
       → tells x.moments moment y.moments → passes x.gate place y.gate → ServesOn o tells passes x n (r ∷ []) a a y

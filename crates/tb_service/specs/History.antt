@@ -53,7 +53,7 @@ abbrev pub refused_from : ℕ → List Turn → List (ℕ × TakeFault)
 refused_from n [] = []
 refused_from n (t ∷ ts) = at_place n t.fault ++ refused_from (n + 1) ts
 
--- a request that is pairs_kept has a time where it is new; only a new one is left out: since memory ran out though it has a time, or
+-- a request that is kept has a time where it is new; only a new one is left out: since memory ran out though it has a time, or
 -- because it has none
 abbrev pub Fares : Class → Bool → Option TakeFault → Type 0
 Fares class timely None = class ≡ New → timely ≡ true

@@ -68,7 +68,7 @@ MayBeExecuted B e =
 abbrev pub ExecutesBody : Result ReplyBody AllocError → Books → Body → ℕ → Books → Type 0
 ExecutesBody result B body time later = MatchResult result (λ answer. (later ≡ executed B body time) × (answer ≡ found B body time)) (λ _. later ≡ B)
 
--- an entry's request was executed, and its client's row made_entry; where there was no memory the entry came back
+-- an entry's request was executed, and its client's row made; where there was no memory the entry came back
 abbrev pub MakesRow : Result Row Entry → Books → Entry → Books → Type 0
 MakesRow result B e later = MatchResult result (λ row. (later ≡ executed B e.request.body e.time) × (row ≡ row_in B e)) (λ back. (back ≡ e) × (later ≡ B))
 
