@@ -11,7 +11,7 @@ use Rattle.tb_machine.specs.declared.entries.Entry.{Entry}
 use Rattle.tb_machine.specs.declared.serving.RunFault.TheVariants as fault
 use Rattle.tb_machine.specs.Histories.{State, start, step, after, answer_to}
 use Rattle.tb_machine.specs.Scripts.{Pair, entry_of, is_entered, after_pair, grown, accepted, replies_from, replies_to}
-use Rattle.tb_machine.specs.Worked.{Next, GoesOn, EndsBy, Done, Worked}
+use Rattle.tb_machine.specs.Worked.{Next, GoesOn, EndsBy, Done, Worked, items_taken}
 use Rattle.tb_machine.specs.Runs.{Spell, Reads, IsTimely, answer_bytes, AnswersPair, PairAnswered, HasTimes, state_after, Replies, Ran}
 use Rattle.tb_machine.proofs.Rows.{each_snoc}
 use Rattle.tb_machine.proofs.Legal.{fold_snoc, after_snoc}
@@ -127,7 +127,7 @@ module _ {Items : Type 0} {Read : Items → Input → Input → Type 0} {Gives :
     module _ {count : Items → ℕ} {Halts : Fault → Items → Type 0} where
       -- at the end nothing more was written, and what was written was passed on
       pub worked_out : {n : ℕ} {T : State} {after : Input} {next passed : Output} → count w.items ≡ n → GoesOn Answered Acts (Ok false) S T middle after written next → Sent [] next passed
-          → Worked Read Gives (EndsBy Answered Acts count state Halts) (Ok n) before after start passed
+          → Worked Read Gives (EndsBy Answered Acts (items_taken count state Halts)) (Ok n) before after start passed
       unfolding working_passed
       worked_out {passed = passed} counted ends on =
           let all = working_passed (subst (λ (o : Output). Sent [] o passed) ends.1.silent on) in
@@ -135,12 +135,12 @@ module _ {Items : Type 0} {Read : Items → Input → Input → Type 0} {Gives :
 
       -- where the machine's commit number gives how many they are
       pub worked_commits : {n : ℕ} {T : State} {after : Input} {next passed : Output} → (state w.items).commit ≡ count w.items → n ≡ T.commit
-          → GoesOn Answered Acts (Ok false) S T middle after written next → Sent [] next passed → Worked Read Gives (EndsBy Answered Acts count state Halts) (Ok n) before after start passed
+          → GoesOn Answered Acts (Ok false) S T middle after written next → Sent [] next passed → Worked Read Gives (EndsBy Answered Acts (items_taken count state Halts)) (Ok n) before after start passed
       worked_commits counted is ends on = worked_out (sym counted ∙ ap (λ (U : State). U.commit) (sym w.state_is ∙ sym ends.0) ∙ sym is) ends on
 
       -- a fault of the next item
       pub worked_into : {f : Fault} {T : State} {after : Input} {next : Output} → GoesOn Answered Acts (Err f) S T middle after written next
-          → Worked Read Gives (EndsBy Answered Acts count state Halts) (Err f) before after start next
+          → Worked Read Gives (EndsBy Answered Acts (items_taken count state Halts)) (Err f) before after start next
       worked_into {f} {T} {after} {next} stops = record {
         items = w.items;
         middle = middle;
@@ -150,7 +150,7 @@ module _ {Items : Type 0} {Read : Items → Input → Input → Type 0} {Gives :
       }
 
       -- a fault that comes of no item
-      pub worked_halted : {f : Fault} → Halts f w.items → Worked Read Gives (EndsBy Answered Acts count state Halts) (Err f) before middle start written
+      pub worked_halted : {f : Fault} → Halts f w.items → Worked Read Gives (EndsBy Answered Acts (items_taken count state Halts)) (Err f) before middle start written
       worked_halted halts = record { items = w.items; middle = middle; made = written; done = w.done; ended = inr (halts, refl, refl) }
 
 -- pairs that make a history

@@ -10,7 +10,7 @@ use Rattle.tb_machine.specs.declared.serving.RunFault.TheVariants as fault
 use Rattle.tb_machine.specs.Histories.{State, step, to_two}
 use Rattle.tb_machine.specs.Scripts.{Pair, entry_of, has_time}
 use Rattle.tb_machine.specs.Runs.{Reads, is_new_in, PairAnswered, HasTimes}
-use Rattle.tb_machine.specs.Worked.{EndsBy, Done, Worked, GoesOn}
+use Rattle.tb_machine.specs.Worked.{EndsBy, Done, Worked, GoesOn, items_taken}
 use Rattle.tb_machine.specs.Dumps.{dumped, DumpSpells, place_in, after_at, accepted_at}
 
 -- one pair
@@ -75,7 +75,7 @@ module _ (clients_max : ℕ) (at : Option ℕ) where
 
   -- some pairs were dumped, and then the script ended, or a fault came
   abbrev pub Begun : Result ℕ RunFault → Input → Input → Output → Output → Type 0
-  Begun = Worked Reads DumpsHistory (EndsBy PairAnswered (DumpsPair at) (λ ps. length (history_made ps)) (λ ps. after_at One clients_max at (history_made ps)) DumpHalts)
+  Begun = Worked Reads DumpsHistory (EndsBy PairAnswered (DumpsPair at) (items_taken (λ ps. length (history_made ps)) (λ ps. after_at One clients_max at (history_made ps)) DumpHalts))
 
   -- a whole dump
   abbrev pub DumpRan : Result ℕ RunFault → Input → Input → Output → Output → Type 0

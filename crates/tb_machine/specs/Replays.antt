@@ -18,7 +18,7 @@ use Rattle.tb_ledger.specs.Books.{profile_of}
 use Rattle.tb_machine.specs.declared.entries.Entry.{Entry}
 use Rattle.tb_machine.specs.Histories.{State, fits, reply_at, step, to_two}
 use Rattle.tb_machine.specs.Dumps.{DumpSpells, after_with, IsLegalWith, replies_with}
-use Rattle.tb_machine.specs.Worked.{EndsBy, Worked}
+use Rattle.tb_machine.specs.Worked.{EndsBy, Worked, items_taken}
 
 -- one entry or mark
 
@@ -102,7 +102,7 @@ ReplayHalts f d = (f ≡ fault.NoMemory) × (d.history ≡ [])
 
 -- behind the head, some entries were replayed, and then the dump ended, or a fault came
 abbrev pub Replayed : Result ℕ DumpFault → Input → Input → Output → Output → Type 0
-Replayed = Worked ReadsDump RepliesTo (EndsBy ReadsNext ReplaysItem (λ d. length d.history) state_behind ReplayHalts)
+Replayed = Worked ReadsDump RepliesTo (EndsBy ReadsNext ReplaysItem (items_taken (λ d. length d.history) state_behind ReplayHalts))
 
 -- no head was read
 pub record Headless (f : DumpFault) (before after : Input) (start written : Output) : Type 0 where

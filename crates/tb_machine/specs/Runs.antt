@@ -13,7 +13,7 @@ use Rattle.tb_machine.specs.declared.serving.RunFault.{RunFault}
 use Rattle.tb_machine.specs.declared.serving.RunFault.TheVariants as fault
 use Rattle.tb_machine.specs.Histories.{State, is_new, after, answer_to}
 use Rattle.tb_machine.specs.Scripts.{Pair, has_time, after_pair, grown, accepted, replies_to}
-use Rattle.tb_machine.specs.Worked.{EndsBy, Worked}
+use Rattle.tb_machine.specs.Worked.{EndsBy, Worked, items_taken}
 
 -- pairs that a reader's bytes spell, one after another
 abbrev pub Spell : List Pair → Option (List ℕ) → Option (List ℕ) → Type 0
@@ -83,4 +83,4 @@ module _ (profile : Profile) (clients_max : ℕ) where
 
   -- a whole run: some pairs were read and answered, and then the input was at its end, or a fault came
   abbrev pub Ran : Result ℕ RunFault → Input → Input → Output → Output → Type 0
-  Ran = Worked Reads Replies (EndsBy PairAnswered AnswersPair length state_after RunHalts)
+  Ran = Worked Reads Replies (EndsBy PairAnswered AnswersPair (items_taken length state_after RunHalts))

@@ -3,7 +3,16 @@ use Rattle.std.specs.Prelude.{ℕ, Bool, true, false, ◌≡◌, ◌⊎◌, List
 use Rattle.tb_records.specs.Transport.{Input, Output, Sent}
 use Rattle.tb_machine.specs.Histories.{State}
 
--- by what the reader answers, and by the step that takes an item
+-- of items that were taken: how many they are, the state after them, and the faults that come of no item
+pub record ItemsTaken (Items Fault : Type 0) : Type 1 where
+  pub count : Items → ℕ
+  pub state : Items → State
+  pub Halts : Fault → Items → Type 0
+
+abbrev pub items_taken : {Items Fault : Type 0} → (Items → ℕ) → (Items → State) → (Fault → Items → Type 0) → ItemsTaken Items Fault
+items_taken count state Halts = record { count = count; state = state; Halts = Halts }
+
+-- by what the reader returns, and by the step that takes an item
 module _ {Item Fault : Type 0}
     (Answered : Result (Option Item) Fault → Input → Input → Type 0)
     (Acts : Result (Unit {0}) Fault → State → State → Item → Output → Output → Type 0) where
@@ -24,13 +33,13 @@ module _ {Item Fault : Type 0}
   GoesOn (Ok false) S T before after start written = (T ≡ S) × Untaken (Ok None) before after start written
   GoesOn (Err f) S T before after start written = Untaken (Err f) before after start written ⊎ Next (Err f) S T before after start written
 
-  -- what ended it behind the items: the end of the input, a fault of the next item, or a fault that comes of no item; the T of
+  -- what ended it after the items: the end of the input, a fault of the next item, or a fault that comes of no item; the T of
   -- a fault is of no account
-  abbrev pub EndsBy : {Items : Type 0} → (Items → ℕ) → (Items → State) → (Fault → Items → Type 0) → Result ℕ Fault → Items → Input → Input → Output → Output → Type 0
-  EndsBy count state Bare (Ok n) items before after start written = (count items ≡ n) × Untaken (Ok None) before after start written
-  EndsBy count state Bare (Err f) items before after start written =
-      ((T : State) × GoesOn (Err f) (state items) T before after start written)
-      ⊎ (Bare f items × (after ≡ before) × (written ≡ start))
+  abbrev pub EndsBy : {Items : Type 0} → ItemsTaken Items Fault → Result ℕ Fault → Items → Input → Input → Output → Output → Type 0
+  EndsBy counted (Ok n) items before after start written = (counted.count items ≡ n) × Untaken (Ok None) before after start written
+  EndsBy counted (Err f) items before after start written =
+      ((T : State) × GoesOn (Err f) (counted.state items) T before after start written)
+      ⊎ (counted.Halts f items × (after ≡ before) × (written ≡ start))
 
 -- the items were read, and what they give was written, and nothing else
 pub record Done {Items : Type 0} (Read : Items → Input → Input → Type 0) (Gives : Items → List ℕ → Type 0) (items : Items) (before after : Input) (start written : Output) : Type 0 where
