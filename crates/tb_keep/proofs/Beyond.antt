@@ -1,4 +1,4 @@
--- Records that are taken over behind damage.
+-- Records that are copied after damage.
 use Rattle.std.proofs.Common.{arith, ℕ, ◌≡◌, ◌+◌, ◌≤◌, true, List, [], ◌∷◌, ◌++◌, map, length, Result, Ok, Err, refl, sym, ap, ◌∙◌, subst, append_assoc, append-nil}
 use Rattle.std.proofs.lemmas.List.{append_cancel_left}
 use Rattle.tb_journal.specs.Device.{Disk, LeavesOnly}
@@ -20,7 +20,7 @@ use Rattle.tb_keep.proofs.Entered.{Latest}
 use Rattle.tb_keep.proofs.Leading.{leads_none}
 use Rattle.tb_keep.proofs.Taking.{queues_none, queues_then, breaks_then, leads_join, leads_one, leads_first}
 
--- records that stand in a file
+-- records that are in a file
 
 stand_from : (records : List (List ℕ)) (at later end : ℕ) (file : List ℕ) → at ≤ later → StandBetween later records end file → StandBetween at records end file
 stand_from [] at later end file le stand = omega (arith, le, stand)
@@ -33,7 +33,7 @@ stand_then (x ∷ xs) ys at mid end file (place, behind, stands, rest) two =
 
 module _ {N : Type 0} (disk : N → Disk) (tells : Type 0) where
   module _ (holds : List ℕ → Type 0) where
-    -- nothing was taken over
+    -- nothing was copied
     pub on_none : (first here : SeekState) (before after : Keeping N) → (tells → Latest (disk before.journal.device)) → before.journal.usable ≡ true → (tells → IsReady disk before.journal)
         → after.state ≡ before.state → after.journal ≡ before.journal → first.at ≤ here.at → ((file : List ℕ) → holds file → IsSeeking file first → IsSeeking file here)
         → TakenOn disk tells holds [] first here before after

@@ -1,4 +1,4 @@
--- The cause of a fault, where no call failed before.
+-- The cause of a fault, if no call failed before.
 use Rattle.std.proofs.Common.{arith, ◌≡◌, ◌⊎◌, inl, inr, ℕ, List, true, Result, Ok, Err, IfErr, refl, sym, ◌∙◌, subst}
 use Rattle.std.proofs.lemmas.Grind.{common_steps}
 use Rattle.std.proofs.lemmas.Bool.{false≢true}
@@ -21,7 +21,7 @@ use Rattle.tb_keep.specs.Reading.{RulesIn, IsDumpCause, HasDumpCause}
 use Rattle.tb_keep.specs.declared.recovering.Rules.{Rules}
 use Rattle.tb_keep.specs.private.Headed.{IsOfFailedDevice, IsDeviceCause, HasDeviceCause}
 
--- behind calls of which none failed
+-- after calls that did not fail
 
 module _ (before mid after : Disk) (first : FailsNone before mid) (seen : mid.seen ≡ before.seen) where
   open_cause_then : (fault : OpenFault) → IsOpenCause mid after fault → IsOpenCause before after fault

@@ -49,11 +49,11 @@ behind_batch base grown S T ps qs file grows to front = record {
 }
 
 module _ (tells : Type 0) {D : Type 0} (disk : D → Disk) (only : (d : D) → Only (disk d)) where
-  -- where nothing is done
+  -- if nothing is done
   rest_leaves : (d : D) (S : State) (all : List Pair) → IsAtRest (disk d) → LeavesOnly (disk d) (disk d) (Front (recorded (disk d).seen) S all)
   rest_leaves d S all rest = grind (arith, common_steps, started, none_of)
 
-  -- what ends the serving behind rounds
+  -- what ends the serving after rounds
   ends_leave : tells → (result : Result ℕ KeepFault) (count : ℕ) (more : List Pair) (standing : Standing D) (after : Keeping D) (input last : Input) (written : Output)
       → IsAtRest (disk standing.device) → EndsServing tells disk result count more standing after input last written
       → LeavesOnly (disk standing.device) (disk after.journal.device) (Front (recorded (disk standing.device).seen) standing.state more)

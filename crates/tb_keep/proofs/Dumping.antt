@@ -46,7 +46,7 @@ drop_join n [] ys = let e : n ≡ n - 0 = omega arith in ap (λ (k : ℕ). drop 
 drop_join zero (x ∷ xs) ys = let e : 0 ≡ 0 - suc (length xs) = omega arith in ap (λ (k : ℕ). (x ∷ xs) ++ drop k ys) e
 drop_join (suc n) (x ∷ xs) ys = let e : n - length xs ≡ suc n - suc (length xs) = omega arith in drop_join n xs ys ∙ ap (λ (k : ℕ). drop n xs ++ drop k ys) e
 
--- what is written of some records, and of those behind them
+-- what is written of some records, and of those after them
 pub entries_once : EntriesOnce
 entries_once after read more later =
     let n : ℕ = after + 1 - length read in
@@ -99,7 +99,7 @@ module _ (after : ℕ) (read records : List (List ℕ)) (file : List ℕ) (scan 
 
 -- how many they are
 
--- a head and records behind it
+-- a head and records after it
 
 module _ (rules : Rules) (file : List ℕ) (old mid new : Output) where
   abbrev head : List ℕ

@@ -75,7 +75,7 @@ head_stops (start.Entry f) profile clients_max file head begins why = absurd why
 head_stops start.NoMemory profile clients_max file head begins why = absurd why
 head_stops (start.TornTooLong at bytes) profile clients_max file head begins why = absurd why
 
--- the records behind it
+-- the records after it
 
 pub enters_not : (fault : StartFault) (read : List (List ℕ)) (file bytes : List ℕ) (after : ScanState) (S T : State) → BeginsWith (read ++ bytes ∷ []) file → AppliesRecord (Err fault) S bytes T
     → EntersNextRecord (Err fault) read file after S T

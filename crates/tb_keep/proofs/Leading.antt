@@ -1,4 +1,4 @@
--- Entries that lead from one state to another: none, and one more.
+-- Entries that lead from one state to another: no entry, and one more.
 use Rattle.std.proofs.Common.{arith, ℕ, ◌≡◌, ◌⊎◌, List, [], ◌∷◌, ◌++◌, map, fold, Err, refl, sym, ap, ◌∙◌, subst, IsTrue}
 use Rattle.std.proofs.lemmas.Grind.{common_steps}
 use Rattle.tb_records.specs.declared.limits.Profile.{Profile}

@@ -19,7 +19,7 @@ use Rattle.tb_keep.proofs.Salvages.{stops_longer_history}
 use Rattle.tb_keep.proofs.Unrefused.{only_memory}
 use Rattle.tb_keep.proofs.WholeFiles.{begins_rest}
 
--- damage is reported behind the records that a file begins with
+-- damage is reported after the records that a file begins with
 
 inner : (bytes : List ℕ) (c : Contents) (place : ℕ) → with_record bytes c ≡ Damaged place → c ≡ Damaged place
 inner bytes NotAJournal place is = absurd (cc)
@@ -102,7 +102,7 @@ module _ (h k : History) (file : List ℕ) (mine : IsKeepable h) (yours : IsKeep
       (subst (λ p. StopsFile fault p h.clients_max (records_of h ++ b ∷ more)) heads.0
       (stops_longer_history h mine 0 file fault b more (subst (λ (x : List ℕ). StopsAt fault (history_state h) x) same stops)))))
 
-  -- so where the fault is not out of memory, the other is no longer
+  -- so if the fault is not out of memory, the other is no longer
   no_longer : (fault : StartFault) → (fault ≡ start.NoMemory → ⊥) → (bytes : List ℕ) → BeginsWith (records_of h ++ bytes ∷ []) file → StopsAt fault (history_state h) bytes
       → (rest : List (List ℕ)) × (records_of k ≡ records_of h ++ rest) → (rest : List (List ℕ)) × (records_of h ≡ records_of k ++ rest)
   no_longer fault other bytes two stops ([], is) = ([], sym (append-nil (records_of h)) ∙ sym is ∙ sym (append-nil (records_of k)))

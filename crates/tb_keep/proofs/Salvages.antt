@@ -1,4 +1,4 @@
--- What is taken over into a new file.
+-- What is copied into a new file.
 use Rattle.std.proofs.Common.{arith, ℕ, ◌≡◌, ◌⊎◌, inl, inr, true, List, [], ◌∷◌, ◌++◌, map, Result, Ok, Err, IfOk, IfErr, Some, None, Option, refl, sym, ap, ◌∙◌, subst, append-nil}
 use Rattle.std.proofs.lemmas.Grind.{common_steps}
 use Rattle.tb_records.specs.declared.limits.Profile.{Profile}
@@ -36,7 +36,7 @@ use Rattle.tb_keep.proofs.Entered.{Latest}
 use Rattle.tb_keep.proofs.Leading.{leads_none, stops_file}
 use Rattle.tb_keep.proofs.Taking.{leads_first, breaks_then, write_cause_since}
 
--- the history of records behind a head
+-- the history of records after a head
 
 module _ (rules : Rules) (clients : IsClients rules.clients_max) where
   abbrev head : List ℕ
@@ -85,7 +85,7 @@ module _ (rules : Rules) (clients : IsClients rules.clients_max) where
           (weaker before mid (LedgerMayBeCreated rules.profile rules.clients_max before) (MayBeSalvaged holds before) may_be_made first)
           (weaker mid after (IsBetween (head ∷ []) (head ∷ records)) (MayBeSalvaged holds before) (λ c is. inr (blank, inr (inr (first_ledger c is)))) second)
 
--- where none is made
+-- if no file is made
 
 pub moments_of_none : (profile : Profile) (clients_max : ℕ) (holds : List ℕ → Type 0) (before after : Disk) → LeavesOnly before after (LedgerMayBeCreated profile clients_max before)
     → ((c : List ℕ) → contents c ≡ Records (head_record profile clients_max ∷ []) → (h : History) × IsLedger h c × ((file : List ℕ) → holds file → BeginsWith (records_of h) file))
@@ -246,7 +246,7 @@ unsalvaged_not_whole (Old (start.Entry f)) file is = absurd is
 unsalvaged_not_whole (Old (start.TornTooLong at bytes)) file is = absurd is
 unsalvaged_not_whole (New f) file is = tt
 
--- a file of which the head was read, and a new one that has the head alone
+-- a file of which the head was read, and a new one that has only the head
 
 module _ (rules : Rules) (clients : IsClients rules.clients_max) {N : Type 0} (disk : N → Disk) (tells : Type 0) (holds : List ℕ → Type 0) (first : ScanState)
     (created last : Keeping N) (kept : tells → Keeps disk (history_of rules.profile rules.clients_max []) created) (empty : created.state ≡ start_state rules.profile rules.clients_max) where

@@ -1,4 +1,4 @@
--- What is taken over of all records behind a place.
+-- What is copied of all records after a place.
 use Rattle.std.proofs.Common.{ℕ, ◌≡◌, ◌<◌, ◌^◌, true, List, [], ◌++◌, Option, None, Some, Result, Ok, Err, IfOk, IfErr, OnOk, OnErr, refl, sym, ap, ◌∙◌, subst, append-nil}
 use Rattle.tb_journal.specs.declared.opening.OpenFault.TheVariants as open_faults
 use Rattle.tb_journal.specs.declared.reading.Extent.{Extent}
@@ -70,7 +70,7 @@ other_behind start.Head records S file is stops = absurd stops
 other_behind start.OtherRules records S file is stops = absurd stops
 other_behind (start.TornTooLong at bytes) records S file is stops = absurd stops
 
--- the cause, where it is the file's own
+-- the cause, if it is the file's own
 
 own_none : (before after : Disk) (fault stop : StartFault) → stop_of (Old fault) ≡ Some stop → IsStartCause before after fault → FailsNone before after
 own_none before after (start.Journal (open_faults.Refused why)) stop is cause = cause.1
@@ -177,7 +177,7 @@ module _ {N : Type 0} (disk : N → Disk) (tells : Type 0) (holds later : List �
       subst (λ (g : SalvageFault). TakesRest disk tells holds (Err g) first before mid) (sym by.0)
       (all.records, all.here, all.middle, all.taken, all.ends, λ file read of has. tt)
 
--- and the cause, by the old file's device before, behind the records, and behind the question for its length
+-- and the cause, by the old file's device before, after the records, and after the call for its length
 
 module _ {D : Type 0} (disk : D → Disk) (old mid last : D) (seen : (disk mid).seen ≡ (disk old).seen) (later : List ℕ → Type 0) (extent : Extent) where
   pub none_behind : (taken : Result (Unit {0}) SalvageFault) (stop : Option StartFault) → HasStartCause (of_old taken) (disk old) (disk mid) → StopsBy (Ok stop) taken later extent

@@ -92,7 +92,7 @@ whole_dumps rules file records before after reads begins cut =
     let more = dump_more rules records found.0 in
     sent_few (dump_with rules records) more.0 (dump_of rules file) before after (more.1 ∙ ap (dump_with rules) (sym found.1)) cut
 
--- so where its first record is a head, and all are restored, it represents their history
+-- so if its first record is a head, and all are restored, it represents their history
 
 pub is_history : (rules : Rules) (file : List ℕ) (S : State) (extent : Extent) → HasRules rules file → IsRestoredFrom rules.profile rules.clients_max file S extent → IsHistory rules S file
 is_history rules file S extent has found = by found.restored.spelled
@@ -131,7 +131,7 @@ is_no_history (start.TornTooLong at bytes) rules file has stops = absurd (never 
     never records (head, rest, is, inl none) = none
     never records (head, rest, is, inr (own, (T, (front, last, behind, all, leads, none)))) = none
 
--- and where it is refused before its records are read no history is reported of it
+-- and if it is refused before its records are read no history is reported of it
 
 pub no_rules : (fault : StartFault) (file : List ℕ) → RulesAnswer (Err fault) file → IsNoHistory fault file
 no_rules fault file is = grind (arith, common_steps)

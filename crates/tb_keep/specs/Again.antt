@@ -1,4 +1,4 @@
--- What is opened again after a crash goes on as if there had been none.
+-- What is opened again after a crash goes on as if there had been no crash.
 use Rattle.std.specs.Prelude.{ℕ, ◌≡◌, ◌⊎◌, List, ◌++◌, Result}
 use Rattle.tb_records.specs.Transport.{Input, Output}
 use Rattle.tb_journal.specs.Device.{Disk}
@@ -7,20 +7,20 @@ use Rattle.tb_keep.specs.declared.faults.KeepFault.{KeepFault}
 use Rattle.tb_keep.specs.Keeping.{History, history_state, longer, Keeping, Keeps, IsLedger}
 use Rattle.tb_keep.specs.Rounds.{state_from, entries_from, reply_bytes_from, pairs_of, Served}
 
--- a file represents one history at most
+-- a file represents at most one history
 abbrev pub FileHasOneHistory : Type 0
 FileHasOneHistory = (file : List ℕ) (h k : History) → IsLedger h file → IsLedger k file → h ≡ k
 
--- behind the entries of pairs the machine is the one that served these pairs
+-- after the entries of pairs the machine is the one that served these pairs
 abbrev pub OneLedger : Type 0
 OneLedger = (h : History) (ps : List Pair) → history_state (longer h (entries_from (history_state h) ps)) ≡ state_from (history_state h) ps
 
--- pairs that come after a crash are answered as they are behind the pairs from before it
+-- pairs that come after a crash get the replies that they get after the pairs from before it
 abbrev pub GoesOnAfter : Type 0
 GoesOnAfter = (h : History) (ps qs : List Pair)
     → reply_bytes_from (history_state h) (ps ++ qs) ≡ reply_bytes_from (history_state h) ps ++ reply_bytes_from (history_state (longer h (entries_from (history_state h) ps))) qs
 
--- the pairs that were read, and of which none is acknowledged without its entry
+-- the pairs that were read; none of them is acknowledged without its entry
 abbrev pub all_pairs : {tells : Type 0} {D : Type 0} {disk : D → Disk} {result : Result ℕ KeepFault} {before after : Keeping D} {first last : Input} {start written : Output}
     → Served tells disk result before after first last start written → List Pair
 all_pairs served = pairs_of served.rounds ++ served.more
@@ -44,7 +44,7 @@ module _ (tells : Type 0) {D : Type 0} (disk : D → Disk) where
   abbrev pub IsAmid : Disk → Disk → Disk → Type 0
   IsAmid before after amid = (c : List ℕ) → amid.may_leave c → after.left_since before.moment c
 
-  -- a kill of the process, at any moment of serving or behind it: what the next one reads is such a file too
+  -- a kill of the process, at any moment of serving or after it: the next process reads such a file too
   abbrev pub AfterKill : Type 0
   AfterKill = (h : History) (result : Result ℕ KeepFault) (before after : Keeping D) (first last : Input) (start written : Output) (amid : D)
       → tells → Keeps disk h before → (served : Served tells disk result before after first last start written)

@@ -24,12 +24,12 @@ history_of profile clients_max entries = record { profile = profile; clients_max
 abbrev pub StandFor : History → List (List ℕ) → Type 0
 StandFor h records = (records ≡ records_of h) ⊎ ((records ≡ []) × (h.entries ≡ []))
 
--- the device of a keeper, or the one that is given back
+-- the device of a keeper, or the one that is returned
 abbrev pub keeper_device_left : {D : Type 0} → Result (Keeping D) (NotKept D) → D
 keeper_device_left (Ok keeper) = keeper.journal.device
 keeper_device_left (Err failed) = failed.device
 
--- and why it is
+-- and why it is returned
 abbrev pub why_left : {T D : Type 0} → Result T (NotKept D) → Result (Unit {0}) StartFault
 why_left (Ok value) = Ok tt
 why_left (Err failed) = Err failed.fault
@@ -47,16 +47,15 @@ module _ {D : Type 0} (disk : D → Disk) (profile : Profile) (clients_max : ℕ
   abbrev pub IsStarted : List ℕ → Keeping D → Type 0
   IsStarted file keeper = IsOpenedLedger file keeper ⊎ ((is_blank file ≡ true) × Keeps disk (history_of profile clients_max []) keeper × (keeper.cut ≡ 0))
 
--- by the file that the reads are of: the machine is in the state after the entries of its records, and its torn bytes, which are few, were cut
--- off; or it is reported why not
+-- by the file that the device reads: the machine is in the state after the entries of its records, and its torn bytes, which are few, were cut off;
+-- or it is reported why not
 abbrev pub OpensFile : {D : Type 0} → Result (Keeping D) (NotKept D) → Profile → ℕ → List ℕ → Type 0
 OpensFile (Ok keeper) profile clients_max file =
     (contents file ≡ Records (recorded file)) × IsRestored profile clients_max (recorded file) keeper.state
     × (keeper.cut ≡ torn_bytes file) × (torn_bytes file ≤ 2 ^ 22)
 OpensFile (Err failed) profile clients_max file = StopsOpening failed.fault profile clients_max file
 
--- by the same: a ledger is created in a blank file. Where something else is in it, the reads of the device that is given back are of
--- it still
+-- by the same: a ledger is created in a blank file. If something else is in it, the device that is returned still reads that file
 abbrev pub CreatesLedgerIn : {T D : Type 0} → (D → List ℕ → Type 0) → Result T (NotKept D) → List ℕ → Type 0
 CreatesLedgerIn holds (Ok value) file = is_blank file ≡ true
 CreatesLedgerIn holds (Err failed) file =
@@ -75,14 +74,14 @@ pub record IsDiskUntouched (before after : Disk) : Type 0 where
   pub seen : after.seen ≡ before.seen
   pub any_moment : LeavesAsBefore before after
 
--- where something is in a file none is created, the file is as it was, and no sync has failed that had not
+-- if something is in the file nothing is created: the file is as it was, and no further sync has failed
 abbrev pub IsCreateRefused : StartFault → Disk → Disk → Type 0
 IsCreateRefused (start.Journal (open_faults.Device NotEmpty)) before after = IsDiskUntouched before after × (after.sound ≡ before.sound)
 IsCreateRefused (start.Journal (open_faults.Device fault)) before after = Unit {0}
 IsCreateRefused start.NoMemory before after = IsDiskUntouched before after
 IsCreateRefused fault before after = ⊥
 
--- the cause of a fault: of one of the journal, that which it has when it is created; behind any other no call has failed
+-- the cause of a fault: a fault of the journal has a cause from its creation; after any other fault no call has failed
 abbrev pub IsCreateStartCause : Disk → Disk → StartFault → Type 0
 IsCreateStartCause before after (start.Journal fault) = IsCreateCause before after fault
 IsCreateStartCause before after fault = FailsNone before after
@@ -91,7 +90,7 @@ pub record HasCreateStartCause {T : Type 0} (result : Result T StartFault) (befo
   pub ok : OnOk result (FailsNone before after)
   pub cause : IfErr result (IsCreateStartCause before after)
 
--- the same of a file that is created or opened: it is never NotEmpty
+-- the same for a file that is created or opened: the fault is never NotEmpty
 abbrev pub IsEitherCause : Disk → Disk → StartFault → Type 0
 IsEitherCause before after (start.Journal (open_faults.Device NotEmpty)) = ⊥
 IsEitherCause before after fault = IsCreateStartCause before after fault ⊎ IsStartCause before after fault
@@ -100,35 +99,34 @@ pub record HasEitherCause {T : Type 0} (result : Result T StartFault) (before af
   pub ok : OnOk result (FailsNone before after)
   pub cause : IfErr result (IsEitherCause before after)
 
--- where a device is given back, why it is, and what is left of its file
+-- if a device is returned, why it is, and what is left of its file
 abbrev pub GivesDeviceBack : {T D : Type 0} → (D → Disk) → D → Result T (NotKept D) → (StartFault → Disk → Disk → Type 0) → Type 0
 GivesDeviceBack disk device result Is = IfErr result (λ failed. Is failed.fault (disk device) (disk failed.device))
 
--- the cause of the fault for which it is, by the disk before the call and the one behind it
+-- the cause of the fault for which it is, by the disk before the call and after it
 abbrev pub Causes : {T D : Type 0} → (D → Disk) → D → Result T (NotKept D) → D → (Result (Unit {0}) StartFault → Disk → Disk → Type 0) → Type 0
 Causes disk device result after Has = Has (why_left result) (disk device) (disk after)
 
--- of a call by rules
+-- for a call by rules
 module _ {D : Type 0} (disk : D → Disk) (rules : Rules) where
-  -- where no sync has failed before, it answers such a keeper of the file that was there
+  -- if no sync has failed before, it returns such a keeper for the file that was there
   abbrev pub GivesIfSound : D → Result (Keeping D) (NotKept D) → ((D → Disk) → Profile → ℕ → List ℕ → Keeping D → Type 0) → Type 0
   GivesIfSound device result Is = (disk device).sound ≡ true → IfOk result (Is disk rules.profile rules.clients_max (disk device).seen)
 
-  -- where no sync has failed before, a crash at any moment of it leaves such a file
+  -- if no sync has failed before, a crash at any moment of it leaves such a file
   abbrev pub LeavesBy : D → D → (Profile → ℕ → Disk → List ℕ → Type 0) → Type 0
   LeavesBy before after May = LeavesIfSound disk before after (May rules.profile rules.clients_max)
 
-  -- where it gives the device back, why it does, and what is left of its file
+  -- if it returns the device, why it does, and what is left of its file
   abbrev pub GivesBackBy : {T : Type 0} → D → Result T (NotKept D) → (Profile → ℕ → StartFault → Disk → Disk → Type 0) → Type 0
   GivesBackBy device result Is = GivesDeviceBack disk device result (Is rules.profile rules.clients_max)
 
 module _ (profile : Profile) (clients_max : ℕ) where
-  -- no record, or a head and nothing behind it
+  -- no record, or a head and nothing after it
   abbrev pub HasNoEntry : List ℕ → Type 0
   HasNoEntry file = (contents file ≡ Records []) ⊎ (contents file ≡ Records (head_record profile clients_max ∷ []))
 
-  -- what a crash may leave while a file is opened: the file as it was, or one of the same records; one without records may have
-  -- a head then
+  -- what a crash may leave while a file is opened: the file as it was, or one with the same records; one without records may then have a head
   abbrev pub MayBeOpened : Disk → List ℕ → Type 0
   MayBeOpened before file = IsAsBefore before file ⊎ (contents file ≡ Records (recorded before.seen)) ⊎ ((recorded before.seen ≡ []) × HasNoEntry file)
 
@@ -139,14 +137,14 @@ module _ (profile : Profile) (clients_max : ℕ) where
   abbrev pub MayBeStarted : Disk → List ℕ → Type 0
   MayBeStarted before file = MayBeOpened before file ⊎ LedgerMayBeCreated before file
 
-  -- why a file is not opened: it is no journal or is damaged, it begins with records of which the last is none of the next entry by
-  -- these rules, or too much would have to be cut off. Then, and where there is no memory to restore it, it is as it was. Behind any
-  -- other fault the device failed, or was full (IsStartCause)
+  -- why a file is not opened: it is no journal or is damaged, it begins with records of which the last is not that of the next entry by these
+  -- rules, or too much would have to be cut off. Then, and if there is no memory to restore it, it is as it was. After any other fault the device
+  -- failed, or was full (IsStartCause)
   abbrev pub IsOpenRefused : StartFault → Disk → Disk → Type 0
   IsOpenRefused (start.Journal (open_faults.Device fault)) before after = Unit {0}
   IsOpenRefused fault before after = StopsOpening fault profile clients_max before.seen × IsDiskUntouched before after
 
-  -- the same of a start, which is never refused for what is in a blank file
+  -- the same for a start, which never refuses a blank file for its content
   abbrev pub IsStartRefused : StartFault → Disk → Disk → Type 0
   IsStartRefused (start.Journal (open_faults.Device fault)) before after = Unit {0}
   IsStartRefused start.NoMemory before after = IsDiskUntouched before after

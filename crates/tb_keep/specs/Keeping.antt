@@ -21,7 +21,7 @@ pub record History : Type 0 where
 abbrev pub history_state : History → State
 history_state h = after h.profile h.clients_max h.entries
 
--- a history with more entries behind it
+-- a history with more entries after it
 abbrev pub longer : History → List Entry → History
 longer h more = record h { entries = h.entries ++ more }
 

@@ -1,4 +1,4 @@
--- At each moment, whatever was acknowledged is in the file.
+-- At each moment, what was acknowledged is in the file.
 use Rattle.std.specs.Prelude.{ℕ, ◌≡◌, ◌++◌, List}
 use Rattle.tb_records.specs.Transport.{Sent}
 use Rattle.tb_journal.specs.Device.{Disk, LeavesOnly}
@@ -18,13 +18,13 @@ module _ (tells : Type 0) {D : Type 0} (disk : D → Disk) where
     pub untold : List ℕ
     pub told : reply_bytes_from first.state pairs ≡ bytes ++ untold
 
-  -- rounds behind a file at rest, and further pairs: of these nothing is sent before their entries are committed
+  -- rounds that were served from a file at rest on
   pub record Behind (done : List (List Pair)) (first before : Standing D) : Type 0 where
     pub known : tells
     pub at_rest : IsAtRest (disk first.device)
     pub kept : Rounds tells disk done first before
 
-  -- a file that a crash leaves while the entries of further pairs are committed, be it done or not
+  -- a file that a crash leaves while the entries of further pairs are committed, whether that is done or not
   abbrev pub WhileCommitting : Type 0
   WhileCommitting = (done : List (List Pair)) (ps : List Pair) (first before : Standing D) (after : D) (file : List ℕ)
       → Behind done first before
@@ -32,7 +32,7 @@ module _ (tells : Type 0) {D : Type 0} (disk : D → Disk) where
       → (disk after).left_since (disk before.device).moment file
       → Backs first (pairs_of done ++ ps) file (reply_bytes_from first.state (pairs_of done))
 
-  -- a file that a crash leaves once these are committed, when a prefix of the replies is sent
+  -- a file that a crash leaves after their commit, while a prefix of the replies is sent
   abbrev pub WhileReplying : Type 0
   WhileReplying = (done : List (List Pair)) (ps : List Pair) (first before : Standing D) (after : D) (file some rest : List ℕ)
       → Behind done first before

@@ -1,4 +1,4 @@
--- What a quick check reads of a kept file: the numbers and times of its entries, without the ledger that they make.
+-- What a quick check reads of a kept file: the numbers and times of its entries, without building the ledger.
 use Rattle.std.specs.Prelude.{ℕ, ◌≡◌, ◌+◌, ◌≤◌, ◌^◌, ◌==◌, ◌&&◌, not, max, nat_le, if◌then◌else◌, List, [], ◌∷◌, ◌++◌, map, length, Option, None, Some, Result, Ok, Err}
 use Rattle.tb_records.specs.Messages.{count}
 use Rattle.tb_records.specs.DumpBytes.{IsClients}
@@ -20,20 +20,20 @@ use Rattle.tb_keep.specs.Keeping.{History, history_state, head_record, AreRecord
 use Rattle.tb_keep.specs.Reading.{BeginsWithNoHead, rules_of}
 use Rattle.tb_keep.specs.Recovering.{IsNoRecord, IsNotOfFile, IsTornTooLong, torn_bytes}
 
--- the first test that an entry fails which is to have this commit number and follow one of this time. Whether its request is new is not
--- asked: that takes the ledger
+-- the first check that an entry fails, if it must have this commit number and follow an entry of this time. It does not check that the request is
+-- new: that takes the ledger
 abbrev pub misplaced : ℕ → ℕ → Entry → Option Unfit
 misplaced place time e =
     if not (e.commit == place) then Some Commit
     else if not (nat_le (time + max (count e.request.body) 1) e.time && nat_le e.time LAST_MOMENT) then Some Time
     else None
 
--- entries of which the first has this commit number, each one more, and whose times rise far enough
+-- entries whose commit numbers go up by one from this one on, and whose times rise far enough
 abbrev pub AreInOrder : ℕ → ℕ → List Entry → Type 0
 AreInOrder place time [] = Unit {0}
 AreInOrder place time (e ∷ es) = (misplaced place time e ≡ None) × AreInOrder (place + 1) e.time es
 
--- the time of the last of them; without one, that before them
+-- the time of the last of them; without entries, the time before them
 abbrev pub last_time : ℕ → List Entry → ℕ
 last_time time [] = time
 last_time time (e ∷ es) = last_time e.time es
@@ -53,7 +53,7 @@ pub record IsInOrder (rules : Rules) (last : ℕ) (file : List ℕ) : Type 0 whe
   pub reads : contents file ≡ Records (head_record rules.profile rules.clients_max ∷ records)
   pub ordered : AreOrdered 1 0 records last
 
--- why a record is refused that is to be that of an entry of this commit number, behind one of this time
+-- why a record is refused that must be that of an entry of this commit number, after one of this time
 abbrev pub StopsPlace : StartFault → ℕ → ℕ → List ℕ → Type 0
 StopsPlace (start.Record at fault) place time bytes = (at ≡ place) × IsNoRecord fault bytes
 StopsPlace (start.Entry fault) place time bytes = (fault.place ≡ place) × ((e : Entry) × IsRecord bytes e × (misplaced place time e ≡ Some fault.cause))
@@ -70,7 +70,7 @@ pub record StopsOrder (fault : StartFault) (file : List ℕ) : Type 0 where
   pub ordered : AreOrdered 1 0 records last
   pub stops : StopsPlace fault (length records + 1) last bytes
 
--- no quick check accepts the file: it is not read, it has no head, a record behind that is refused, or more torn bytes are behind its records
+-- no quick check accepts the file: it is not read, it has no head, a record after the head is refused, or more torn bytes are after its records
 -- than one batch can have
 abbrev pub IsNotInOrder : StartFault → List ℕ → Type 0
 IsNotInOrder (start.Journal fault) file = RefusesFile fault file
@@ -84,10 +84,10 @@ abbrev pub FindsOrder : Result (Rules × ℕ × Extent) StartFault → List ℕ 
 FindsOrder (Ok found) file = IsInOrder found.0 found.1 file × (extent_of (contents file) ≡ Ok found.2) × (torn_bytes file ≤ 2 ^ 22)
 FindsOrder (Err fault) file = IsNotInOrder fault file
 
--- what a file that represents a history has: its rules, and its entries in order
+-- a file that represents a history has its rules, and its entries in order
 abbrev pub HistoriesAreInOrder : Type 0
 HistoriesAreInOrder = (h : History) (file : List ℕ) → IsLedger h file → IsInOrder (rules_of h.profile h.clients_max) (history_state h).books.time file
 
--- so what a start or a whole check accepts no quick check refuses, but where memory runs out or the device fails
+-- so a quick check refuses nothing that a start or a whole check accepts, unless memory runs out or the device fails
 abbrev pub QuickRefusesNone : Type 0
 QuickRefusesNone = (fault : StartFault) (h : History) (file : List ℕ) → IsLedger h file → torn_bytes file ≤ 2 ^ 22 → IsNotInOrder fault file → IsNotOfFile fault

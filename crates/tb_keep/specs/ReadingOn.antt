@@ -1,4 +1,4 @@
--- What is taken over of a file behind its damage.
+-- What is copied of a file after its damage.
 use Rattle.std.specs.Prelude.{ℕ, ◌+◌, ◌≤◌, List, [], ◌∷◌, length}
 use Rattle.tb_journal.specs.Device.{Disk, LeavesOnly}
 use Rattle.tb_journal.specs.Seeking.{StandsAt}
@@ -6,13 +6,13 @@ use Rattle.tb_machine.specs.declared.entries.Entry.{Entry}
 use Rattle.tb_keep.specs.Keeping.{History, longer, Keeping, Keeps, IsUsable, IsLedger}
 use Rattle.tb_keep.specs.Recovering.{RecordsLead}
 
--- these records stand in a file from an offset on and up to another, in this order and apart
+-- these records are in a file from an offset on and up to another, in this order and without overlap
 abbrev pub StandBetween : ℕ → List (List ℕ) → ℕ → List ℕ → Type 0
 StandBetween at [] end file = at ≤ end
 StandBetween at (bytes ∷ records) end file =
     (place : ℕ) × (at ≤ place) × StandsAt place bytes file × StandBetween (place + (4 + length bytes)) records end file
 
--- behind the history of a new file are entries that follow it legally, and whose records stand in the file that is read, from an offset on
+-- the history of a new file goes on with entries that follow it legally, and whose records are in the file that is read, from an offset on
 pub record IsReadOn (tells : Type 0) {N : Type 0} (disk : N → Disk) (holds : List ℕ → Type 0) (at : ℕ) (before after : Keeping N) : Type 0 where
   pub records : List (List ℕ)
   pub leads : RecordsLead before.state records after.state

@@ -1,4 +1,4 @@
--- What is taken over of a file into a new one, and what a crash may leave of that meanwhile.
+-- What is copied of a file into a new one, and what a crash may leave of that meanwhile.
 use Rattle.std.specs.Prelude.{ℕ, true, ◌≡◌, ◌⊎◌, ◌+◌, ◌<◌, ◌≤◌, ◌^◌, List, [], ◌∷◌, ◌++◌, length, Option, None, Some, Result, Ok, Err, OnOk, IfErr}
 use Rattle.tb_journal.specs.declared.faults.JournalFault.{JournalFault}
 use Rattle.tb_journal.specs.declared.faults.JournalFault.TheVariants.{Memory, Full, NotEmpty}
@@ -21,7 +21,7 @@ use Rattle.tb_keep.specs.Creating.{IsDiskUntouched}
 use Rattle.tb_keep.specs.Reading.{BeginsWithNoHead, IsNoHistory}
 use Rattle.tb_keep.specs.Recovering.{StopsAt, IsTornTooLong, torn_bytes}
 
--- a fault of the file that is read, or of the new one; the other has none
+-- a fault of the file that is read, or of the new one; the other has no fault
 abbrev pub old_part : SalvageFault → Result (Unit {0}) StartFault
 old_part (Old fault) = Err fault
 old_part (New fault) = Ok tt
@@ -38,7 +38,7 @@ abbrev pub why_new : {T N : Type 0} → Result T (NotSalvaged N) → Result (Uni
 why_new (Ok value) = Ok tt
 why_new (Err failed) = new_part failed.fault
 
--- of each file that the reads are of is said why it was not taken over
+-- for each file that the device reads, why it was not copied
 abbrev pub SaysWhy : {T N : Type 0} → (List ℕ → Type 0) → Result T (NotSalvaged N) → (SalvageFault → List ℕ → Type 0) → Type 0
 SaysWhy holds result Is = (file : List ℕ) → holds file → IfErr result (λ failed. Is failed.fault file)
 
@@ -51,9 +51,8 @@ abbrev pub backup_device : {N : Type 0} → Result (Keeping N) (NotSalvaged N) �
 backup_device (Ok keeper) = keeper.journal.device
 backup_device (Err failed) = failed.device
 
--- why no more is taken of a file behind these records, by which a machine was led to a state. The file ends there, with few torn bytes
--- behind it; or it is the fault for which a start refuses it: too many of them, damage, or one more record that is none of the next
--- entry
+-- why no more is copied of a file after these records, by which a machine was led to a state. The file ends there, with few torn bytes after it; or
+-- it is the fault for which a start refuses it: too many of them, damage, or one more record that is not that of the next entry
 abbrev pub StopsBehind : Option StartFault → List (List ℕ) → State → List ℕ → Type 0
 StopsBehind None records S file = (contents file ≡ Records records) × (torn_bytes file ≤ 2 ^ 22)
 StopsBehind (Some (start.TornTooLong at bytes)) records S file = (contents file ≡ Records records) × IsTornTooLong at bytes file
@@ -63,13 +62,13 @@ StopsBehind (Some (start.Record place fault)) records S file =
 StopsBehind (Some (start.Entry fault)) records S file = (bytes : List ℕ) × BeginsWith (records ++ bytes ∷ []) file × StopsAt (start.Entry fault) S bytes
 StopsBehind stop records S file = ⊥
 
--- a history was taken of a file: the file begins with its records, behind which no more can be taken
+-- a history was copied of a file: the file begins with its records, after which no more can be copied
 pub record IsHistoryTaken (h : History) (end : ℕ) (stop : Option StartFault) (file : List ℕ) : Type 0 where
   pub begins : BeginsWith (records_of h) file
   pub end_is : end ≡ records_end (records_of h)
   pub stops : StopsBehind stop (records_of h) (history_state h) file
 
--- a history that a keeper of the new file keeps, which may serve
+-- a keeper of the new file that keeps a history and may serve
 pub record IsNewKeeper (tells : Type 0) {N : Type 0} (disk : N → Disk) (h : History) (keeper : Keeping N) : Type 0 where
   pub keepable : IsKeepable h
   pub state : keeper.state ≡ history_state h
@@ -77,19 +76,19 @@ pub record IsNewKeeper (tells : Type 0) {N : Type 0} (disk : N → Disk) (h : Hi
   pub usable : IsUsable keeper
   pub uncut : keeper.cut ≡ 0
 
--- the new file has the history that was taken of the one that is read
+-- the new file has the history that was copied of the one that is read
 pub record IsSalvaged (tells : Type 0) {N : Type 0} (disk : N → Disk) (holds : List ℕ → Type 0) (salvaged : Salvaged N) : Type 0 where
   pub history : History
   pub keeper : IsNewKeeper tells disk history salvaged.keeper
   pub taken : (file : List ℕ) → holds file → IsHistoryTaken history salvaged.end salvaged.stop file
 
--- the new file has the history that the one that is read represents, with few torn bytes behind it
+-- the new file has the history that the one that is read represents, with few torn bytes after it
 pub record IsBackedUp (tells : Type 0) {N : Type 0} (disk : N → Disk) (holds : List ℕ → Type 0) (keeper : Keeping N) : Type 0 where
   pub history : History
   pub kept : IsNewKeeper tells disk history keeper
   pub whole : (file : List ℕ) → holds file → IsLedger history file × (torn_bytes file ≤ 2 ^ 22)
 
--- why nothing is taken of a file: it is no journal, its first block is damaged, or its first record is no head. For any other fault it is
+-- why nothing is copied of a file: it is no journal, its first block is damaged, or its first record is no head. For any other fault the file is
 -- not the reason
 abbrev pub IsUnsalvaged : SalvageFault → List ℕ → Type 0
 IsUnsalvaged (Old start.Head) file = BeginsWithNoHead file
@@ -100,21 +99,20 @@ IsUnsalvaged (Old start.NoMemory) file = Unit {0}
 IsUnsalvaged (Old fault) file = ⊥
 IsUnsalvaged (New fault) file = Unit {0}
 
--- why a file is not backed up: it represents no history, or too many torn bytes are behind it
+-- why a file is not backed up: it represents no history, or too many torn bytes are after it
 abbrev pub IsNotBackedUp : SalvageFault → List ℕ → Type 0
 IsNotBackedUp (Old (start.TornTooLong at bytes)) file = IsTornTooLong at bytes file
 IsNotBackedUp (Old start.NoMemory) file = Unit {0}
 IsNotBackedUp (Old fault) file = IsNoHistory fault file
 IsNotBackedUp (New fault) file = Unit {0}
 
--- why a file is not written to where no call has failed: there is no memory, or the file, one batch and a record have more bytes than a
--- file can have
+-- why a file is not written to if no call has failed: there is no memory, or the file, one batch and a record have more bytes than a file can have
 abbrev pub IsOwnWriteCause : List ℕ → JournalFault → Type 0
 IsOwnWriteCause file Memory = Unit {0}
 IsOwnWriteCause file Full = 2 ^ 62 < length file + 2 ^ 25
 IsOwnWriteCause file fault = ⊥
 
--- the cause of a fault of the new file: that of its creation; or a call has failed so; or none has, and it is one of these
+-- the cause of a fault of the new file: that of its creation; or a call has failed; or no call has, and it is one of these
 abbrev pub IsWriteCause : Disk → Disk → JournalFault → Type 0
 IsWriteCause before after fault = HasFailed before after fault ⊎ (IsOwnWriteCause after.seen fault × FailsNone before after)
 
@@ -124,7 +122,7 @@ IsNewCause before after (start.Journal (open_faults.Device fault)) =
 IsNewCause before after start.NoMemory = FailsNone before after
 IsNewCause before after fault = ⊥
 
--- where something is in the place of the new file, that is as it was
+-- if something is in the place of the new file, that is as it was
 abbrev pub IsLeftAlone : Disk → Disk → StartFault → Type 0
 IsLeftAlone before after (start.Journal (open_faults.Device NotEmpty)) = IsDiskUntouched before after
 IsLeftAlone before after fault = Unit {0}
@@ -134,7 +132,7 @@ pub record HasNewCause {T : Type 0} (result : Result T StartFault) (before after
   pub cause : IfErr result (IsNewCause before after)
   pub alone : IfErr result (IsLeftAlone before after)
 
--- the same, by the device of the new file before the call and the one behind it
+-- the same, by the device of the new file before the call and after it
 abbrev pub NewCause : {T N : Type 0} → (N → Disk) → N → Result T (NotSalvaged N) → N → Type 0
 NewCause disk into result after = HasNewCause (why_new result) (disk into) (disk after)
 
@@ -150,7 +148,7 @@ MayBeSalvaged holds before c =
 abbrev pub LeavesSome : {N : Type 0} → (N → Disk) → (List ℕ → Type 0) → N → N → Type 0
 LeavesSome disk holds into after = LeavesOnly (disk into) (disk after) (MayBeSalvaged holds (disk into))
 
--- no legal history with whose records the file begins has more of them than the one that is taken
+-- no legal history with whose records the file begins has more of them than the one that is copied
 abbrev pub IsLongest : Type 0
 IsLongest = (h k : History) (end : ℕ) (stop : Option StartFault) (file : List ℕ) → IsKeepable h → IsKeepable k → IsHistoryTaken h end stop file → BeginsWith (records_of k) file
     → (rest : List (List ℕ)) × (records_of h ≡ records_of k ++ rest)

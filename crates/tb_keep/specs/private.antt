@@ -1,4 +1,4 @@
--- what private contracts alone cite
+-- what only private contracts cite
 pub mod Sources
 pub mod Entering
 pub mod Sending

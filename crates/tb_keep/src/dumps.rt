@@ -33,7 +33,7 @@ fn rules_in(head: &[u8]) -> Result<Rules, StartFault>
     }
 }
 
-/// Reads the first record of a file of which nothing was read, and answers the rules that it names.
+/// Reads the first record of a file of which nothing was read, and returns the rules that it names.
 pub(crate) fn first_rules<D: Device>(scan: &mut Scan, device: &mut D) -> Result<Rules, StartFault>
     ensures rules { OfBehind (D.holds device.old) [] scan.old (FindsHeadRules result scan.new) }
     ensures same { (file : List ℕ) → D.holds device.old file → D.holds device.new file }
@@ -48,9 +48,9 @@ pub(crate) fn first_rules<D: Device>(scan: &mut Scan, device: &mut D) -> Result<
     }
 }
 
-/// The rules that a file's head names. Head where there is none. No more of the file is read than a piece, or its first record.
+/// The rules that a file's head names. The fault is Head if there is no head. No more of the file is read than a piece, or its first record.
 pub fn read_rules<D: Device>(global: Global, device: &mut D) -> Result<Rules, StartFault>
-    // Of any device, by the file that its reads are of.
+    // For any device, by the file that it reads.
     ensures rules { (file : List ℕ) → D.holds device.old file → RulesAnswer result file }
     ensures same { (file : List ℕ) → D.holds device.old file → D.holds device.new file }
     ensures untouched { D.tells → IsDiskUntouched (D.disk device.old) (D.disk device.new) }
@@ -67,7 +67,7 @@ pub fn read_history<D: Device>(
     global: Global,
     device: &mut D,
 ) -> Result<(Rules, Machine<Global>, Extent), StartFault>
-    // Of any device, by the file that its reads are of.
+    // For any device, by the file that it reads.
     ensures found { (file : List ℕ) → D.holds device.old file → FindsHistory result file }
     ensures same { (file : List ℕ) → D.holds device.old file → D.holds device.new file }
     ensures untouched { D.tells → IsDiskUntouched (D.disk device.old) (D.disk device.new) }
@@ -96,7 +96,7 @@ fn history_by<D: Device>(
     }
 }
 
-/// The history of a file of these rules, of which the head was read.
+/// The history of a file of these rules whose head was read.
 fn history_behind<D: Device>(
     global: Global,
     rules: Rules,
@@ -114,8 +114,8 @@ fn history_behind<D: Device>(
     }
 }
 
-/// The history of a file that was read to this extent. Where more torn bytes are behind its records than one batch can have, it is
-/// refused, as by a start.
+/// The history of a file that was read to this extent. The file is refused, as by a start, if more torn bytes are after its records than one batch
+/// can have.
 fn history_of<D: Device>(
     rules: Rules,
     machine: Machine<Global>,
@@ -162,8 +162,8 @@ fn send_above<W: Sink>(
     put_all(writer, bytes)
 }
 
-/// Reads the next record, and writes it if its entry's commit number is above `after`: false where there is none. The head is
-/// record 0, so that each record behind it has the number that its entry has.
+/// Reads the next record, and writes it if its entry's commit number is above `after`: false if there is no record. The head is record 0, so each
+/// record after it has the number that its entry has.
 fn send_next<D: Device, W: Sink>(
     scan: &mut Scan,
     device: &mut D,
@@ -188,7 +188,7 @@ fn send_next<D: Device, W: Sink>(
     }
 }
 
-/// Writes the entries that are left and have a commit number above `after`, one behind another.
+/// Writes the remaining entries that have a commit number above `after`, one after another.
 fn send_records<D: Device, W: Sink>(
     scan: &mut Scan,
     device: &mut D,
@@ -210,20 +210,20 @@ fn send_records<D: Device, W: Sink>(
     }
 }
 
-/// Writes the entries of a file that were not read yet and have a commit number above `after`, one behind another and without a
-/// head, as a dump has them. Returns how many entries were read of the file so far: the commit number of the last. Where that is not
-/// above `after`, nothing is written, which is no fault.
+/// Writes the entries of a file that were not read yet and have a commit number above `after`, one after another and without a head, as a dump has
+/// them. Returns how many entries were read of the file so far, which is the commit number of the last. If that is not above `after`, nothing is
+/// written, which is no fault.
 ///
-/// A scan of which nothing was read passes over the head. A scan that came to the end goes on where the file has more records, and
-/// each is read and written once. Writer, with the fault Device, where the writer answers an error, or takes nothing of what is left;
-/// Journal where the file is not read to its end: then a prefix went out.
+/// A scan of which nothing was read skips the head. A scan that came to the end goes on if the file has more records, and each is read and written
+/// once. The fault is Writer, with Device, if the writer returns an error, or accepts none of the remaining bytes. It is Journal if the file is not
+/// read to its end. Either way a prefix was written.
 pub fn write_entries<D: Device, W: Sink>(
     scan: &mut Scan,
     device: &mut D,
     writer: &mut W,
     after: u64,
 ) -> Result<u64, DumpFault>
-    // Of any device, by the file that its reads are of.
+    // For any device, by the file that it reads.
     ensures writes { OfRead (D.holds device.old) scan.old
         (λ read file. WritesEntries result after read file scan.new (W.output writer.old) (W.output writer.new)) }
     ensures same { (file : List ℕ) → D.holds device.old file → D.holds device.new file }
@@ -259,16 +259,16 @@ fn dump_by<D: Device, W: Sink>(
     }
 }
 
-/// Writes the history of a file of these rules as a dump, which `replay` of tb_machine reads. The file is read once more for
-/// it. Writer, with the fault Device, where the writer answers an error, or takes nothing of what is left; Journal where the
-/// file is not read to its end: then a prefix went out.
+/// Writes the history of a file of these rules as a dump, which `replay` of tb_machine reads. The file is read once more for it. The fault is
+/// Writer, with Device, if the writer returns an error, or accepts none of the remaining bytes. It is Journal if the file is not read to its end.
+/// Either way a prefix was written.
 pub fn write_dump<D: Device, W: Sink>(
     global: Global,
     device: &mut D,
     rules: Rules,
     writer: &mut W,
 ) -> Result<(), DumpFault>
-    // Of any device, by the file that its reads are of.
+    // For any device, by the file that it reads.
     ensures dumps { (file : List ℕ) → D.holds device.old file
         → Dumps result rules file (W.output writer.old) (W.output writer.new) }
     ensures same { (file : List ℕ) → D.holds device.old file → D.holds device.new file }

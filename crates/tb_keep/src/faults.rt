@@ -8,8 +8,8 @@ use tb_machine::{RestoreFault, RunFault};
 use tb_records::FrameFault;
 use thiserror::Error;
 
-/// Why serving ends before the pairs do. Nothing more is answered, and the keeper is not to be used again: its machine may
-/// be ahead of the file. The file is opened again.
+/// Why serving ends before the pairs do. No more replies are sent, and the keeper must not be used again, because its machine may be ahead of the
+/// file. The file is opened again.
 #[derive(Clone, Copy, Debug, PartialEq, Eq, Error)]
 pub enum KeepFault {
     /// A fault that serving without a file has too.
@@ -76,7 +76,7 @@ impl fmt::Display for KeepFault {
 pub enum StartFault {
     /// The journal is not opened or created, or its head is not committed.
     Journal(OpenFault),
-    /// The first record is no head, or there is none.
+    /// The first record is no head, or there is no record.
     Head,
     /// The head names other rules.
     OtherRules,
@@ -84,10 +84,10 @@ pub enum StartFault {
     Record { place: u64, fault: FrameFault },
     /// The entry of this place may not come next.
     Entry(RestoreFault),
-    /// There is no memory.
+    /// Out of memory.
     NoMemory,
-    /// Behind the last whole record, which ends at this offset, are more bytes than a batch can have that was not committed:
-    /// so many, behind the latch there. They are not cut off.
+    /// The last whole record ends at offset `at`. After it and the latch there are `bytes` bytes: more than a batch can have that was not
+    /// committed. They are not cut off.
     TornTooLong { at: u64, bytes: u64 },
 }
 
@@ -166,12 +166,12 @@ impl fmt::Display for DumpFault {
     }
 }
 
-/// Why the entries of a file are not taken over into a new one.
+/// Why the entries of a file are not copied into a new one.
 #[derive(Clone, Copy, Debug, PartialEq, Eq, Error)]
 pub enum SalvageFault {
     /// The old file is no ledger, or it is not read on: the fault of a start.
     Old(StartFault),
-    /// The new file is not made, or not written to.
+    /// The new file is not created, or not written to.
     New(StartFault),
 }
 

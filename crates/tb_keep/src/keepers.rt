@@ -6,14 +6,14 @@ use std::marker::Model;
 use tb_journal::{Device, Journal};
 use tb_machine::Machine;
 
-/// A machine, and the journal that its entries are in. After a fault it cannot serve any more: the file is opened again. The
-/// machine's records take their memory of `A`, all else of the global allocator.
+/// A machine, and the journal that holds its entries. After a fault it no longer serves: the file must be opened again. The machine's records
+/// allocate from `A`, everything else from the global allocator.
 #[derive(Drop)]
 pub struct Keeper<D: Device, A: Allocator + Clone = Global> {
     pub(crate) global: Global,
     pub(crate) journal: Journal<D>,
     pub(crate) machine: Machine<A>,
-    // The torn bytes that the start cut off.
+    // The number of torn bytes that the start cut off.
     pub(crate) cut: u64,
     // No call of `keep` has failed.
     pub(crate) usable: bool,
@@ -28,7 +28,7 @@ impl<D: Device, A: Allocator + Clone> Model for Keeper<D, A> {
 }
 
 impl<D: Device, A: Allocator + Clone> Keeper<D, A> {
-    /// A keeper of a machine that is in the state after the journal's entries. So many torn bytes were cut off.
+    /// A keeper of a machine that is in the state after the journal's entries. The start cut off `cut` torn bytes.
     pub(crate) fn new(
         global: Global,
         journal: Journal<D>,
@@ -56,15 +56,14 @@ impl<D: Device, A: Allocator + Clone> Keeper<D, A> {
         &self.journal
     }
 
-    /// How many bytes the start cut off: what a batch that was not committed had left behind the records and the latch there.
-    /// 0 where there were none.
+    /// How many bytes the start cut off: the bytes after the records and the latch there, which an uncommitted batch left. 0 if it cut off nothing.
     pub fn cut_bytes(&self) -> u64
         ensures { result ≡ self.now.cut }
     {
         self.cut
     }
 
-    /// The device, given back. The machine and what waits are dropped.
+    /// Returns the device. The machine and the records that wait are dropped.
     pub fn into_device(self) -> D
         ensures { result ≡ self.journal.device }
     {

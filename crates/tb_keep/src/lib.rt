@@ -1,24 +1,22 @@
-//! A ledger server whose history outlives its process: entries are in a journal before their replies go out.
+//! A ledger server whose history outlives its process: entries are in a journal before their replies are sent.
 //!
 //! Modules, each over those before it:
 //!
 //! - `faults`: why a kept ledger does not go on.
 //! - `keepers`: `Keeper`, a machine, and the journal that its entries are in.
-//! - `recovering`: record 0 of the journal, the rules of the ledger; a machine from the records behind it, each entered before the next is
-//!   read.
+//! - `recovering`: record 0 of the journal, the rules of the ledger; a machine from the records after it, each entered before the next is read.
 //! - `creating`: `create`, `Keeper::open` and `Keeper::start`.
-//! - `replies`: replies held in memory until the entries that they rest on are durable.
+//! - `replies`: replies held in memory until the entries that they depend on are durable.
 //! - `rounds`: `keep`, pairs served, entries committed, and then replies sent.
 //! - `dumps`: the rules, the history, the dump and the later entries of a file, read without a write.
-//! - `quick`: the numbers and times of a file's entries, read without the ledger that they make.
-//! - `salvaging`: the entries of a file taken over into a new one.
-//! - `reading_on`: the entries that stand in a file behind its damage, taken over too.
+//! - `quick`: the numbers and times of a file's entries, read without building the ledger.
+//! - `salvaging`: the entries of a file copied into a new one.
+//! - `reading_on`: the entries after a file's damage, copied too.
 //! - `laws`: what holds of every kept ledger: functions that do nothing.
 //! - `worked_rows`: small files, and what the definitions make of them.
 //!
-//! specs/Keeping is what a file represents, specs/Rounds what serving does, specs/Creating, Recovering, Reading and Quick what the
-//! others do, specs/private/Sources of which bytes they speak, specs/Moments and Again what holds at each moment and after
-//! a crash.
+//! specs/Keeping says what a file represents, and specs/Rounds what serving does. specs/Creating, Recovering, Reading and Quick say what the others
+//! do, and specs/private/Sources what the next step of a scan finds. specs/Moments and Again say what holds at each moment and after a crash.
 #![tactic(auto)]
 
 mod creating;

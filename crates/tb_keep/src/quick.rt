@@ -1,4 +1,4 @@
-//! The numbers and times of the entries of a kept file, read without the ledger that they make.
+//! The numbers and times of the entries of a kept file, read without building the ledger.
 ghost use Rattle.std.specs.Prelude.{◌≡◌, ℕ, List, [], IfOk, IfSome};
 ghost use Rattle.tb_journal.specs.Scans.{GoesFurther};
 ghost use Rattle.tb_keep.specs.Creating.{IsDiskUntouched};
@@ -18,7 +18,7 @@ use tb_journal::{Device, Extent, OpenFault, Scan};
 use tb_machine::{Entry, RestoreFault, Unfit, read_entry};
 use tb_records::{FrameFault, LAST_MOMENT};
 
-/// The first test that an entry fails which is to have this commit number and follow one of this time.
+/// The first check that an entry fails, if it must have this commit number and follow an entry of this time.
 fn misplaced(place: u64, time: u64, entry: &Entry) -> Option<Unfit>
     ensures { result ≡ misplaced place time entry.now }
 {
@@ -33,7 +33,7 @@ fn misplaced(place: u64, time: u64, entry: &Entry) -> Option<Unfit>
     }
 }
 
-/// The time of the entry whose record the bytes are, which is to have this commit number and follow one of this time.
+/// The time of the entry of a record, which must have this commit number and follow an entry of this time.
 fn read_placed(global: Global, place: u64, time: u64, bytes: &[u8]) -> Result<u64, StartFault>
     ensures { ReadsPlaced result place time bytes.now }
 {
@@ -47,8 +47,8 @@ fn read_placed(global: Global, place: u64, time: u64, bytes: &[u8]) -> Result<u6
     }
 }
 
-/// Reads the next record, whose entry is to follow one of this time, and returns the time of that; None where there is no record.
-/// The head is record 0, so that each record behind it has the number that its entry has.
+/// Reads the next record, whose entry must follow one of this time, and returns that entry's time; None if there is no record. The head is record
+/// 0, so each record after it has the number that its entry has.
 fn pass_next<D: Device>(
     global: Global,
     time: u64,
@@ -72,7 +72,7 @@ fn pass_next<D: Device>(
     }
 }
 
-/// Reads the records that are left, and returns the time of the last entry; 0 where there is none.
+/// Reads the remaining records, and returns the time of the last entry; 0 if there is no entry.
 fn pass_all<D: Device>(global: Global, scan: &mut Scan, device: &mut D) -> Result<u64, StartFault>
     ensures passes { OfRead (D.holds device.old) scan.old (λ read file. PassesAll result read file scan.new) }
     ensures same { (file : List ℕ) → D.holds device.old file → D.holds device.new file }
@@ -89,8 +89,7 @@ fn pass_all<D: Device>(global: Global, scan: &mut Scan, device: &mut D) -> Resul
     }
 }
 
-/// What was read of a file to this extent. Where more torn bytes are behind its records than one batch can have, it is refused, as by a
-/// start.
+/// What was read of a file to this extent. The file is refused, as by a start, if more torn bytes are after its records than one batch can have.
 fn order_of<D: Device>(
     rules: Rules,
     time: u64,
@@ -116,7 +115,7 @@ fn order_of<D: Device>(
     }
 }
 
-/// The same of a file of these rules, of which the head was read.
+/// The same for a file of these rules whose head was read.
 fn order_behind<D: Device>(
     global: Global,
     rules: Rules,
@@ -135,7 +134,7 @@ fn order_behind<D: Device>(
     }
 }
 
-/// The same of a file of which nothing was read.
+/// The same for a file of which nothing was read.
 fn order_by<D: Device>(
     global: Global,
     scan: &mut Scan,
@@ -152,17 +151,16 @@ fn order_by<D: Device>(
     }
 }
 
-/// The rules of a file, the time of its last entry (0 without one), and where its records end, by the numbers and times of its
-/// entries alone: the ledger that they make is not made, so that no more memory is taken than one piece of the file and one record
-/// need. The file is read once.
+/// The rules of a file, the time of its last entry (0 without one), and where its records end. Only the numbers and times of its entries are read,
+/// and the ledger is not built: it needs no more memory than one piece of the file and one record. The file is read once.
 ///
-/// Each checksum is checked, the head, and of each entry the frame of its request, its commit number and its time. Errors are those of
-/// [`read_history`](crate::read_history), but that an entry is not refused as NotNew.
+/// Each checksum and the head are checked, and for each entry the frame of its request, its commit number and its time. The faults are those of
+/// [`read_history`](crate::read_history), except that no entry is refused as NotNew.
 pub fn read_quick<D: Device>(
     global: Global,
     device: &mut D,
 ) -> Result<(Rules, u64, Extent), StartFault>
-    // Of any device, by the file that its reads are of.
+    // For any device, by the file that it reads.
     ensures found { (file : List ℕ) → D.holds device.old file → FindsOrder result file }
     ensures same { (file : List ℕ) → D.holds device.old file → D.holds device.new file }
     ensures untouched { D.tells → IsDiskUntouched (D.disk device.old) (D.disk device.new) }

@@ -1,4 +1,4 @@
-//! The entries that stand in a file behind its damage, taken over too.
+//! The entries that are in a file after its damage, copied too.
 ghost use Rattle.std.specs.Prelude.{◌≡◌, ◌+◌, ◌<◌, ◌≤◌, ◌^◌, ℕ, true, false, List, [], length, take, drop, Ok, IfOk, IfErr, IfSome, OnOk};
 ghost use Rattle.tb_journal.specs.Ready.{IsReady};
 ghost use Rattle.tb_journal.specs.Seeking.{IsSeeking};
@@ -15,10 +15,10 @@ use crate::salvaging::{commit_taken, stop_of, take_record};
 use std::alloc::Global;
 use tb_journal::{Device, FILE_BYTES_MAX, JournalFault, OpenFault, Seek};
 
-/// What was taken over of a file behind its damage.
+/// What was copied of a file after its damage.
 #[derive(Clone, Copy)]
 pub struct ReadOn {
-    /// The offset of the first block, in bytes; that of the damage where there is none.
+    /// The offset of the first block, in bytes; that of the damage if there is no block.
     pub first: usize,
     /// The bytes of the blocks.
     pub bytes: usize,
@@ -32,17 +32,17 @@ const SUM_BYTES: usize = 4;
 // The parts of an entry before its body: two numbers, and the header of its request.
 const ENTRY_FIXED_BYTES: usize = 16 + 48;
 
-// Where the length of its body is, behind the checksum of its record.
+// The offset of the length of its body, from the checksum of its record on.
 const BODY_LENGTH_AT: usize = SUM_BYTES + 16 + 32;
 
-// So many bytes say how long a record is.
+// This many bytes say how long a record is.
 const PEEK_BYTES: usize = BODY_LENGTH_AT + 4;
 
 // No body is longer: 8,190 items of 128 bytes.
 const BODY_BYTES_MAX: usize = 8190 * 128;
 
-/// The length of the record of the entry with this commit number that may be behind the checksum in these bytes, by what its frame
-/// says. None where there is no such entry.
+/// The length of the record of the entry with this commit number that may be after the checksum in these bytes, as its frame states it. None if
+/// there is no such entry.
 fn record_len(bytes: &[u8], commit: u64) -> Option<usize>
     ensures { IfSome result (λ len. (0 < len) × (len < 2 ^ 24)) }
 {
@@ -72,7 +72,7 @@ fn old_fault(fault: JournalFault) -> SalvageFault
     SalvageFault::Old(StartFault::Journal(OpenFault::Device(fault)))
 }
 
-/// Takes a record over if it is that of the next entry: false where it is not, and nothing has changed.
+/// Copies a record if it is that of the next entry: false if it is not, and nothing has changed.
 fn take_if_next<N: Device>(
     global: Global,
     keeper: &mut Keeper<N>,
@@ -92,7 +92,7 @@ fn take_if_next<N: Device>(
     }
 }
 
-/// Takes over the record of so many bytes whose checksum is at the place of a seek: false where there is none, or not the next entry's.
+/// Copies the record of `len` bytes whose checksum is at the place of a seek: false if there is no such record, or it is not the next entry's.
 fn take_here<D: Device, N: Device>(
     global: Global,
     keeper: &mut Keeper<N>,
@@ -117,7 +117,7 @@ fn take_here<D: Device, N: Device>(
     }
 }
 
-/// Goes on behind the record of so many bytes that was taken over.
+/// Moves a seek past the record of `len` bytes that was copied, and counts its block.
 fn pass_record(seek: &mut Seek, on: &mut ReadOn, len: usize)
     requires near { seek.old.at < 2 ^ 62 }
     requires short { len < 2 ^ 24 }
@@ -131,7 +131,7 @@ fn pass_record(seek: &mut Seek, on: &mut ReadOn, len: usize)
     seek.skip(SUM_BYTES + len);
 }
 
-/// Takes over the record of so many bytes at the place of a seek, and goes on behind it; by one byte, where none is taken over.
+/// Copies the record of `len` bytes at the place of a seek, and moves past it; by one byte if no record is copied.
 fn take_or_pass<D: Device, N: Device>(
     global: Global,
     keeper: &mut Keeper<N>,
@@ -164,7 +164,7 @@ fn take_or_pass<D: Device, N: Device>(
     }
 }
 
-/// Takes over what stands at the place of a seek that has bytes ahead, and goes on behind it.
+/// Copies the record of the next entry at the place of a seek that has bytes ahead, and moves past it; by one byte if it is not there.
 fn look_here<D: Device, N: Device>(
     global: Global,
     keeper: &mut Keeper<N>,
@@ -224,7 +224,7 @@ fn look_on<D: Device, N: Device>(
     }
 }
 
-/// Takes over what stands behind the place of a seek, to the end of the file.
+/// Copies the next entries from the place of a seek on, to the end of the file.
 fn look_through<D: Device, N: Device>(
     global: Global,
     keeper: &mut Keeper<N>,
@@ -251,14 +251,13 @@ fn look_through<D: Device, N: Device>(
     }
 }
 
-/// Takes over the entries that stand in a file behind its damage, from an offset on: where a start of the old file stops, the history of
-/// the new one goes on with each next entry whose record and checksum stand at any later offset, whatever is between. What was taken is
-/// durable.
+/// Copies the entries that are in a file after its damage, from an offset on. Where a start of the old file stops, the history of the new one goes
+/// on with each next entry whose record and checksum are at any later offset, whatever is between. What was copied is durable.
 ///
-/// Each offset costs one test of 8 bytes, the number of the next entry; where they are there, the checksum of one record is made.
+/// Each offset costs one test of 8 bytes, the number of the next entry. If they match, the checksum of one record is computed.
 ///
-/// An error is Old where the old file is not read on, and New where the new one is not written to: it then has the history that it had,
-/// and maybe more.
+/// The fault is Old if the old file is not read on, and New if the new one is not written to. The new file then has the history that it had, and
+/// maybe more.
 pub fn read_on<D: Device, N: Device>(
     global: Global,
     keeper: &mut Keeper<N>,
@@ -267,7 +266,7 @@ pub fn read_on<D: Device, N: Device>(
 ) -> Result<ReadOn, SalvageFault>
     requires usable { IsUsable keeper.old }
     requires fresh { N.tells → IsFresh N.disk keeper.old }
-    // Of any device, by the file that the reads of the old one are of.
+    // For any device, by the file that the old one reads.
     ensures on { OnOk result (IsReadOn N.tells N.disk (D.holds from.old) at keeper.old keeper.new) }
     ensures any_moment { N.tells → (h : History) → Keeps N.disk h keeper.old
         → LeavesLonger h (N.disk keeper.old.journal.device) (N.disk keeper.new.journal.device) }

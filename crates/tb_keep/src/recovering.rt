@@ -1,4 +1,4 @@
-//! The head of a kept file, record 0 of its journal, and the restoring of a machine from the records behind it.
+//! The head of a kept file, record 0 of its journal, and the restoring of a machine from the records after it.
 ghost use Rattle.std.specs.Prelude.{◌≡◌, ◌≤◌, ◌+◌, ℕ, true, List, [], Ok, IfOk, IfErr, OnOk};
 ghost use Rattle.tb_records.specs.Limits.{IsClients};
 ghost use Rattle.tb_journal.specs.Scans.{GoesFurther, IsAt, ScanCause};
@@ -17,7 +17,7 @@ use tb_journal::{Device, Extent, OpenFault, Scan};
 use tb_machine::{Entry, Machine, Unfit, read_entry, restore};
 use tb_records::{ClientsMax, FrameFault, Profile};
 
-/// Reads the record that is behind the entries of a machine.
+/// Reads a record as that of the next entry after those of a machine.
 fn entry_of_record<A: Allocator + Clone>(
     global: Global,
     machine: &Machine<A>,
@@ -65,7 +65,7 @@ pub(crate) fn enter_record<A: Allocator + Clone>(
     }
 }
 
-/// Reads the next record, and answers whether there is one.
+/// Reads the next record, and returns whether there is one.
 pub(crate) fn read_record<D: Device>(scan: &mut Scan, device: &mut D) -> Result<bool, OpenFault>
     ensures reads { OfRead (D.holds device.old) scan.old
         (λ all file. IsNext result all file scan.new) }
@@ -78,7 +78,7 @@ pub(crate) fn read_record<D: Device>(scan: &mut Scan, device: &mut D) -> Result<
     scan.next(device)
 }
 
-/// Reads the head of a file of which nothing was read, and answers whether there is one.
+/// Reads the head of a file of which nothing was read, and checks it against the rules. Returns whether there is one.
 fn read_head_record<D: Device>(
     scan: &mut Scan,
     device: &mut D,
@@ -99,7 +99,7 @@ fn read_head_record<D: Device>(
     }
 }
 
-/// Reads the next record and enters its entry into a machine: false where there is none. On a fault the machine is as it was.
+/// Reads the next record and enters its entry into a machine: false if there is no record. On a fault the machine is as it was.
 fn enter_next<D: Device, A: Allocator + Clone>(
     global: Global,
     machine: &mut Machine<A>,
@@ -123,8 +123,8 @@ fn enter_next<D: Device, A: Allocator + Clone>(
     }
 }
 
-/// Enters the entries of the records that are left into a machine, each before the next is read. On a fault it is in the state after
-/// those before.
+/// Enters the entries of the remaining records into a machine, each before the next is read. On a fault it is in the state after the entries
+/// before.
 fn enter_all<D: Device, A: Allocator + Clone>(
     global: Global,
     machine: &mut Machine<A>,
@@ -146,7 +146,7 @@ fn enter_all<D: Device, A: Allocator + Clone>(
     }
 }
 
-/// The machine after the entries of a file of these rules of which the head was read, and where its records end.
+/// The machine after the entries of a file of these rules whose head was read, and where its records end.
 pub(crate) fn replay_behind_head<D: Device, A: Allocator + Clone>(
     global: Global,
     alloc: A,
@@ -213,20 +213,19 @@ fn replay_records<D: Device, A: Allocator + Clone>(
     }
 }
 
-/// Reads a file of these rules record by record, and enters each before the next is read: the machine after its entries, and
-/// where its records end. The machine is that of the empty history where the file has no record. What was read is on the
-/// disk; nothing is written. The first record of the file that is damaged, or none of the next entry, is reported. The machine's records
-/// take their memory of `alloc`.
+/// Reads a file of these rules record by record, and enters each record before the next is read. Returns the machine after its entries, and where
+/// its records end. For a file without records the machine is that of the empty history. What was read is durable; nothing is written. The first
+/// record that is damaged, or is not that of the next entry, is reported. The machine's records allocate from `alloc`.
 pub fn replay_journal<D: Device, A: Allocator + Clone>(
     global: Global,
     alloc: A,
     rules: &Rules,
     device: &mut D,
 ) -> Result<(Machine<A>, Extent), StartFault>
-    // Of any device, by the file that its reads are of.
+    // For any device, by the file that it reads.
     ensures found { OfHeld (D.holds device.old) (ReplaysJournal result rules.now.profile rules.now.clients_max) }
     ensures few { IfOk result (λ found. found.1.count ≤ found.1.end) }
-    // Where no sync has failed before.
+    // If no sync has failed before.
     ensures kept { D.tells → KeepsRead result (D.disk device.old) (D.disk device.new) }
     ensures sound { D.tells → OnOk result ((D.disk device.new).sound ≡ (D.disk device.old).sound) }
     ensures same { (file : List ℕ) → D.holds device.old file → D.holds device.new file }
@@ -250,7 +249,7 @@ pub fn write_head(profile: Profile, clients_max: ClientsMax) -> [u8; 6]
     [84, 66, 75, 49, number, clients_max.get() as u8]
 }
 
-/// The rules that a record names which is a head. None of any other record.
+/// The rules that a record names, if it is a head. None for any other record.
 pub fn read_head(bytes: &[u8]) -> Option<(Profile, ClientsMax)>
     ensures { NamesRules result bytes.now }
 {
@@ -266,7 +265,7 @@ pub fn read_head(bytes: &[u8]) -> Option<(Profile, ClientsMax)>
     Some((profile, clients_max))
 }
 
-/// The rules that a ledger goes by.
+/// The rules of a ledger.
 #[derive(Clone, Copy)]
 pub struct Rules {
     pub profile: Profile,
@@ -282,7 +281,7 @@ impl Rules {
     }
 }
 
-/// Whether a record is the head of a ledger of these rules.
+/// Checks that a record is the head of a ledger of these rules.
 pub(crate) fn check_head(bytes: &[u8], rules: &Rules) -> Result<(), StartFault>
     ensures { HeadRecordAnswers result bytes.now rules.now.profile rules.now.clients_max }
 {

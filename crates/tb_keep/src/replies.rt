@@ -1,4 +1,4 @@
-//! Replies that are held in memory until the entries that they rest on are durable.
+//! Replies that are held in memory until the entries that they depend on are durable.
 ghost use Rattle.std.specs.Prelude.{◌≡◌, [], Some, length};
 
 use std::alloc::{AllocError, Global};
@@ -10,9 +10,9 @@ use tb_records::Sink;
 pub(crate) struct Replies {
     pub(crate) bytes: Vec<u8>,
     failures: u64,
-    // Says that the last answer was an error.
+    // Says that the last `put` returned an error.
     halted: bool,
-    // Says that bytes were taken since the last time that they were passed on.
+    // Says that bytes were put since the last `pass_on`.
     held: bool,
 }
 
@@ -42,7 +42,7 @@ impl Replies {
         &self.bytes
     }
 
-    /// Forgets what was returned.
+    /// Drops all that is held.
     pub(crate) fn clear(&mut self)
         ensures { self.new.bytes.items ≡ [] }
     {

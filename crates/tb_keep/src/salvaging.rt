@@ -1,4 +1,4 @@
-//! The entries of a file taken over into a new one: of a file that is damaged, and of one that is whole.
+//! The entries of a file copied into a new one: of a file that is damaged, and of one that is whole.
 ghost use Rattle.std.specs.Prelude.{◌≡◌, ◌+◌, ◌<◌, ◌≤◌, ◌^◌, ℕ, true, List, [], ◌∷◌, length, IfOk, IfErr, OnOk, OnErr};
 ghost use Rattle.tb_journal.specs.Contents.{at_rest};
 ghost use Rattle.tb_journal.specs.Ready.{IsReady};
@@ -19,32 +19,32 @@ use crate::rounds::{BATCH_BYTES_MAX, BLOCK_BYTES_MAX};
 use std::alloc::Global;
 use tb_journal::{Device, Extent, Journal, JournalFault, OpenFault, Scan};
 
-/// A new file with the entries that were taken over.
+/// A new file with the entries that were copied.
 #[derive(Drop)]
 pub struct Salvaged<N: Device> {
-    /// The keeper of the new file: its machine is in the state after these entries, of which the last has the machine's commit number.
+    /// The keeper of the new file. Its machine is in the state after these entries, and its commit number is that of the last.
     pub keeper: Keeper<N>,
-    /// Where they end in the old file, in bytes: what is behind was not taken.
+    /// Where they end in the old file, in bytes: nothing after that was copied.
     pub end: u64,
-    /// Why no more was taken: the fault for which a start refuses the old file. None where that is whole.
+    /// Why no more was copied: the fault for which a start refuses the old file. None if the old file is whole.
     pub stop: Option<StartFault>,
 }
 
-/// A new file that was not made, or not to its end, and why.
+/// The device of a new file that was not created, or not completed, and why.
 #[derive(Drop)]
 pub struct NotSalvaged<N: Device> {
     pub device: N,
     pub fault: SalvageFault,
 }
 
-/// A journal's fault, as one of the new file.
+/// A journal's fault, as a fault of the new file.
 fn new_fault(fault: JournalFault) -> SalvageFault
     ensures { result ≡ SalvageFault.New (StartFault.Journal (OpenFault.Device fault)) }
 {
     SalvageFault::New(StartFault::Journal(OpenFault::Device(fault)))
 }
 
-/// Commits what waits where it may have no space for one more record.
+/// Commits what waits if there may be no space for one more record.
 #[tactic(auto, using(crate::proofs::Taking::puts_commit))]
 fn make_room<N: Device>(journal: &mut Journal<N>) -> Result<(), JournalFault>
     requires usable { journal.old.usable ≡ true }
@@ -58,7 +58,7 @@ fn make_room<N: Device>(journal: &mut Journal<N>) -> Result<(), JournalFault>
     journal.commit()
 }
 
-/// Lets a record wait for the next commit, behind a batch that has space for it.
+/// Appends a record to a batch that has space for it. It waits for the next commit.
 fn append_one<N: Device>(journal: &mut Journal<N>, bytes: &[u8]) -> Result<(), JournalFault>
     requires usable { journal.old.usable ≡ true }
     requires ready { N.tells → IsReady N.disk journal.old }
@@ -69,7 +69,7 @@ fn append_one<N: Device>(journal: &mut Journal<N>, bytes: &[u8]) -> Result<(), J
     journal.append(bytes)
 }
 
-/// Lets a record wait for the next commit, in a batch that is short enough.
+/// Appends a record for the next commit, in a batch that is short enough.
 #[tactic(auto, using(crate::proofs::Taking::puts_then))]
 fn append_short<N: Device>(journal: &mut Journal<N>, bytes: &[u8]) -> Result<(), JournalFault>
     requires usable { journal.old.usable ≡ true }
@@ -83,8 +83,8 @@ fn append_short<N: Device>(journal: &mut Journal<N>, bytes: &[u8]) -> Result<(),
     }
 }
 
-/// Enters the entry of a record that is behind those of a keeper, and lets it wait for the next commit. Where it is none of the
-/// next entry, nothing has changed.
+/// Enters the entry of a record that is after those of a keeper, and appends the record for the next commit. If it is not that of the next entry,
+/// nothing has changed.
 #[tactic(auto, using(crate::proofs::Taking::takes_not))]
 pub(crate) fn take_record<N: Device>(
     global: Global,
@@ -105,7 +105,7 @@ pub(crate) fn take_record<N: Device>(
     }
 }
 
-/// Takes over the next record of a file: false where there is none.
+/// Copies the next record of a file: false if there is no record.
 fn take_next<D: Device, N: Device>(
     global: Global,
     keeper: &mut Keeper<N>,
@@ -131,8 +131,8 @@ fn take_next<D: Device, N: Device>(
     }
 }
 
-/// Takes over the records that are left, up to the first one that is damaged or none of the next entry. Returns where those that were
-/// taken end, and why no more were.
+/// Copies the remaining records, up to the first that is damaged or is not that of the next entry. Returns where the copied ones end, and why no
+/// more were copied.
 fn take_all<D: Device, N: Device>(
     global: Global,
     keeper: &mut Keeper<N>,
@@ -157,7 +157,8 @@ fn take_all<D: Device, N: Device>(
     }
 }
 
-/// The fault for which a start refuses a file each time: where it is damaged, or a record is none of the next entry. None of any other.
+/// The fault, if every start refuses the file for it: the file is damaged or no journal, or a record is not that of the next entry. None for any
+/// other.
 pub(crate) fn stop_of(fault: SalvageFault) -> Option<StartFault>
     ensures { result ≡ stop_of fault }
 {
@@ -173,7 +174,7 @@ pub(crate) fn stop_of(fault: SalvageFault) -> Option<StartFault>
     }
 }
 
-/// The fault for which a start refuses a file that was read to its end: too many torn bytes. None where they are few.
+/// The fault for which a start refuses a file that was read to its end: too many torn bytes. None if they are few.
 fn torn_stop<D: Device>(from: &mut D, extent: Extent) -> Result<Option<StartFault>, SalvageFault>
     ensures torn { OfExtent (D.holds from.old) extent (λ file. IfOk result (IsTornStop file)) }
     ensures same { (file : List ℕ) → D.holds from.old file → D.holds from.new file }
@@ -220,7 +221,7 @@ pub(crate) fn commit_taken<N: Device>(keeper: &mut Keeper<N>) -> Result<(), Salv
     }
 }
 
-/// Why no more was taken, by what ended it.
+/// Why no more was copied, by what ended it.
 fn stopped_by<D: Device>(
     taken: Result<(), SalvageFault>,
     from: &mut D,
@@ -241,7 +242,7 @@ fn stopped_by<D: Device>(
     }
 }
 
-/// Takes over the records that are left and commits them. Returns where they end in the file, and why no more were taken.
+/// Copies the remaining records and commits them. Returns where they end in the file, and why no more were copied.
 fn take_behind<D: Device, N: Device>(
     global: Global,
     keeper: &mut Keeper<N>,
@@ -266,7 +267,7 @@ fn take_behind<D: Device, N: Device>(
     }
 }
 
-/// Takes over a file of these rules of which the head was read.
+/// Copies a file of these rules whose head was read.
 fn salvage_behind<D: Device, N: Device>(
     global: Global,
     rules: Rules,
@@ -308,7 +309,7 @@ fn salvage_behind<D: Device, N: Device>(
     }
 }
 
-/// Takes over a file of which nothing was read.
+/// Copies a file of which nothing was read.
 fn salvage_by<D: Device, N: Device>(
     global: Global,
     scan: &mut Scan,
@@ -333,12 +334,12 @@ fn salvage_by<D: Device, N: Device>(
     }
 }
 
-/// Takes the entries of a file over into a new one: all that come before the first damage, and before the first record that is none of
-/// the next entry. The old file is read once, and not written to. The new one is a kept ledger of the same rules; what was taken is
-/// durable. Nothing is made where the old file has no head, or is no journal.
+/// Copies the entries of a file into a new one: all before the first damage, and before the first record that is not that of the next entry. The
+/// old file is read once, and not written to. The new one is a kept ledger of the same rules, and what was copied is durable. No file is created if
+/// the old one has no head, or is no journal.
 ///
-/// An error is Old, with the fault of a start, where the old file is no ledger or is not read on, and New where the new one is not made or
-/// not written to, as where something is there already (NotEmpty). The new file then has nothing, or some first entries.
+/// The fault is Old, with the fault of a start, if the old file is no ledger or is not read on. It is New if the new file is not created or not
+/// written to, for example because something is there already (NotEmpty). The new file then has nothing, or some first entries.
 pub fn salvage<D: Device, N: Device>(
     global: Global,
     from: &mut D,
@@ -346,7 +347,7 @@ pub fn salvage<D: Device, N: Device>(
 ) -> Result<Salvaged<N>, NotSalvaged<N>>
     // No sync has failed on the new file's device before.
     requires sound { N.tells → (N.disk into).sound ≡ true }
-    // Of any device, by the file that the reads of the old one are of.
+    // For any device, by the file that the old one reads.
     ensures salvaged { IfOk result (IsSalvaged N.tells N.disk (D.holds from.old)) }
     ensures unsalvaged { SaysWhy (D.holds from.old) result IsUnsalvaged }
     // A crash at any moment of the call leaves no entry, or some first ones, in the new file.
@@ -365,7 +366,7 @@ pub fn salvage<D: Device, N: Device>(
     }
 }
 
-/// Copies a file into a new one, as [`salvage`] does, where it is whole: where a start would refuse it, its fault is returned (Old).
+/// Copies a file into a new one, as [`salvage`] does, but only a whole file: if a start would refuse it, its fault is returned (Old).
 pub fn backup<D: Device, N: Device>(
     global: Global,
     from: &mut D,
@@ -373,7 +374,7 @@ pub fn backup<D: Device, N: Device>(
 ) -> Result<Keeper<N>, NotSalvaged<N>>
     // No sync has failed on the new file's device before.
     requires sound { N.tells → (N.disk into).sound ≡ true }
-    // Of any device, by the file that the reads of the old one are of.
+    // For any device, by the file that the old one reads.
     ensures backed_up { IfOk result (IsBackedUp N.tells N.disk (D.holds from.old)) }
     ensures not_backed_up { SaysWhy (D.holds from.old) result IsNotBackedUp }
     // A crash at any moment of the call leaves no entry, or some first ones, in the new file.

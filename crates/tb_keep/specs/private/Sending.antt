@@ -1,4 +1,4 @@
--- The records of a file as they are read and sent: for private functions alone.
+-- The records of a file as they are read and sent: only for private functions.
 use Rattle.std.specs.Prelude.{ℕ, Bool, true, false, ◌≡◌, ◌+◌, ◌-◌, List, [], ◌∷◌, ◌++◌, drop, Result, Ok, Err}
 use Rattle.tb_records.specs.declared.faults.FrameFault.TheVariants.{Device}
 use Rattle.tb_records.specs.Transport.{Output, Sent, CutOff}
@@ -14,7 +14,7 @@ use Rattle.tb_keep.specs.Reading.{joined_bytes}
 abbrev pub above : ℕ → ℕ → List ℕ → List ℕ
 above commit after bytes = joined_bytes (drop (after + 1 - commit) (bytes ∷ []))
 
--- behind the records that were read one more was read, and sent if its number is above `after`; or there is none
+-- after the records that were read one more was read, and sent if its number is above `after`; or there is no further record
 abbrev pub SendsNext : Result Bool DumpFault → ℕ → List (List ℕ) → List ℕ → ScanState → Output → Output → Type 0
 SendsNext (Ok true) after read file scan old new =
     (bytes : List ℕ) × HasRead (read ++ bytes ∷ []) file scan × Sent (entries_above after read (bytes ∷ [])) old new
@@ -23,7 +23,7 @@ SendsNext (Err (dump.Journal fault)) after read file scan old new = RefusesFile 
 SendsNext (Err (dump.Writer fault)) after read file scan old new =
     (fault ≡ Device) × ((bytes : List ℕ) × BeginsWith (read ++ bytes ∷ []) file × CutOff (entries_above after read (bytes ∷ [])) old new)
 
--- all records behind those that were read, or some of them
+-- all records after those that were read, or some of them
 abbrev pub SendsAll : Result (Unit {0}) DumpFault → ℕ → List (List ℕ) → List ℕ → ScanState → Output → Output → Type 0
 SendsAll (Ok done) after read file scan old new =
     (more : List (List ℕ)) × (contents file ≡ Records (read ++ more)) × HasRead (read ++ more) file scan × Sent (entries_above after read more) old new

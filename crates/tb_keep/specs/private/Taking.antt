@@ -1,4 +1,4 @@
--- The steps by which records are taken over: for private functions alone.
+-- The steps by which records are copied: only for private functions.
 use Rattle.std.specs.Prelude.{ℕ, Bool, true, false, ◌≡◌, ◌≤◌, ◌^◌, List, [], ◌∷◌, ◌++◌, Option, None, Some, Result, Ok, Err, IfErr}
 use Rattle.tb_journal.specs.declared.faults.JournalFault.{JournalFault}
 use Rattle.tb_journal.specs.declared.opening.OpenFault.TheVariants as open_faults
@@ -31,7 +31,7 @@ of_new (Err fault) = new_part fault
 abbrev pub by_device : JournalFault → SalvageFault
 by_device fault = New (start.Journal (open_faults.Device fault))
 
--- a file that the reads are of, and of which these records were read
+-- a file that the device reads, and of which these records were read
 abbrev pub HoldsRead : (List ℕ → Type 0) → List (List ℕ) → ScanState → List ℕ → Type 0
 HoldsRead holds read scan file = holds file × HasRead read file scan
 
@@ -41,21 +41,21 @@ HeadRead holds rules scan file = HoldsRead holds (head_of rules) scan file
 abbrev pub Unread : (List ℕ → Type 0) → ScanState → List ℕ → Type 0
 Unread holds scan file = HoldsRead holds [] scan file
 
--- the fault for which a start refuses a file each time
+-- the fault for which every start refuses a file
 abbrev pub stop_of : SalvageFault → Option StartFault
 stop_of (Old (start.Journal (open_faults.Refused why))) = Some (start.Journal (open_faults.Refused why))
 stop_of (Old (start.Record place fault)) = Some (start.Record place fault)
 stop_of (Old (start.Entry fault)) = Some (start.Entry fault)
 stop_of fault = None
 
--- why the reading stops behind records, by which a machine was led to a state
+-- why the reading stops after records, by which a machine was led to a state
 abbrev pub StopsAfter : StartFault → List (List ℕ) → State → List ℕ → Type 0
 StopsAfter (start.Journal (open_faults.Device fault)) records S file = Unit {0}
 StopsAfter start.NoMemory records S file = Unit {0}
 StopsAfter (start.TornTooLong at bytes) records S file = ⊥
 StopsAfter fault records S file = StopsBehind (Some fault) records S file
 
--- where a file has no rules nothing is taken of it
+-- if a file has no rules nothing is copied of it
 abbrev pub IsNotTaken : {T : Type 0} → Result T StartFault → List ℕ → Type 0
 IsNotTaken result file = IfErr result (λ fault. IsUnsalvaged (Old fault) file)
 
@@ -64,13 +64,13 @@ abbrev pub IsOldDevice : SalvageFault → Type 0
 IsOldDevice (Old (start.Journal (open_faults.Device fault))) = Unit {0}
 IsOldDevice fault = ⊥
 
--- a start refuses a file that is read to its end for its torn bytes alone
+-- a start refuses a file that is read to its end only for its torn bytes
 abbrev pub IsTornStop : List ℕ → Option StartFault → Type 0
 IsTornStop file None = torn_bytes file ≤ 2 ^ 22
 IsTornStop file (Some (start.TornTooLong at bytes)) = IsTornTooLong at bytes file
 IsTornStop file stop = ⊥
 
--- why no more is taken: where the file ends, its torn bytes, and else the fault, if it is the file's own
+-- why no more is copied: at the file's end, its torn bytes; otherwise the fault, if it is the file's own
 abbrev pub StopsBy : Result (Option StartFault) SalvageFault → Result (Unit {0}) SalvageFault → (List ℕ → Type 0) → Extent → Type 0
 StopsBy (Ok stop) (Ok done) holds extent = OfExtent holds extent (λ file. IsTornStop file stop)
 StopsBy (Err fault) (Ok done) holds extent = IsOldDevice fault
@@ -78,11 +78,11 @@ StopsBy (Ok None) (Err fault) holds extent = ⊥
 StopsBy (Ok (Some stop)) (Err fault) holds extent = stop_of fault ≡ Some stop
 StopsBy (Err other) (Err fault) holds extent = (other ≡ fault) × (stop_of fault ≡ None)
 
--- a file of the first of these records, at least of so many
+-- a file that has some first ones of all these records, and at least these
 abbrev pub IsBetween : List (List ℕ) → List (List ℕ) → List ℕ → Type 0
 IsBetween least all c = (some : List (List ℕ)) × (rest : List (List ℕ)) × (contents c ≡ Records (least ++ some)) × (all ≡ (least ++ some) ++ rest)
 
--- of a keeper that takes records over two things stay: whether a call has failed, and what a start cut off
+-- while a keeper copies records two things stay: whether a call has failed, and what a start cut off
 abbrev pub StaysUsed : {N : Type 0} → Keeping N → Keeping N → Type 0
 StaysUsed before after = (after.usable ≡ before.usable) × (after.cut ≡ before.cut)
 
@@ -91,7 +91,7 @@ module _ {N : Type 0} (disk : N → Disk) where
   abbrev pub line : Kept N → List (List ℕ)
   line journal = recorded (disk journal.device).seen ++ journal.waiting
 
-  -- more records are behind a journal's, of which some may have been committed
+  -- more records were put after a journal's, and some of them may have been committed
   pub record Queues (records : List (List ℕ)) (before after : Kept N) : Type 0 where
     pub ready : IsReady disk after
     pub line_is : line after ≡ line before ++ records
@@ -99,18 +99,18 @@ module _ {N : Type 0} (disk : N → Disk) where
     pub none : FailsNone (disk before.device) (disk after.device)
     pub any_moment : LeavesOnly (disk before.device) (disk after.device) (IsBetween (recorded (disk before.device).seen) (line before ++ records))
 
-  -- or a call has failed meanwhile, or there is no memory
+  -- or a call has failed meanwhile, there is no memory, or the file would be too long
   pub record FailsWriting (fault : JournalFault) (records : List (List ℕ)) (before after : Kept N) : Type 0 where
     pub cause : IsWriteCause (disk before.device) (disk after.device) fault
     pub any_moment : LeavesOnly (disk before.device) (disk after.device) (IsBetween (recorded (disk before.device).seen) (line before ++ records))
 
   module _ (tells : Type 0) where
-    -- these records wait, or were committed; or the journal was not written to
+    -- these records wait, or were committed; or the writing of the journal failed
     abbrev pub Puts : Result (Unit {0}) JournalFault → List (List ℕ) → Kept N → Kept N → Type 0
     Puts (Ok done) records before after = (after.usable ≡ true) × (tells → Queues records before after)
     Puts (Err fault) records before after = tells → FailsWriting fault [] before after
 
-    -- or the record is none of the next entry, and all is as it was
+    -- or the record is not that of the next entry, and all is as it was
     abbrev pub TakesRecord : Result (Unit {0}) SalvageFault → List ℕ → Keeping N → Keeping N → Type 0
     TakesRecord (Ok done) bytes before after =
         AppliesRecord (Ok tt) before.state bytes after.state × (after.journal.usable ≡ true) × (tells → Queues (bytes ∷ []) before.journal after.journal)
@@ -130,15 +130,15 @@ module _ {N : Type 0} (disk : N → Disk) where
     IsUntaken (New fault) before after = (f : JournalFault) × (fault ≡ start.Journal (open_faults.Device f)) × (tells → FailsWriting f [] before.journal after.journal)
 
     module _ (holds : List ℕ → Type 0) where
-      -- these records were taken over, and a scan is behind them that was at a place before
+      -- these records were copied, from the first place of a scan to the one where it is now
       pub record Taken (records : List (List ℕ)) (first here : ScanState) (before after : Keeping N) : Type 0 where
         pub leads : RecordsLead before.state records after.state
         pub usable : after.journal.usable ≡ true
         pub queues : tells → Queues records before.journal after.journal
         pub read : (file : List ℕ) (read : List (List ℕ)) → holds file → HasRead read file first → HasRead (read ++ records) file here
 
-      -- no more were taken behind that place: the file ends there; or it is the reason, or its device or memory, and all is as it was; or the
-      -- new file is the reason
+      -- no more were copied after that place: the file ends there; or it is the reason, or its device or memory, and all is as it was; or the new
+      -- file is the reason
       abbrev pub EndsTaking : Result (Unit {0}) SalvageFault → ScanState → Keeping N → Keeping N → Type 0
       EndsTaking (Ok done) here before after =
           (after ≡ before) × ((file : List ℕ) (read : List (List ℕ)) → holds file → HasRead read file here → contents file ≡ Records read)
@@ -153,7 +153,7 @@ module _ {N : Type 0} (disk : N → Disk) where
       TakesNext (Ok false) first last before after = EndsTaking (Ok tt) first before after
       TakesNext (Err fault) first last before after = EndsTaking (Err fault) first before after
 
-      -- all records up to a place were taken over, and no more
+      -- all records up to a place were copied, and no more
       pub record TakesAll (extent : Extent) (result : Result (Unit {0}) SalvageFault) (first : ScanState) (before after : Keeping N) : Type 0 where
         pub records : List (List ℕ)
         pub here : ScanState
@@ -163,7 +163,7 @@ module _ {N : Type 0} (disk : N → Disk) where
         pub count : extent.count ≡ here.count
         pub ends : EndsTaking result here middle after
 
-      -- and they were committed; or not, where the old file is not read on for a reason that is not its own, or the new one was not written
+      -- and they were committed; or not, because the old file is not read on for a reason that is not its own, or the new one was not written
       abbrev pub TakesRest : Result (Extent × Option StartFault) SalvageFault → ScanState → Keeping N → Keeping N → Type 0
       TakesRest (Ok found) first before after =
           (records : List (List ℕ)) × (here : ScanState) × Taken records first here before after × (after.journal.waiting ≡ []) × (found.0.end ≡ here.end)

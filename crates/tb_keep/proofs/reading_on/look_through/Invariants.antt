@@ -5,7 +5,7 @@ use Rattle.tb_keep.specs.private.Behind.{TakenOn}
 use Rattle.tb_keep.specs.private.Taking.{StaysUsed}
 use Rattle.tb_keep.proofs.reading_on.look_through.Given as goal
 
--- the records so far were taken over
+-- the records so far were copied
 abbrev pub invariant-loop-on : goal.invariant-loop-on
 invariant-loop-on g l = record {
   same : (file : List ℕ) → g.D.Device.holds l.fn.from file → g.D.Device.holds l.from file;
