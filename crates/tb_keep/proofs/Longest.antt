@@ -47,7 +47,7 @@ damage_behind records file at begins is =
     let end = records_end records in
     place_after 0 end (drop end file) at (inner_all records (walk 0 end (drop end file)) at (sym (all records file begins) ∙ is))
 
--- of two lists of records that a file begins with one begins with the other
+-- one of two lists of records that a file begins with begins with the other
 
 shorter_first : (a b : List (List ℕ)) (file : List ℕ) → BeginsWith a file → BeginsWith b file → records_end a ≤ records_end b → (rest : List (List ℕ)) × (b ≡ a ++ rest)
 shorter_first a b file begins also less =

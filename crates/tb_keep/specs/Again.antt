@@ -44,7 +44,7 @@ module _ (tells : Type 0) {D : Type 0} (disk : D → Disk) where
   abbrev pub IsAmid : Disk → Disk → Disk → Type 0
   IsAmid before after amid = (c : List ℕ) → amid.may_leave c → after.left_since before.moment c
 
-  -- a kill of the process, at any moment of serving or after it: the next process reads such a file too
+  -- if only the process is killed, at any moment of serving or after it, the next process reads such a file too
   abbrev pub AfterKill : Type 0
   AfterKill = (h : History) (result : Result ℕ KeepFault) (before after : Keeping D) (first last : Input) (start written : Output) (amid : D)
       → tells → Keeps disk h before → (served : Served tells disk result before after first last start written)

@@ -1,4 +1,4 @@
--- What is copied of a file after its damage.
+-- What is copied from a file after its damage.
 use Rattle.std.specs.Prelude.{ℕ, ◌+◌, ◌≤◌, List, [], ◌∷◌, length}
 use Rattle.tb_journal.specs.Device.{Disk, LeavesOnly}
 use Rattle.tb_journal.specs.Seeking.{StandsAt}

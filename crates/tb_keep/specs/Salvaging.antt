@@ -1,4 +1,4 @@
--- What is copied of a file into a new one, and what a crash may leave of that meanwhile.
+-- What is copied from a file into a new one, and what a crash may leave of that meanwhile.
 use Rattle.std.specs.Prelude.{ℕ, true, ◌≡◌, ◌⊎◌, ◌+◌, ◌<◌, ◌≤◌, ◌^◌, List, [], ◌∷◌, ◌++◌, length, Option, None, Some, Result, Ok, Err, OnOk, IfErr}
 use Rattle.tb_journal.specs.declared.faults.JournalFault.{JournalFault}
 use Rattle.tb_journal.specs.declared.faults.JournalFault.TheVariants.{Memory, Full, NotEmpty}
@@ -51,7 +51,7 @@ abbrev pub backup_device : {N : Type 0} → Result (Keeping N) (NotSalvaged N) �
 backup_device (Ok keeper) = keeper.journal.device
 backup_device (Err failed) = failed.device
 
--- why no more is copied of a file after these records, by which a machine was led to a state. The file ends there, with few torn bytes after it; or
+-- why no more is copied from a file after these records, by which a machine was led to a state. The file ends there, with few torn bytes after it; or
 -- it is the fault for which a start refuses it: too many of them, damage, or one more record that is not that of the next entry
 abbrev pub StopsBehind : Option StartFault → List (List ℕ) → State → List ℕ → Type 0
 StopsBehind None records S file = (contents file ≡ Records records) × (torn_bytes file ≤ 2 ^ 22)
@@ -62,7 +62,7 @@ StopsBehind (Some (start.Record place fault)) records S file =
 StopsBehind (Some (start.Entry fault)) records S file = (bytes : List ℕ) × BeginsWith (records ++ bytes ∷ []) file × StopsAt (start.Entry fault) S bytes
 StopsBehind stop records S file = ⊥
 
--- a history was copied of a file: the file begins with its records, after which no more can be copied
+-- a history was copied from a file: the file begins with its records, after which no more can be copied
 pub record IsHistoryTaken (h : History) (end : ℕ) (stop : Option StartFault) (file : List ℕ) : Type 0 where
   pub begins : BeginsWith (records_of h) file
   pub end_is : end ≡ records_end (records_of h)
@@ -76,7 +76,7 @@ pub record IsNewKeeper (tells : Type 0) {N : Type 0} (disk : N → Disk) (h : Hi
   pub usable : IsUsable keeper
   pub uncut : keeper.cut ≡ 0
 
--- the new file has the history that was copied of the one that is read
+-- the new file has the history that was copied from the one that is read
 pub record IsSalvaged (tells : Type 0) {N : Type 0} (disk : N → Disk) (holds : List ℕ → Type 0) (salvaged : Salvaged N) : Type 0 where
   pub history : History
   pub keeper : IsNewKeeper tells disk history salvaged.keeper
@@ -88,7 +88,7 @@ pub record IsBackedUp (tells : Type 0) {N : Type 0} (disk : N → Disk) (holds :
   pub kept : IsNewKeeper tells disk history keeper
   pub whole : (file : List ℕ) → holds file → IsLedger history file × (torn_bytes file ≤ 2 ^ 22)
 
--- why nothing is copied of a file: it is no journal, its first block is damaged, or its first record is no head. For any other fault the file is
+-- why nothing is copied from a file: it is no journal, its first block is damaged, or its first record is no head. For any other fault the file is
 -- not the reason
 abbrev pub IsUnsalvaged : SalvageFault → List ℕ → Type 0
 IsUnsalvaged (Old start.Head) file = BeginsWithNoHead file

@@ -15,7 +15,7 @@ use crate::salvaging::{commit_taken, stop_of, take_record};
 use std::alloc::Global;
 use tb_journal::{Device, FILE_BYTES_MAX, JournalFault, OpenFault, Seek};
 
-/// What was copied of a file after its damage.
+/// What was copied from a file after its damage.
 #[derive(Clone, Copy)]
 pub struct ReadOn {
     /// The offset of the first block, in bytes; that of the damage if there is no block.

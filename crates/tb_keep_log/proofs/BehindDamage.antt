@@ -1,4 +1,4 @@
--- Records of a log that are taken over behind damage.
+-- Records of a log that are copied after damage.
 use Rattle.std.proofs.Common.{arith, ℕ, ◌≡◌, ◌+◌, ◌-◌, ◌≤◌, true, false, List, [], ◌∷◌, ◌++◌, length, take, drop, length-take, length-drop, Bool, Result, Ok, Err, refl, sym, ap, ◌∙◌, subst, append_assoc, append-nil}
 use Rattle.std.proofs.lemmas.List.{append_cancel_left}
 use Rattle.tb_records.specs.declared.limits.Profile.{Profile}
@@ -24,7 +24,7 @@ use Rattle.tb_keep_log.specs.private.CopySteps.{IsRecordUntaken, CopiesRecord, U
 use Rattle.tb_keep_log.proofs.Copied.{leads_first}
 use Rattle.tb_keep_log.proofs.Leading.{leads_none, leads_one, leads_then}
 
--- records that stand in a file
+-- records that are in a file
 
 stand_from : (records : List (List ℕ)) (at later end : ℕ) (file : List ℕ) → at ≤ later → StandBetween later records end file → StandBetween at records end file
 stand_from [] at later end file le stand = omega (arith, le, stand)
@@ -41,7 +41,7 @@ behind_four len bytes = ap (λ (n : ℕ). take n (drop 4 bytes)) (let same : 4 +
 
 module _ (tells : Type 0) {N : Type 0} (disk : N → Disk) (profile : Profile) (clients_max : ℕ) where
   module _ (holds : List ℕ → Type 0) where
-    -- nothing was taken over
+    -- nothing was copied
     pub behind_none : (first here : SeekState) (F G : Following) (before after : Kept N) → (tells → Latest (disk before.device)) → before.usable ≡ true → (tells → IsReady disk before)
         → G ≡ F → after ≡ before → first.at ≤ here.at → ((file : List ℕ) → holds file → IsSeeking file first → IsSeeking file here)
         → TakenBehind tells disk profile clients_max holds [] first here F G before after
@@ -97,7 +97,7 @@ module _ (tells : Type 0) {N : Type 0} (disk : N → Disk) (profile : Profile) (
     refused_untaken (Old fault) bytes F G before after takes = takes.1
     refused_untaken (New fault) bytes F G before after takes = takes
 
-    -- others were behind these
+    -- others came after these
     pub behind_then : (xs ys : List (List ℕ)) (p q r : SeekState) (F G H : Following) (a b c : Kept N) → TakenBehind tells disk profile clients_max holds xs p q F G a b
         → TakenBehind tells disk profile clients_max holds ys q r G H b c → TakenBehind tells disk profile clients_max holds (xs ++ ys) p r F H a c
     behind_then xs ys p q r F G H a b c one two = record {
@@ -138,7 +138,7 @@ module _ (tells : Type 0) {N : Type 0} (disk : N → Disk) (profile : Profile) (
     )
     behind_after (Err fault) p q r F K G a m b follower journal le seeks untaken = untaken_same fault a m b journal untaken
 
-    -- what is taken over at a place, behind what was
+    -- what is copied at a place, after what was copied before
     pub behind_more : (records : List (List ℕ)) (p q r : SeekState) (F G H : Following) (a b c : Kept N) → TakenBehind tells disk profile clients_max holds records p q F G a b
         → LooksBehind tells disk profile clients_max later (Ok true) q r G H b c
         → (all : List (List ℕ)) × TakenBehind tells disk profile clients_max holds all p r F H a c

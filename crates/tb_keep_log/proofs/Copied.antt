@@ -1,4 +1,4 @@
--- Records of a log that are taken over into a new file, one after another.
+-- Records of a log that are copied into a new file, one after another.
 use Rattle.std.proofs.Common.{ℕ, ◌≡◌, true, List, [], ◌∷◌, ◌++◌, Option, None, Some, Result, Ok, Err, OnOk, OnErr, refl, sym, ap, ◌∙◌, subst, append_assoc, append-nil}
 use Rattle.tb_records.specs.declared.limits.Profile.{Profile}
 use Rattle.tb_records.specs.Ordered.{Each}
@@ -196,7 +196,7 @@ module _ (profile : Profile) (clients_max : ℕ) (records : List (List ℕ)) (F 
   other_behind (start.Entry f) is stops = absurd (cc)
   other_behind (start.OtherHashes position) is stops = absurd (cc)
 
--- the cause, where it is the file's own
+-- the cause, if it is the file's own
 
 own_none : (before after : Disk) (fault stop : LogStartFault) → log_stop_of (Old fault) ≡ Some stop → IsLogCause before after fault → FailsNone before after
 own_none before after (start.Journal (open_faults.Refused why)) stop is cause = cause.1
@@ -340,7 +340,7 @@ module _ (tells : Type 0) {N : Type 0} (disk : N → Disk) (profile : Profile) (
       subst (λ (g : CopyLogFault). TakesPart tells disk profile clients_max holds g first F before mid) (sym by.0)
       (part_by (Err (New other)) (New other) all all.ends (λ file read of has. tt))
 
--- and the cause, by the old file's device before, behind the records, and behind the question for its length
+-- and the cause, by the old file's device before, after the records, and after the call for its length
 
 module _ {D : Type 0} (disk : D → Disk) (old mid last : D) (seen : (disk mid).seen ≡ (disk old).seen) (later : List ℕ → Type 0) (reached : Reached) where
   pub none_behind : (taken : Result (Unit {0}) CopyLogFault) (stop : Option LogStartFault) → HasLogCause (of_old_log taken) (disk old) (disk mid) → StopsCopyBy (Ok stop) taken later reached.extent

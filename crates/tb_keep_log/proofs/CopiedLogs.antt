@@ -1,4 +1,4 @@
--- A log's file that was taken over into a new one.
+-- A log's file that was copied into a new one.
 use Rattle.std.proofs.Common.{ℕ, ◌≡◌, inl, inr, true, List, [], ◌++◌, Option, Result, Ok, Err, IfOk, sym, ap, ◌∙◌, subst, append-nil}
 use Rattle.tb_records.specs.declared.limits.Profile.{Profile}
 use Rattle.tb_journal.specs.declared.opening.OpenFault.{OpenFault}
@@ -27,7 +27,7 @@ use Rattle.tb_keep_log.specs.Keeping.{Leads}
 use Rattle.tb_keep_log.specs.private.CopySteps.{IsNewJournal, HasWriteCause, TakenOver, TakesWhole, TakesPart}
 use Rattle.tb_keep_log.proofs.Copied.{leads_first}
 
--- behind a journal without records
+-- after a journal without records
 
 module _ (tells : Type 0) {N : Type 0} (disk : N → Disk) (profile : Profile) (clients_max : ℕ) (holds : List ℕ → Type 0) (first : ScanState) (F : Following) (is_begun : F ≡ begun_following profile clients_max)
     (created last : Kept N) (new : IsNewJournal tells disk created) where

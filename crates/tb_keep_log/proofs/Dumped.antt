@@ -83,9 +83,9 @@ module _ (above : Option ℕ) where
     sent = subst (λ es. Sent (flat_map (shown above) es) a b) (sym (append-nil (entered S p))) one.2;
   }
 
-  -- a fault behind pairs
+  -- a fault after pairs
 
-  -- what a fault leaves behind pairs that went out is what it leaves from their beginning on
+  -- what a fault leaves after pairs that were sent is what it leaves from their beginning on
   pub halts_then : (P Q : List Pair → Type 0) (qs : List Pair) (S T : State) (a b c : Output) → DumpsPairs above qs S T a b → ((ps : List Pair) → P ps → Q (qs ++ ps))
       → (fault : DumpLogFault) → HaltsDump above P fault T b c → HaltsDump above Q fault S a c
   halts_then P Q qs S T a b c one on fault = by fault
@@ -146,7 +146,7 @@ module _ (above : Option ℕ) where
   front_of : (ps : List Pair) (content left : List ℕ) → BeginsWithPairs ps content left → AreFront content ps
   front_of ps content left front = record { left = left; spelled = front.spelled; fit = front.fit }
 
-  -- behind pairs that went out no more is read
+  -- after pairs that were sent no more is read
   pub dumping_not : (k : ℕ) (S T : State) (content left rest : List ℕ) (a b : Output) (cause : FrameFault) (fault : DumpLogFault) → fault ≡ no_pair cause → Dumping k S T content left a b
       → TimedAnswered (Err cause) left rest → DumpsContent above (Err fault) S T content a b
   dumping_not k S T content left rest a b cause fault is so_far read = subst (λ (f : DumpLogFault). DumpsContent above (Err f) S T content a b) (sym is) (by (no_pair_is cause))
@@ -320,7 +320,7 @@ dump_cause before after dump.TimeExhausted profile clients_max last bytes refuse
 dump_cause before after dump.NoMemory profile clients_max last bytes refused none = none
 dump_cause before after dump.Writer profile clients_max last bytes refused none = none
 
--- behind calls of which none failed
+-- after calls that did not fail
 module _ (before mid after : Disk) (first : FailsNone before mid) (seen : mid.seen ≡ before.seen) where
   dump_cause_then : (fault : DumpLogFault) → IsLogDumpCause mid after fault → IsLogDumpCause before after fault
   dump_cause_then (dump.Start fault) cause = (has_log_then before mid after first seen {T = Unit {0}} (Err fault) (record { ok = tt; cause = cause })).cause
@@ -333,7 +333,7 @@ module _ (before mid after : Disk) (first : FailsNone before mid) (seen : mid.se
   has_dump_then {T} (Ok value) has = record { ok = none_since before mid after first has.ok; cause = tt }
   has_dump_then {T} (Err fault) has = record { ok = tt; cause = dump_cause_then fault has.cause }
 
--- behind the head
+-- after the head
 
 module _ (profile : Profile) (clients_max : ℕ) (file : List ℕ) where
   first_of : (ps : List Pair) → AreNext [] file ps → AreFirst file ps

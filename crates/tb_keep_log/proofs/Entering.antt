@@ -17,7 +17,7 @@ use Rattle.tb_keep_log.specs.Rereading.{HasLogCause, IsLogCause, IsFollowerResto
 use Rattle.tb_keep_log.specs.private.Steps.{Entered, FollowsAllRecords, FollowsNextRecord, EntersSome}
 use Rattle.tb_keep_log.proofs.Leading.{leads_none, leads_more}
 
--- behind calls of which none failed
+-- after calls that did not fail
 
 module _ (before mid after : Disk) (first : FailsNone before mid) (seen : mid.seen ≡ before.seen) where
   open_cause_then : (fault : OpenFault) → IsOpenCause mid after fault → IsOpenCause before after fault

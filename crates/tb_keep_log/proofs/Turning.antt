@@ -1,4 +1,4 @@
--- An item that is read, committed and answered.
+-- An item that is read and committed, and whose answer is sent.
 use Rattle.std.proofs.Common.{◌≡◌, inl, inr, ℕ, ◌+◌, List, [], ◌∷◌, Result, Ok, Err, refl, sym, ap, subst, ◌∙◌, append-nil}
 use Rattle.tb_records.specs.declared.limits.Profile.{Profile}
 use Rattle.tb_records.specs.Transport.{Input, Output}
@@ -26,7 +26,7 @@ use Rattle.tb_keep_log.specs.private.Steps.{TakesLogEntry, MissesEntry, PassesBy
 -- an entry that is taken
 
 module _ (tells : Type 0) {D : Type 0} (disk : D → Disk) (profile : Profile) (clients_max : ℕ) where
-  -- its record is committed, and it is answered
+  -- its record is committed, and its answer is sent
   module _ (F G : Following) (content held bytes : List ℕ) (old new : Kept D) (before after : Input) (start written : Output) (takes : TakesLogEntry content held F G before after)
       (record_is : bytes ≡ record_bytes profile clients_max G content) where
     abbrev ps : List Pair

@@ -1,4 +1,4 @@
--- What is taken over of a log's file into a new one, and what a crash may leave of that meanwhile.
+-- What is copied from a log's file into a new one, and what a crash may leave of that meanwhile.
 use Rattle.std.specs.Prelude.{ℕ, Bool, true, false, ◌≡◌, ◌⊎◌, ◌+◌, ◌≤◌, ◌^◌, List, [], ◌∷◌, ◌++◌, length, Option, None, Some, Result, Ok, Err, OnOk, IfErr}
 use Rattle.tb_records.specs.declared.limits.Profile.{Profile}
 use Rattle.tb_journal.specs.declared.faults.JournalFault.{JournalFault}
@@ -26,7 +26,7 @@ use Rattle.tb_keep_log.specs.Checking.{reached_by}
 use Rattle.tb_keep_log.specs.Keeping.{IsKept}
 use Rattle.tb_keep_log.specs.Rereading.{IsLogTornTooLong, StopsFollowerAt}
 
--- a fault of the file that is read, or of the new one; the other has none
+-- a fault of the file that is read, or of the new one; the other has no fault
 abbrev pub old_log_part : CopyLogFault → Result (Unit {0}) LogStartFault
 old_log_part (Old fault) = Err fault
 old_log_part (New fault) = Ok tt
@@ -43,7 +43,7 @@ abbrev pub why_new_log : {T N : Type 0} → Result T (NotCopiedLog N) → Result
 why_new_log (Ok value) = Ok tt
 why_new_log (Err failed) = new_log_part failed.fault
 
--- of each file that the reads are of is said why it was not taken over
+-- for each file that the device reads, why it was not copied
 abbrev pub SaysWhyNotCopied : {T N : Type 0} → (List ℕ → Type 0) → Result T (NotCopiedLog N) → (CopyLogFault → List ℕ → Type 0) → Type 0
 SaysWhyNotCopied holds result Is = (file : List ℕ) → holds file → IfErr result (λ failed. Is failed.fault file)
 
@@ -52,8 +52,8 @@ abbrev pub copied_device : {N : Type 0} → Result (CopiedLog N) (NotCopiedLog N
 copied_device (Ok copied) = copied.journal.device
 copied_device (Err failed) = failed.device
 
--- why no more is taken of a file behind these records, which lead a follower to a place. The file ends there, with few torn bytes behind
--- it; or it is the fault for which a start refuses it: too many of them, damage, or one more record that is not that of the next entry
+-- why no more is copied from a file after these records, which lead a follower to a place. The file ends there, with few torn bytes after it; or it
+-- is the fault for which a start refuses it: too many of them, damage, or one more record that is not that of the next entry
 abbrev pub StopsCopyBehind : Option LogStartFault → Profile → ℕ → List (List ℕ) → Following → List ℕ → Type 0
 StopsCopyBehind None profile clients_max records F file = (contents file ≡ Records records) × (torn_bytes file ≤ 2 ^ 24 + 11)
 StopsCopyBehind (Some (start.TornTooLong at bytes)) profile clients_max records F file = (contents file ≡ Records records) × IsLogTornTooLong at bytes file
@@ -70,14 +70,14 @@ reads_on (Some (start.Journal fault)) = true
 reads_on (Some (start.TornTooLong at bytes)) = true
 reads_on (Some fault) = false
 
--- records were taken of a file, which lead to a place: the file begins with them, and behind them no more can be taken
+-- records were copied from a file, which lead to a place: the file begins with them, and after them no more can be copied
 pub record AreRecordsTaken (reached : Reached) (stop : Option LogStartFault) (profile : Profile) (clients_max : ℕ) (records : List (List ℕ)) (F : Following) (file : List ℕ) : Type 0 where
   pub begins : BeginsWith records file
   pub end_is : reached.extent.end ≡ records_end records
   pub count_is : reached.extent.count ≡ length records
   pub stops : StopsCopyBehind stop profile clients_max records F file
 
--- the new file has the records that were taken of the one that is read: those of the entries of one log, durable
+-- the new file has the records that were copied from the one that is read: those of the entries of one log, durable
 pub record IsCopied (tells : Type 0) {N : Type 0} (disk : N → Disk) (holds : List ℕ → Type 0) (profile : Profile) (clients_max : ℕ) (copied : CopiedLog N) : Type 0 where
   pub records : List (List ℕ)
   pub last : Following
@@ -90,7 +90,7 @@ pub record IsCopied (tells : Type 0) {N : Type 0} (disk : N → Disk) (holds : L
   pub reached_is : copied.reached ≡ reached_by last copied.reached.extent
   pub taken : (file : List ℕ) → holds file → AreRecordsTaken copied.reached copied.stop profile clients_max records last file
 
--- why nothing is taken of a file: it is no journal. For any other fault it is not the reason
+-- why nothing is copied from a file: it is no journal. For any other fault the file is not the reason
 abbrev pub IsUncopied : CopyLogFault → List ℕ → Type 0
 IsUncopied (Old (start.Journal (open_faults.Refused refusals.NotAJournal))) file = contents file ≡ NotAJournal
 IsUncopied (Old (start.Journal (open_faults.Device fault))) file = Unit {0}
@@ -98,11 +98,11 @@ IsUncopied (Old start.NoMemory) file = Unit {0}
 IsUncopied (Old fault) file = ⊥
 IsUncopied (New fault) file = Unit {0}
 
--- the cause of a fault of the new file: that of its creation; or a call has failed so; or there is no memory, or the file is too long
+-- the cause of a fault of the new file: that of its creation; or a call has failed; or there is no memory, or the file is too long
 abbrev pub IsNewLogCause : Disk → Disk → OpenFault → Type 0
 IsNewLogCause before after fault = IsCreateCause before after fault ⊎ ((own : JournalFault) × (fault ≡ open_faults.Device own) × IsWriteCause before after own)
 
--- where something is in the place of the new file, that is as it was
+-- if something is in the place of the new file, that is as it was
 abbrev pub IsNewLogLeftAlone : Disk → Disk → OpenFault → Type 0
 IsNewLogLeftAlone before after (open_faults.Device NotEmpty) = IsDiskUntouched before after
 IsNewLogLeftAlone before after fault = Unit {0}

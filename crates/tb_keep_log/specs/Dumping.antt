@@ -39,13 +39,13 @@ AreTimely S (p ∷ ps) = IsTimely S p × AreTimely (after_pair S p) ps
 abbrev pub dump_of_pairs : Profile → ℕ → List Pair → List ℕ
 dump_of_pairs profile clients_max ps = head_bytes profile clients_max ++ flat_map dumped (entries_from (start profile clients_max) ps)
 
--- the fault of what is no pair: not so where there is no memory to read it, and bytes in memory have no reader that fails
+-- the fault of bytes that are no pair: NoMemory if there is no memory to read them. A reader of bytes in memory does not fail
 abbrev pub no_pair : FrameFault → DumpLogFault
 no_pair frame.Device = dump.NoMemory
 no_pair frame.NoMemory = dump.NoMemory
 no_pair cause = dump.NoPairs
 
--- behind pairs with which a content begins comes what is no pair
+-- a content begins with pairs, after which come bytes that are no pair
 pub record HasNoPair (content : List ℕ) : Type 0 where
   pub pairs : List Pair
   pub left : List ℕ
@@ -56,13 +56,13 @@ pub record HasNoPair (content : List ℕ) : Type 0 where
   pub read : TimedAnswered (Err cause) left rest
   pub named : no_pair cause ≡ dump.NoPairs
 
--- why a record behind so many others is refused: by its first bytes or its length, or for what is no pair
+-- why a record after `last` others is refused: by its first bytes or its length, or for bytes that are no pair
 abbrev pub StopsRecord : DumpLogFault → Profile → ℕ → ℕ → List ℕ → Type 0
 StopsRecord (dump.Start fault) profile clients_max last bytes = RefusesMark fault profile clients_max last bytes
 StopsRecord dump.NoPairs profile clients_max last bytes = HasMark profile clients_max bytes × HasNoPair (drop fixed_bytes bytes)
 StopsRecord fault profile clients_max last bytes = Unit {0}
 
--- the file begins with records, behind which one is refused
+-- the file begins with records, after which one is refused
 pub record StopsDumpBehind (fault : DumpLogFault) (profile : Profile) (clients_max : ℕ) (file : List ℕ) : Type 0 where
   pub records : List (List ℕ)
   pub bytes : List ℕ
@@ -85,8 +85,8 @@ pub record AreFirst (file : List ℕ) (ps : List Pair) : Type 0 where
   pub spelled : flat_map (drop fixed_bytes) records ≡ content_of ps ++ rest
   pub fit : Each IsTimed ps
 
--- what went out before a fault: the dump of first pairs, behind which one is new and has no time; or a prefix of it, where the writer
--- failed; or it, or nothing
+-- what was sent before a fault: the dump of first pairs, after which one is new and has no time; or a prefix of it, if the writer failed; or it, or
+-- nothing
 abbrev pub DumpsFirst : DumpLogFault → Profile → ℕ → List ℕ → Output → Output → Type 0
 DumpsFirst dump.TimeExhausted profile clients_max file before after =
     (ps : List Pair) × (p : Pair) × AreFirst file (ps ++ p ∷ []) × IsUntimely (state_from (start profile clients_max) ps) p × Sent (dump_of_pairs profile clients_max ps) before after
@@ -94,7 +94,7 @@ DumpsFirst dump.Writer profile clients_max file before after = (ps : List Pair) 
 DumpsFirst fault profile clients_max file before after =
     (after ≡ before) ⊎ ((ps : List Pair) × AreFirst file ps × Sent (dump_of_pairs profile clients_max ps) before after)
 
--- the dump of all pairs of a file of these rules went out, or why not, and what did
+-- the dump of all pairs of a file of these rules was sent; or why not, and what was sent
 abbrev pub DumpsLog : Result (Unit {0}) DumpLogFault → Profile → ℕ → List ℕ → Output → Output → Type 0
 DumpsLog (Ok done) profile clients_max file before after =
     (records : List (List ℕ)) × (ps : List Pair) × (contents file ≡ Records records) × HasPairs records ps × AreTimely (start profile clients_max) ps
@@ -105,8 +105,8 @@ DumpsLog (Err fault) profile clients_max file before after = StopsDump fault pro
 abbrev pub DumpsBy : {W : Type 0} → Rules → (W → Output) → Result (Unit {0}) DumpLogFault → W → W → List ℕ → Type 0
 DumpsBy rules output result writer later file = DumpsLog result rules.profile rules.clients_max file (output writer) (output later)
 
--- the cause of a dump's fault, by what the device has counted since: of one of the file, that which it has when it is read; behind any
--- other no call on the device has failed
+-- the cause of a dump's fault, by what the device has counted since: a fault of the file has a cause from its reading; after any other no call on
+-- the device has failed
 abbrev pub IsLogDumpCause : Disk → Disk → DumpLogFault → Type 0
 IsLogDumpCause before after (dump.Start fault) = IsLogCause before after fault
 IsLogDumpCause before after fault = FailsNone before after

@@ -29,7 +29,7 @@ abbrev pub keep_log_fault_name : KeepLogFault → List ℕ
 keep_log_fault_name (keep.Log fault) = log_faults.log_fault_name fault
 keep_log_fault_name (keep.Journal fault) = journal_faults.journal_fault_name fault
 
--- its line: of a fault of the log the byte or the position too
+-- its line: for a fault of the log with the byte or the position
 abbrev pub keep_fault_text : KeepLogFault → List ℕ
 keep_fault_text (keep.Log fault) = log_faults.log_fault_text fault
 keep_fault_text (keep.Journal fault) = journal_faults.journal_fault_name fault

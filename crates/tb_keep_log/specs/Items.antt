@@ -1,4 +1,4 @@
--- How the items of a log are served over a file: an item is read, its record is committed, and then it is answered.
+-- How the items of a log are served over a file: an item is read, its record is committed, and then its answer is sent.
 use Rattle.std.specs.Prelude.{ℕ, false, ◌≡◌, ◌⊎◌, ◌+◌, ◌-◌, ◌^◌, ◌≤◌, List, [], ◌∷◌, length, Result, Ok, Err}
 use Rattle.std.specs.Io.KnownBytes.{IsAtEnd}
 use Rattle.tb_records.specs.declared.limits.Profile.{Profile}
@@ -46,8 +46,8 @@ pub record LacksMemory (fault : LogFault) (F : Following) (before after : Input)
   pub read : ReadsOnly bytes before after
   pub fault_is : fault ≡ log.NoMemory
 
--- why an item is refused: the reader failed before its first byte; this byte begins none; the entry is refused; it cannot be answered;
--- or there is no memory
+-- why an item is refused: the reader failed before its first byte; this byte begins no item; the entry is refused; one of its pairs has no time; or
+-- there is no memory
 abbrev pub RefusesItem : LogFault → Following → Input → Input → Type 0
 RefusesItem fault F before after =
     ReaderFails fault before after ⊎ IsUnknown fault before after ⊎ IsEntryRefused fault F before after ⊎ IsHalted fault F before after ⊎ LacksMemory fault F before after
@@ -59,7 +59,7 @@ module _ (tells : Type 0) {D : Type 0} (disk : D → Disk) (profile : Profile) (
     pub read : ReadsOnly (item_bytes before.now item) before.input after
     pub answered : IsItemAnswered before.now item
 
-  -- one item: it is read, the file grows by its record, whole or not at all, while nothing is sent, and then it is answered
+  -- one item: it is read, the file grows by its record, whole or not at all, while nothing is sent, and then its answer is sent
   pub record ItemTurn (item : Item) (before after : Point D) : Type 0 where
     pub read : IsItemRead item before after.input
     pub now : after.now ≡ with_item before.now item
@@ -76,7 +76,7 @@ module _ (tells : Type 0) {D : Type 0} (disk : D → Disk) (profile : Profile) (
     pub same : after.journal ≡ before.journal
     pub silent : after.output ≡ before.output
 
-  -- why the record of an item is not committed: the journal let it not wait; or its commit failed, and a crash leaves all of it or nothing
+  -- why the record of an item is not committed: the journal refused it; or its commit failed, and a crash leaves all of it or nothing
   abbrev pub IsItemUncommitted : JournalFault → Item → Point D → Point D → Type 0
   IsItemUncommitted fault item before after =
       ((after.journal ≡ before.journal) × ((bytes : List ℕ) × (record_of profile clients_max before.now item ≡ bytes ∷ []) × RefusesRecord fault before.journal bytes))
@@ -97,7 +97,7 @@ module _ (tells : Type 0) {D : Type 0} (disk : D → Disk) (profile : Profile) (
     pub commits : tells → Commits (record_of profile clients_max before.now item) (disk before.journal.device) (disk after.journal.device)
     pub cut : CutOff (given_to before.now item) before.output after.output
 
-  -- why no item more was served behind a point: the input is at its end, or a fault
+  -- why no more items were served after a point: the input is at its end, or a fault
   abbrev pub HaltsServing : Result ℕ KeepLogFault → Point D → Point D → Type 0
   HaltsServing (Ok position) before after =
       (position ≡ before.now.position) × (after.now ≡ before.now) × ReadsOnly [] before.input after.input × IsAtEnd after.input.left × QuitsLog before after

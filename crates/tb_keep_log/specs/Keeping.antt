@@ -18,11 +18,11 @@ use Rattle.tb_journal.specs.Scans.{HasRead, ScanState}
 abbrev pub mark : Profile → ℕ → List ℕ
 mark profile clients_max = codes "TBF1" ++ profile_number profile ∷ clients_max ∷ []
 
--- the record of an entry: the mark, what a follower answers a question behind the entry (its position and both hashes), and its pairs
+-- the record of an entry: the mark, the follower's answer to a question after the entry (its position and both hashes), and the entry's pairs
 abbrev pub record_bytes : Profile → ℕ → Following → List ℕ → List ℕ
 record_bytes profile clients_max behind content = mark profile clients_max ++ (standing_item behind.position behind.log behind.replies ++ content)
 
--- what an item leaves in the file: an entry one record, and a question none
+-- what an item leaves in the file: an entry one record, and a question no record
 abbrev pub record_of : Profile → ℕ → Following → Item → List (List ℕ)
 record_of profile clients_max F (Entry ps) = record_bytes profile clients_max (with_item F (Entry ps)) (content_of ps) ∷ []
 record_of profile clients_max F Question = []
@@ -57,7 +57,7 @@ pub record IsUsableLog {D : Type 0} (keeper : LogKeeping D) : Type 0 where
   pub journal : keeper.journal.usable ≡ true
   pub none_waits : keeper.journal.waiting ≡ []
 
--- the keeper's file has these records, and the follower is behind them
+-- the keeper's file has these records, and the follower has read them
 pub record KeepsLogRecords {D : Type 0} (disk : D → Disk) (records : List (List ℕ)) (keeper : LogKeeping D) : Type 0 where
   pub ready : IsReady disk keeper.journal
   pub file : recorded (disk keeper.journal.device).seen ≡ records
@@ -67,15 +67,15 @@ pub record KeepsLogRecords {D : Type 0} (disk : D → Disk) (records : List (Lis
 abbrev pub By {ℓ} : {T : Type ℓ} → Rules → (Profile → ℕ → T) → T
 By rules P = P rules.profile rules.clients_max
 
--- of this file, where a scan has read no record of it
+-- for each file that the device reads, if a scan has read no record of it
 abbrev pub OfUnread : (List ℕ → Type 0) → ScanState → (List ℕ → Type 0) → Type 0
 OfUnread holds scan P = (file : List ℕ) → holds file → HasRead [] file scan → P file
 
--- of this file, and of the records that a scan has read of it
+-- for each file that the device reads, and the records that a scan has read of it
 abbrev pub OfEachRead : (List ℕ → Type 0) → ScanState → (List (List ℕ) → List ℕ → Type 0) → Type 0
 OfEachRead holds scan P = (file : List ℕ) (read : List (List ℕ)) → holds file → HasRead read file scan → P read file
 
--- of a device that reports what its calls do, where no sync has failed before
+-- for a device that reports what its calls do, if no sync has failed before
 abbrev pub IfSound : {D : Type 0} → devices.Ghosts D → D → Type 0 → Type 0
 IfSound its device P = its.tells → (its.disk device).sound ≡ true → P
 

@@ -1,4 +1,4 @@
--- What holds of every kept log: at each moment what was acknowledged is in the file, and what is opened goes on as if it had read all before.
+-- What holds for every kept log: at each moment what was acknowledged is in the file, and what is opened goes on as if it had read all before.
 use Rattle.std.specs.Prelude.{ℕ, ◌≡◌, ◌⊎◌, ◌≤◌, List, [], ◌∷◌, ◌++◌, length, Result}
 use Rattle.tb_records.specs.declared.limits.Profile.{Profile}
 use Rattle.tb_records.specs.Transport.{Input, Output, Sent}
@@ -13,20 +13,20 @@ use Rattle.tb_keep_log.specs.declared.faults.KeepLogFault.{KeepLogFault}
 use Rattle.tb_keep_log.specs.Keeping.{record_bytes, record_of, item_records, IsKept, LogKeeping, KeepsLogRecords}
 use Rattle.tb_keep_log.specs.Items.{Point, Turns, KeepsLog}
 
--- a follower that has read some items is answered further on as one that reads them all from the beginning
+-- a follower that has read some items goes on as one that reads them all from the beginning
 abbrev pub FollowsFurther : Type 0
 FollowsFurther = (F : Following) (read more : List Item)
     → (bytes_of F (read ++ more) ≡ bytes_of F read ++ bytes_of (after_items F read) more)
     × (given F (read ++ more) ≡ given F read ++ given (after_items F read) more)
     × (after_items F (read ++ more) ≡ after_items (after_items F read) more)
 
--- so is one that was opened: its file represents items from the beginning of the log up to its position, and it wants those behind them
+-- so does one that was opened: its file represents items from the beginning of the log up to its position, and it goes on with those after them
 abbrev pub OpenedGoesOn : Type 0
 OpenedGoesOn = (profile : Profile) (clients_max : ℕ) (records : List (List ℕ)) (F : Following) (more : List Item) → (kept : IsKept profile clients_max records F)
     → (bytes_of (begun_following profile clients_max) (kept.items ++ more) ≡ bytes_of (begun_following profile clients_max) kept.items ++ bytes_of F more)
     × (given (begun_following profile clients_max) (kept.items ++ more) ≡ given (begun_following profile clients_max) kept.items ++ given F more)
 
--- the records of a file lead to one place: of a file that is opened at a position there is one follower
+-- the records of a file lead to one place: a file that is opened at a position has one follower
 abbrev pub OneLog : Type 0
 OneLog = (profile : Profile) (clients_max : ℕ) (records : List (List ℕ)) (F G : Following) → IsKept profile clients_max records F → IsKept profile clients_max records G → F ≡ G
 
@@ -34,7 +34,7 @@ OneLog = (profile : Profile) (clients_max : ℕ) (records : List (List ℕ)) (F 
 abbrev pub OtherFormat : Type 0
 OtherFormat = (profile other : Profile) (clients_max number : ℕ) (F : Following) (content : List ℕ) → record_bytes profile clients_max F content ≡ head_record other number → ⊥
 
--- the file has the records from before, and those of some first items, and a follower opened over it is behind these
+-- the file has the records from before, and those of some first items, and a follower that is opened over it has read these
 pub record HasFirstItems (profile : Profile) (clients_max : ℕ) (records : List (List ℕ)) (F : Following) (all : List Item) (file : List ℕ) : Type 0 where
   pub items : List Item
   pub others : List Item
@@ -43,7 +43,7 @@ pub record HasFirstItems (profile : Profile) (clients_max : ℕ) (records : List
   pub kept : IsKept profile clients_max (records ++ item_records profile clients_max F items) (after_items F items)
 
 module _ (tells : Type 0) {D : Type 0} (disk : D → Disk) where
-  -- a crash at any moment of a run: the items are those that were served, and at most one behind them, of which no reply was sent in full
+  -- a crash at any moment of a run: the items are those that were served, and at most one after them, of which no reply was sent in full
   abbrev pub AnyLogCrash : Type 0
   AnyLogCrash = (records : List (List ℕ)) (result : Result ℕ KeepLogFault) (keeper after : LogKeeping D) (first last : Input) (start written : Output) (file : List ℕ)
       → tells → KeepsLogRecords disk records keeper
@@ -51,7 +51,7 @@ module _ (tells : Type 0) {D : Type 0} (disk : D → Disk) where
       → (disk after.journal.device).left_since (disk keeper.journal.device).moment file
       → (next : List Item) × (length next ≤ 1) × HasFirstItems keeper.rules.profile keeper.rules.clients_max records keeper.now (served.items ++ next) file
 
-  -- the end of the process alone, at any moment of a run or behind it: what the next one reads is such a file too
+  -- if only the process ends, at any moment of a run or after it, the next process reads such a file too
   abbrev pub LogAfterKill : Type 0
   LogAfterKill = (records : List (List ℕ)) (result : Result ℕ KeepLogFault) (keeper after : LogKeeping D) (first last : Input) (start written : Output) (amid : D)
       → tells → KeepsLogRecords disk records keeper
@@ -59,8 +59,8 @@ module _ (tells : Type 0) {D : Type 0} (disk : D → Disk) where
       → ((amid ≡ after.journal.device) ⊎ IsAmid tells disk (disk keeper.journal.device) (disk after.journal.device) (disk amid))
       → (next : List Item) × (length next ≤ 1) × HasFirstItems keeper.rules.profile keeper.rules.clients_max records keeper.now (served.items ++ next) (disk amid).seen
 
-  -- while the record of one more item is committed, be it done or not, a crash leaves the records of all items that were answered, and that
-  -- one or not
+  -- while the record of one more item is committed, whether that is done or not, a crash leaves the records of all items whose answers were sent,
+  -- and that one or not
   abbrev pub LogWhileCommitting : Type 0
   LogWhileCommitting = (profile : Profile) (clients_max : ℕ) (done : List Item) (item : Item) (first before : Point D) (after : D) (file : List ℕ)
       → tells → Turns tells disk profile clients_max done first before
@@ -73,7 +73,7 @@ module _ (tells : Type 0) {D : Type 0} (disk : D → Disk) where
   AnswersToTheDone = (profile : Profile) (clients_max : ℕ) (done : List Item) (first before : Point D) → Turns tells disk profile clients_max done first before
       → Sent (given first.now done) first.output before.output
 
-  -- once it is committed, when its answers are sent, a crash leaves that one too
+  -- after it is committed, while its answers are sent, a crash leaves that one too
   abbrev pub LogWhileReplying : Type 0
   LogWhileReplying = (profile : Profile) (clients_max : ℕ) (done : List Item) (item : Item) (first before : Point D) (after : D) (file : List ℕ)
       → tells → Turns tells disk profile clients_max done first before

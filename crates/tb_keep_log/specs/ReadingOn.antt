@@ -1,4 +1,4 @@
--- What is taken over of a log's file behind its damage.
+-- What is copied from a log's file after its damage.
 use Rattle.std.specs.Prelude.{ℕ, ◌≡◌, List, [], ◌++◌}
 use Rattle.tb_records.specs.declared.limits.Profile.{Profile}
 use Rattle.tb_journal.specs.declared.reading.Extent.{Extent}
@@ -18,7 +18,7 @@ pub record HasLog {N : Type 0} (disk : N → Disk) (profile : Profile) (clients_
   pub none_waits : journal.waiting ≡ []
   pub kept : IsKept profile clients_max records F
 
--- behind the log of a new file are records that go on with it, and that stand in the file that is read, from the end of its records on
+-- the log of a new file goes on with records that are in the file that is read, from the end of its records on
 pub record IsLogReadOn (tells : Type 0) {N : Type 0} (disk : N → Disk) (profile : Profile) (clients_max : ℕ) (holds : List ℕ → Type 0) (extent : Extent) (F : Following) (before after : Kept N) (on : LogReadOn) : Type 0 where
   pub records : List (List ℕ)
   pub last : Following

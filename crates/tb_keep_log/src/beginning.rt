@@ -23,7 +23,7 @@ use tb_journal::{
 use tb_keep::Rules;
 use tb_log::Follower;
 
-/// A torn commit leaves at most so many bytes behind the records and the latch there: one record and its latch.
+/// A torn commit leaves at most this many bytes after the records and the latch there: one record and its latch.
 pub(crate) const TORN_BYTES_MAX: u64 = (1 << 24) + 11;
 
 /// A device whose file was not opened as a kept log, and why.
@@ -33,7 +33,7 @@ pub struct NotStarted<D: Device> {
     pub fault: LogStartFault,
 }
 
-/// A journal that was not opened, as a log that was not.
+/// A journal that was not opened, as a log that was not opened.
 fn not_started<D: Device>(failed: NotOpened<D>) -> NotStarted<D>
     ensures device { result.device ≡ failed.device }
     ensures fault { result.fault ≡ LogStartFault.Journal failed.fault }
@@ -44,7 +44,7 @@ fn not_started<D: Device>(failed: NotOpened<D>) -> NotStarted<D>
     }
 }
 
-/// The number of torn bytes of a file that was read to this extent: those behind its records and the latch there.
+/// The number of torn bytes of a file that was read to this extent: those after its records and the latch there.
 pub(crate) fn torn_behind<D: Device>(device: &mut D, extent: Extent) -> Result<u64, JournalFault>
     ensures torn { OfHeld (D.holds device.old) (λ file. extent_of (contents file) ≡ Ok extent → IfOk result (λ torn. torn ≡ torn_bytes file)) }
     ensures same { OfHeld (D.holds device.old) (D.holds device.new) }
@@ -58,7 +58,7 @@ pub(crate) fn torn_behind<D: Device>(device: &mut D, extent: Extent) -> Result<u
     }
 }
 
-/// The keeper of a file that was read to this extent. So many torn bytes are cut off.
+/// The keeper of a file that was read to this extent. `cut` torn bytes are cut off.
 fn open_keeper<D: Device, A: Allocator + Clone>(
     global: Global,
     device: D,
@@ -83,8 +83,7 @@ fn open_keeper<D: Device, A: Allocator + Clone>(
     }
 }
 
-/// The keeper of a file that was read to this extent. Where more torn bytes are behind its records than a commit can leave, it is
-/// refused.
+/// The keeper of a file that was read to this extent. The file is refused if more torn bytes are after its records than a commit can leave.
 fn open_unless_torn_long<D: Device, A: Allocator + Clone>(
     global: Global,
     device: D,
@@ -126,15 +125,15 @@ fn open_unless_torn_long<D: Device, A: Allocator + Clone>(
 }
 
 impl<D: Device, A: Allocator + Copy> LogKeeper<D, A> {
-    /// Opens the file of a kept log: the follower is behind all entries that the file has. What a crash left behind the records is cut
-    /// off, if a commit can have left it: more is damage, and the file stays as it was (TornTooLong).
+    /// Opens the file of a kept log: the follower has read all entries of the file. What a crash left after the records is cut off if a commit can
+    /// have left it. More than that is damage, and the file stays as it was (TornTooLong).
     pub fn open(
         global: Global,
         alloc: A,
         device: D,
         rules: Rules,
     ) -> Result<LogKeeper<D, A>, NotStarted<D>>
-        // Where no sync has failed before.
+        // If no sync has failed before.
         ensures opened { IfSound D.Device device (IfOk result (IsOpenedLog D.disk (D.disk device).seen)) }
         // So `keep_log` may serve.
         ensures usable { IfOk result IsUsableLog }
@@ -145,7 +144,7 @@ impl<D: Device, A: Allocator + Copy> LogKeeper<D, A> {
         // A file that is refused stays as it was.
         ensures refused { D.tells → RefusesFor D.disk device result (λ why. By rules (IsLogRefused why)) }
         ensures cause { D.tells → LogCausedBy D.disk device result HasLogCause }
-        // Of any device, by the file that its reads are of.
+        // For any device, by the file that it reads.
         ensures handed { OfHeld (D.holds device) (By rules (OpensLog result)) }
         // What was cut off was set aside before.
         ensures aside { OfHeld (D.holds device) (λ file. IfOk result (λ keeper. AreAside D.aside keeper.cut file)) }
@@ -159,8 +158,7 @@ impl<D: Device, A: Allocator + Copy> LogKeeper<D, A> {
         }
     }
 
-    /// Creates a kept log without entries in an empty file. Where something is in the file the fault is NotEmpty, and the file is as it
-    /// was.
+    /// Creates a kept log without entries in an empty file. If something is in the file the fault is NotEmpty, and the file is as it was.
     fn create(
         global: Global,
         alloc: A,
@@ -188,14 +186,14 @@ impl<D: Device, A: Allocator + Copy> LogKeeper<D, A> {
         }
     }
 
-    /// Looks whether the file is empty, and then creates a kept log in it, or opens the one that it has.
+    /// Creates a kept log if the file is empty, and otherwise opens the one that it has.
     pub fn start(
         global: Global,
         alloc: A,
         device: D,
         rules: Rules,
     ) -> Result<LogKeeper<D, A>, NotStarted<D>>
-        // Where no sync has failed before.
+        // If no sync has failed before.
         ensures started { IfSound D.Device device (IfOk result (IsLogStarted D.disk (D.disk device).seen)) }
         ensures usable { IfOk result IsUsableLog }
         ensures rules { IfOk result (λ keeper. keeper.rules ≡ rules) }
@@ -203,7 +201,7 @@ impl<D: Device, A: Allocator + Copy> LogKeeper<D, A> {
         ensures any_moment { D.tells → LeavesIfSound D.disk device (log_device_left result) LogMayBeStarted }
         ensures refused { D.tells → RefusesFor D.disk device result (λ why. By rules (IsLogStartRefused why)) }
         ensures cause { D.tells → LogCausedBy D.disk device result HasLogStartCause }
-        // Of any device, by the file that its reads are of.
+        // For any device, by the file that it reads.
         ensures handed { OfHeld (D.holds device) (By rules (StartsLogFile result)) }
         // What was cut off was set aside before.
         ensures aside { OfHeld (D.holds device) (λ file. IfOk result (λ keeper. AreAside D.aside keeper.cut file)) }

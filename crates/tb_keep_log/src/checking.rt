@@ -22,16 +22,16 @@ use tb_log::Follower;
 pub struct Reached {
     /// Where the records end in the file, and how many they are: one for each entry of the log.
     pub extent: Extent,
-    /// The position of the last entry: up to it the file has the log.
+    /// The position of the last entry: the file has the log up to it.
     pub position: u64,
-    /// The commit number of the last entry of the history: so many entries it has.
+    /// The commit number of the last entry of the history, which is how many entries it has.
     pub commit: u64,
     /// The time of that entry, in nanoseconds.
     pub time: u64,
 }
 
 impl Reached {
-    /// Where a follower is behind the records that end there.
+    /// How far a follower is that has read the records up to this extent.
     pub(crate) fn of<A: Allocator + Clone>(follower: &Follower<A>, extent: Extent) -> Reached
         ensures { result ≡ reached_by follower.now extent }
     {
@@ -45,7 +45,7 @@ impl Reached {
     }
 }
 
-/// The fault for which a start refuses a file that was read to its end: too many torn bytes. None where they are few.
+/// The fault for which a start refuses a file that was read to its end: too many torn bytes. None if they are few.
 pub(crate) fn torn_stop<D: Device>(
     device: &mut D,
     extent: Extent,
@@ -100,7 +100,7 @@ pub fn check_log<D: Device>(
     rules: &Rules,
     device: &mut D,
 ) -> Result<Reached, LogStartFault>
-    // Of any device, by the file that its reads are of.
+    // For any device, by the file that it reads.
     ensures found { OfHeld (D.holds device.old) (By rules.now (ChecksLog result)) }
     ensures same { OfHeld (D.holds device.old) (D.holds device.new) }
     ensures untouched { D.tells → IsDiskUntouched (D.disk device.old) (D.disk device.new) }

@@ -1,4 +1,4 @@
-//! The entries of a log's file taken over into a new one: of a file that is damaged, and of one that is whole.
+//! The entries of a log's file copied into a new one: of a file that is damaged, and of one that is whole.
 ghost use Rattle.std.specs.Prelude.{◌≡◌, ◌+◌, ◌<◌, ◌≤◌, ◌^◌, true, List, [], ◌∷◌, ℕ, length, IfOk, IfErr, OnOk, OnErr};
 ghost use Rattle.tb_journal.specs.Contents.{at_rest};
 ghost use Rattle.tb_journal.specs.Device.{OfHeld, LeavesOnly};
@@ -24,30 +24,30 @@ use tb_journal::{Device, Extent, Journal, JournalFault, OpenFault, RECORD_BYTES_
 use tb_keep::{BATCH_BYTES_MAX, Rules};
 use tb_log::Follower;
 
-/// A new file with the entries that were taken over.
+/// A new file with the entries that were copied.
 #[derive(Drop)]
 pub struct CopiedLog<N: Device> {
-    /// The journal of the new file. What was taken is durable.
+    /// The journal of the new file. What was copied is durable.
     pub journal: Journal<N>,
-    /// The follower behind the entries that were taken, unless it has read a part of the next one (`reads_on`).
+    /// The follower after the entries that were copied, unless it has read a part of the next one (`reads_on`).
     pub follower: Follower<Global>,
-    /// How far the old file was taken over: what is behind was not.
+    /// How far the old file was copied: nothing after that was.
     pub reached: Reached,
-    /// Why no more was taken: the fault for which a start refuses the old file. None where that is whole.
+    /// Why no more was copied: the fault for which a start refuses the old file. None if the old file is whole.
     pub stop: Option<LogStartFault>,
 }
 
-/// A new file that was not made, or not to its end, and why.
+/// The device of a new file that was not created, or not completed, and why.
 #[derive(Drop)]
 pub struct NotCopiedLog<N: Device> {
     pub device: N,
     pub fault: CopyLogFault,
 }
 
-/// Records with more bytes than this are committed alone: so a crash leaves no more torn bytes than one commit of a log does.
+/// A record with more bytes than this begins a new batch: so a crash leaves no more torn bytes than one commit of a log does.
 const RECORD_BYTES_SHORT: usize = 1 << 20;
 
-/// A journal's fault, as one of the new file.
+/// A journal's fault, as a fault of the new file.
 pub(crate) fn new_fault(fault: JournalFault) -> CopyLogFault
     ensures { result ≡ CopyLogFault.New (OpenFault.Device fault) }
 {
@@ -65,7 +65,7 @@ pub(crate) fn commit_waiting<N: Device>(journal: &mut Journal<N>) -> Result<(), 
     journal.commit()
 }
 
-/// Commits what waits where it may have no space for one more record of so many bytes.
+/// Commits what waits if there may be no space for one more record of `len` bytes.
 fn make_room<N: Device>(journal: &mut Journal<N>, len: usize) -> Result<(), JournalFault>
     requires usable { journal.old.usable ≡ true }
     requires ready { N.tells → IsReady N.disk journal.old }
@@ -79,7 +79,7 @@ fn make_room<N: Device>(journal: &mut Journal<N>, len: usize) -> Result<(), Jour
     commit_waiting(journal)
 }
 
-/// Lets a record wait for the next commit, behind a batch that has space for it.
+/// Appends a record to a batch that has space for it. It waits for the next commit.
 fn append_one<N: Device>(journal: &mut Journal<N>, bytes: &[u8]) -> Result<(), JournalFault>
     requires usable { journal.old.usable ≡ true }
     requires ready { N.tells → IsReady N.disk journal.old }
@@ -90,7 +90,7 @@ fn append_one<N: Device>(journal: &mut Journal<N>, bytes: &[u8]) -> Result<(), J
     journal.append(bytes)
 }
 
-/// Lets a record wait for the next commit, in a batch that is short enough.
+/// Appends a record for the next commit, in a batch that is short enough.
 #[tactic(auto, using(tb_keep::proofs::Taking::puts_then))]
 fn append_short<N: Device>(journal: &mut Journal<N>, bytes: &[u8]) -> Result<(), JournalFault>
     requires usable { journal.old.usable ≡ true }
@@ -104,7 +104,7 @@ fn append_short<N: Device>(journal: &mut Journal<N>, bytes: &[u8]) -> Result<(),
     }
 }
 
-/// Enters the entry of a record that is behind those of a follower, and lets it wait for the next commit.
+/// Enters the entry of a record that is after those of a follower, and appends the record for the next commit.
 pub(crate) fn take_record<N: Device, A: Allocator + Clone>(
     global: Global,
     rules: &Rules,
@@ -116,7 +116,7 @@ pub(crate) fn take_record<N: Device, A: Allocator + Clone>(
     requires ready { N.tells → IsReady N.disk journal.old }
     ensures { By rules.now (CopiesRecord N.tells N.disk) result bytes.now follower.old follower.new journal.old journal.new }
 {
-    // No file has such a record: its length is three bytes.
+    // No file has such a record: the length in a block is three bytes.
     if bytes.len() >= RECORD_BYTES_MAX {
         return Err(CopyLogFault::Old(LogStartFault::NoMemory));
     }
@@ -129,7 +129,7 @@ pub(crate) fn take_record<N: Device, A: Allocator + Clone>(
     }
 }
 
-/// Takes over the next record of a file: false where there is none.
+/// Copies the next record of a file: false if there is no record.
 fn take_next<D: Device, N: Device, A: Allocator + Clone>(
     global: Global,
     rules: &Rules,
@@ -157,8 +157,8 @@ fn take_next<D: Device, N: Device, A: Allocator + Clone>(
     }
 }
 
-/// Takes over the records that are left, up to the first one that is damaged or not that of the next entry. Returns how far that is, and why
-/// no more were taken.
+/// Copies the remaining records, up to the first that is damaged or is not that of the next entry. Returns how far that is, and why no more were
+/// copied.
 fn take_all<D: Device, N: Device, A: Allocator + Clone>(
     global: Global,
     rules: &Rules,
@@ -184,7 +184,7 @@ fn take_all<D: Device, N: Device, A: Allocator + Clone>(
     }
 }
 
-/// The fault for which a start refuses a file each time. None of any other.
+/// The fault, if every start refuses the file for it. None for any other.
 pub(crate) fn stop_of(fault: CopyLogFault) -> Option<LogStartFault>
     ensures { result ≡ log_stop_of fault }
 {
@@ -197,8 +197,8 @@ pub(crate) fn stop_of(fault: CopyLogFault) -> Option<LogStartFault>
     }
 }
 
-/// Whether a copy that ended so may be read on: its follower is behind the entries that were taken. Before any other fault it has read a
-/// part of the entry that is refused.
+/// Whether a copy that ended so may be read on: its follower has read exactly the entries that were copied. Otherwise it may have read a part of the
+/// entry that is refused.
 pub fn reads_on(stop: Option<LogStartFault>) -> bool
     ensures { result ≡ reads_on stop }
 {
@@ -210,7 +210,7 @@ pub fn reads_on(stop: Option<LogStartFault>) -> bool
     }
 }
 
-/// Why no more was taken, by what ended it.
+/// Why no more was copied, by what ended it.
 fn stopped_by<D: Device>(
     taken: Result<(), CopyLogFault>,
     from: &mut D,
@@ -234,7 +234,7 @@ fn stopped_by<D: Device>(
     }
 }
 
-/// Takes over the records that are left and commits them. Returns how far that is, and why no more were taken.
+/// Copies the remaining records and commits them. Returns how far that is, and why no more were copied.
 fn take_rest<D: Device, N: Device, A: Allocator + Clone>(
     global: Global,
     rules: &Rules,
@@ -260,7 +260,7 @@ fn take_rest<D: Device, N: Device, A: Allocator + Clone>(
     }
 }
 
-/// Takes over a file of which nothing was read into the journal of a new one.
+/// Copies a file of which nothing was read into the journal of a new one.
 fn copy_into<D: Device, N: Device>(
     global: Global,
     rules: &Rules,
@@ -298,7 +298,7 @@ fn copy_into<D: Device, N: Device>(
     }
 }
 
-/// Takes over a file of which nothing was read.
+/// Copies a file of which nothing was read.
 fn copy_by<D: Device, N: Device>(
     global: Global,
     rules: &Rules,
@@ -333,12 +333,12 @@ fn copy_by<D: Device, N: Device>(
     }
 }
 
-/// Takes the entries of a log's file of these rules over into a new one: all that come before the first damage, and before the first record
-/// that is not that of the next entry. The old file is read once, and not written to. The new one is the file of a log of the same rules;
-/// what was taken is durable. Nothing is made where the old file is no journal.
+/// Copies the entries of a log's file of these rules into a new one: all before the first damage, and before the first record that is not that of
+/// the next entry. The old file is read once, and not written to. The new one is the file of a log of the same rules, and what was copied is
+/// durable. No file is created if the old one is no journal.
 ///
-/// An error is Old, with the fault of a start, where the old file is not read, and New where the new one is not made or not written to, as
-/// where something is there already (NotEmpty). The new file then has nothing, or some first entries.
+/// The fault is Old, with the fault of a start, if the old file is not read. It is New if the new file is not created or not written to, for
+/// example because something is there already (NotEmpty). The new file then has nothing, or some first entries.
 pub fn copy_log<D: Device, N: Device>(
     global: Global,
     rules: &Rules,
@@ -347,7 +347,7 @@ pub fn copy_log<D: Device, N: Device>(
 ) -> Result<CopiedLog<N>, NotCopiedLog<N>>
     // No sync has failed on the new file's device before.
     requires sound { N.tells → (N.disk into).sound ≡ true }
-    // Of any device, by the file that the reads of the old one are of.
+    // For any device, by the file that the old one reads.
     ensures copied { IfOk result (By rules.now (IsCopied N.tells N.disk (D.holds from.old))) }
     ensures uncopied { SaysWhyNotCopied (D.holds from.old) result IsUncopied }
     // A crash at any moment of the call leaves no entry, or some first ones, in the new file.

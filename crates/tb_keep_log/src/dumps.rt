@@ -21,7 +21,7 @@ use tb_records::dumps::send_head;
 use tb_records::streams::read_timed_from;
 use tb_records::{Counting, DumpHead, FrameFault, Request, Sink, put_all};
 
-/// Says that the entry of this commit number is written: one above a number, or each.
+/// Whether the entry of this commit number is written: one above a number, or each.
 fn is_wanted(commit: u64, above: Option<u64>) -> bool
     ensures { result ≡ is_wanted above commit }
 {
@@ -56,7 +56,7 @@ fn send_entry<W: Sink>(
     }
 }
 
-/// Writes the entry of a pair that is new, if it is wanted, and enters it. Of any other pair nothing is written.
+/// Writes the entry of a pair that is new, if it is wanted, and enters it. For any other pair nothing is written.
 fn dump_pair<W: Sink>(
     global: Global,
     machine: &mut Machine<Global>,
@@ -86,7 +86,7 @@ fn dump_pair<W: Sink>(
     }
 }
 
-/// The fault of what is no pair. Bytes in memory have no reader that fails.
+/// The fault of bytes that are no pair. A reader of bytes in memory does not fail.
 fn no_pair(cause: FrameFault) -> DumpLogFault
     ensures { result ≡ no_pair cause }
 {
@@ -123,7 +123,7 @@ fn dump_content<W: Sink>(
     unreachable!()
 }
 
-/// Writes the entries of the pairs of the record behind so many others.
+/// Writes the entries of the pairs of the record after `last` others.
 fn dump_record<W: Sink>(
     global: Global,
     rules: &Rules,
@@ -141,7 +141,7 @@ fn dump_record<W: Sink>(
     }
 }
 
-/// Reads the next record, and writes the entries of its pairs: false where there is none.
+/// Reads the next record, and writes the entries of its pairs: false if there is no record.
 fn dump_next<D: Device, W: Sink>(
     global: Global,
     rules: &Rules,
@@ -171,9 +171,9 @@ fn dump_next<D: Device, W: Sink>(
     }
 }
 
-/// Writes the entries of the pairs of the records of a log that were not read yet, those above a commit number, or all: one behind
-/// another and without a head, as a dump has them. The machine is the one behind the pairs of the records before; a new one where none was
-/// read. A scan that came to the end goes on where the file has more records. The faults are those of `write_log_dump`.
+/// Writes the entries of the pairs of the records of a log that were not read yet, those above a commit number, or all. They are written one after
+/// another and without a head, as a dump has them. The machine is the one after the pairs of the records before, or a new one if no record was
+/// read. A scan that came to the end goes on if the file has more records. The faults are those of `write_log_dump`.
 pub fn write_log_entries<D: Device, W: Sink>(
     global: Global,
     rules: &Rules,
@@ -230,16 +230,17 @@ fn dump_by<D: Device, W: Sink>(
     }
 }
 
-/// Writes the history of a kept log of these rules as a dump, which `replay` of tb_machine reads. It has no positions. The file is read,
-/// and nothing is written to it. Start where the file is not read to its end, NoPairs where a record has what is no pair, TimeExhausted
-/// where a new request has no time, Writer where the writer answers an error, or takes nothing of what is left: then a prefix went out.
+/// Writes the history of a kept log of these rules as a dump, which `replay` of tb_machine reads. It has no positions. The file is read, and
+/// nothing is written to it. The fault is Start if the file is not read to its end, NoPairs if a record has bytes that are no pair, and
+/// TimeExhausted if a new request has no time. It is Writer if the writer returns an error, or accepts none of the remaining bytes. On a fault a
+/// prefix was written, or nothing.
 pub fn write_log_dump<D: Device, W: Sink>(
     global: Global,
     device: &mut D,
     rules: &Rules,
     writer: &mut W,
 ) -> Result<(), DumpLogFault>
-    // Of any device, by the file that its reads are of.
+    // For any device, by the file that it reads.
     ensures dumps { OfHeld (D.holds device.old) (DumpsBy rules.now W.output result writer.old writer.new) }
     ensures same { OfHeld (D.holds device.old) (D.holds device.new) }
     ensures untouched { D.tells → IsDiskUntouched (D.disk device.old) (D.disk device.new) }

@@ -33,7 +33,7 @@ fn of_log(fault: LogFault) -> LogStartFault
     }
 }
 
-/// Takes the entry at the next position, and serves its pairs in memory: the bytes of the answers.
+/// Takes the entry at the next position, and serves its pairs in memory. Returns the bytes of the answers.
 pub(crate) fn serve_entry<A: Allocator + Clone>(
     global: Global,
     follower: &mut Follower<A>,
@@ -54,7 +54,7 @@ pub(crate) fn serve_entry<A: Allocator + Clone>(
     }
 }
 
-/// Compares a record with the one that its entry leaves behind.
+/// Compares a record with the one that its entry gives when it is served.
 fn compare<A: Allocator + Clone>(
     global: Global,
     rules: &Rules,
@@ -105,8 +105,8 @@ fn enter_at<A: Allocator + Clone>(
     }
 }
 
-/// Enters the entry of a record behind those before it: its pairs are served again, and what they leave behind is compared with the
-/// position and the hashes of the record. After a fault the follower is not used again.
+/// Enters the entry of a record after those before it. Its pairs are served again, and the position and hashes that they give are compared with
+/// those of the record. After a fault the follower is not used again.
 pub(crate) fn enter_record<A: Allocator + Clone>(
     global: Global,
     rules: &Rules,

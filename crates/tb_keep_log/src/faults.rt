@@ -16,16 +16,16 @@ pub enum LogStartFault {
     Plain,
     /// The next record names other rules.
     OtherRules,
-    /// The record behind the entry of this position is that of no entry.
+    /// The record after the entry of this position is that of no entry.
     NoEntry(u64),
     /// The entry of the next record cannot be served.
     Entry(LogFault),
-    /// The record of the entry at this position has another position or other hashes than that entry leaves behind.
+    /// The record of the entry at this position has another position or other hashes than that entry gives.
     OtherHashes(u64),
-    /// There is no memory.
+    /// Out of memory.
     NoMemory,
-    /// Behind the last whole record, which ends at this offset, are more bytes than a torn commit can leave: so many,
-    /// behind the latch there. They are not cut off.
+    /// The last whole record ends at offset `at`. After it and the latch there are `bytes` bytes: more than a torn commit can leave. They are not
+    /// cut off.
     TornTooLong { at: u64, bytes: u64 },
 }
 
@@ -58,7 +58,7 @@ impl fmt::Display for LogStartFault {
     }
 }
 
-/// Why serving ends before the log does. Nothing more is answered, and the keeper is not used again: its follower may be ahead of the
+/// Why serving ends before the log does. No more answers are sent, and the keeper must not be used again, because its follower may be ahead of the
 /// file. The file is opened again.
 #[derive(Clone, Copy, Debug, PartialEq, Eq, Error)]
 pub enum KeepLogFault {
@@ -99,11 +99,11 @@ impl fmt::Display for KeepLogFault {
 pub enum DumpLogFault {
     /// The file is not read.
     Start(LogStartFault),
-    /// A record has what is no pair.
+    /// A record has bytes that are no pair.
     NoPairs,
     /// A request is new, and the end of time leaves no time for it.
     TimeExhausted,
-    /// There is no memory.
+    /// Out of memory.
     NoMemory,
     /// The writer failed, or took nothing.
     Writer,
@@ -135,12 +135,12 @@ impl fmt::Display for DumpLogFault {
     }
 }
 
-/// Why a log's file is not taken over into a new one.
+/// Why a log's file is not copied into a new one.
 #[derive(Clone, Copy, Debug, PartialEq, Eq, Error)]
 pub enum CopyLogFault {
     /// The file is not read.
     Old(LogStartFault),
-    /// The new file is not made, or not written to.
+    /// The new file is not created, or not written to.
     New(OpenFault),
 }
 

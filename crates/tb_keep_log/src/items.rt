@@ -1,4 +1,4 @@
-//! The serving of a kept log: an item is read, its record committed, and then it is answered.
+//! The serving of a kept log: an item is read, its record is committed, and then its answer is sent.
 ghost use Rattle.std.specs.Prelude.{◌≡◌, true, false, [], IfOk, IfErr, OnOk, OnErr};
 ghost use Rattle.tb_journal.specs.Ready.{IsReady};
 ghost use Rattle.tb_keep_log.specs.Keeping.{IsUsableLog};
@@ -15,7 +15,7 @@ use tb_keep::Rules;
 use tb_log::{Follower, LogFault, entry_from, kind_from};
 use tb_records::{Sink, Source, put_all};
 
-/// Reads an entry behind its kind, and serves its pairs in memory: its content, and the bytes of the answers.
+/// Reads an entry after its kind, and serves its pairs in memory. Returns its content, and the bytes of the answers.
 fn take_entry<A: Allocator + Clone, R: Source>(
     global: Global,
     follower: &mut Follower<A>,
@@ -46,7 +46,7 @@ fn write_and_pass_on<W: Sink>(writer: &mut W, bytes: &[u8]) -> Result<(), KeepLo
     }
 }
 
-/// Answers a question, and passes the answer on.
+/// Writes the answer to a question, and passes it on.
 fn answer_question<A: Allocator + Clone, W: Sink>(
     global: Global,
     follower: &Follower<A>,
@@ -95,7 +95,7 @@ fn commit_and_reply<D: Device, W: Sink>(
     }
 }
 
-/// Reads an entry behind its kind, commits its record, and then sends its answers.
+/// Reads an entry after its kind, commits its record, and then sends its answers.
 fn keep_entry<D: Device, A: Allocator + Clone, R: Source, W: Sink>(
     global: Global,
     rules: &Rules,
@@ -118,7 +118,7 @@ fn keep_entry<D: Device, A: Allocator + Clone, R: Source, W: Sink>(
     }
 }
 
-/// Reads and serves the next item: false where there is none.
+/// Reads and serves the next item: false if there is no item.
 fn keep_next<D: Device, A: Allocator + Clone, R: Source, W: Sink>(
     global: Global,
     rules: &Rules,
@@ -150,7 +150,7 @@ fn keep_next<D: Device, A: Allocator + Clone, R: Source, W: Sink>(
     }
 }
 
-/// Serves the items of a log until they end, and answers the position of the last entry.
+/// Serves the items of a log until they end, and returns the position of the last entry.
 fn keep_all<D: Device, A: Allocator + Clone, R: Source, W: Sink>(
     global: Global,
     rules: &Rules,
@@ -177,17 +177,17 @@ fn keep_all<D: Device, A: Allocator + Clone, R: Source, W: Sink>(
     Err(KeepLogFault::Log(LogFault::TooMany))
 }
 
-/// Follows a log from the entry behind the keeper's position until the input ends, and answers the position of the last entry. Each entry
-/// is read and served as a whole, and committed with the position and both hashes behind it; then its replies are sent, each with the
-/// position and its index in the entry. Each question is answered by the position and both hashes. Where an entry is refused, nothing of
-/// it is in the file or sent. After a fault the keeper cannot go on.
+/// Follows a log from the entry after the keeper's position until the input ends, and returns the position of the last entry. Each entry is read
+/// and served as a whole, and committed with the position and both hashes after it. Then its replies are sent, each with the position and its index
+/// in the entry. The answer to a question is the position and both hashes. If an entry is refused, nothing of it is in the file or sent. After a
+/// fault the keeper cannot go on.
 pub fn keep_log<D: Device, A: Allocator + Clone, R: Source, W: Sink>(
     global: Global,
     keeper: &mut LogKeeper<D, A>,
     reader: &mut R,
     writer: &mut W,
 ) -> Result<u64, KeepLogFault>
-    // Of any device.
+    // For any device.
     requires usable { IsUsableLog keeper.old }
     requires ready { D.tells → IsReady D.disk keeper.old.journal }
     ensures served { KeepsLog D.tells D.disk result keeper.old keeper.new (R.input reader.old)

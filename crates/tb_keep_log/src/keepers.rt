@@ -8,14 +8,14 @@ use tb_journal::{Device, Journal};
 use tb_keep::Rules;
 use tb_log::Follower;
 
-/// A follower, and the journal that its entries are in. After a fault it cannot go on: the file is opened again. The records of its
-/// machine take their memory of `A`, all else of the global allocator.
+/// A follower, and the journal that holds its entries. After a fault it cannot go on: the file must be opened again. The records of its machine
+/// allocate from `A`, everything else from the global allocator.
 #[derive(Drop)]
 pub struct LogKeeper<D: Device, A: Allocator + Clone = Global> {
     pub(crate) rules: Rules,
     pub(crate) journal: Journal<D>,
     pub(crate) follower: Follower<A>,
-    // The torn bytes that the start cut off.
+    // The number of torn bytes that the start cut off.
     pub(crate) cut: u64,
     // No call has failed.
     pub(crate) usable: bool,
@@ -30,7 +30,7 @@ impl<D: Device, A: Allocator + Clone> Model for LogKeeper<D, A> {
 }
 
 impl<D: Device, A: Allocator + Clone> LogKeeper<D, A> {
-    /// A keeper of a follower that is behind the journal's entries. So many torn bytes were cut off.
+    /// A keeper of a follower that has read the journal's entries. The start cut off `cut` torn bytes.
     pub(crate) fn new(
         rules: Rules,
         journal: Journal<D>,
@@ -52,22 +52,21 @@ impl<D: Device, A: Allocator + Clone> LogKeeper<D, A> {
         }
     }
 
-    /// The position of the last entry. The log is wanted from the next one on.
+    /// The position of the last entry. The keeper goes on with the next one.
     pub fn position(&self) -> u64
         ensures { result ≡ self.now.now.position }
     {
         self.follower.position()
     }
 
-    /// What a question is answered: 2, the position, and both hashes.
+    /// The answer to a question: 2, the position, and both hashes.
     pub fn standing(&self, global: Global) -> Result<Vec<u8>, AllocError>
         ensures { IfOk result (λ line. line.items ≡ follower_standing self.now.now) }
     {
         self.follower.standing(global)
     }
 
-    /// How many bytes the start cut off: what a torn commit had left behind the records and the latch there. 0 where
-    /// there were none.
+    /// How many bytes the start cut off: the bytes after the records and the latch there, which a torn commit left. 0 if it cut off nothing.
     pub fn cut_bytes(&self) -> u64
         ensures { result ≡ self.now.cut }
     {
@@ -81,7 +80,7 @@ impl<D: Device, A: Allocator + Clone> LogKeeper<D, A> {
         &self.journal
     }
 
-    /// The device, given back. The follower is dropped.
+    /// Returns the device. The follower is dropped.
     pub fn into_device(self) -> D
         ensures { result ≡ self.journal.device }
     {

@@ -1,11 +1,11 @@
-//! What holds of every kept log, over the definitions alone. A call does nothing; its promise is the law.
+//! What holds for every kept log, by the definitions only. A call does nothing; its contract is the law.
 ghost use Rattle.tb_keep_log.specs.Dumping.{PairsOfLog};
 ghost use Rattle.tb_keep_log.specs.Laws.{LogAfterKill, AnyLogCrash, FollowsFurther, OneLog, OpenedGoesOn, OtherFormat, AnswersToTheDone, LogWhileCommitting, LogWhileReplying};
 
 use tb_journal::Device;
 
-/// What is opened goes on exactly as if it had read all entries up to its position: the same bytes are wanted, and the same answers are
-/// given. And a file has one such follower.
+/// A follower that is opened goes on exactly as if it had read all entries up to its position: it reads the same bytes, and gives the same answers.
+/// And a file has only one such follower.
 pub fn goes_on()
     ensures each { FollowsFurther }
     ensures opened { OpenedGoesOn }
@@ -22,13 +22,13 @@ pub fn any_crash<D: Device>()
     ensures { AnyLogCrash D.tells D.disk }
 {}
 
-/// Where the process alone ends, at any moment of `keep_log`, no power is lost, and the next one reads what was in the file: that is a file
-/// such as a crash leaves.
+/// If only the process ends, at any moment of `keep_log`, no power is lost, and the next process reads what was in the file: a file such as a crash
+/// leaves.
 pub fn after_kill<D: Device>()
     ensures { LogAfterKill D.tells D.disk }
 {}
 
-/// Whatever was acknowledged is in the file: while an entry is committed only the answers to earlier ones were sent, and while its answers are sent
+/// What was acknowledged is in the file. While an entry is committed only the answers to earlier ones were sent, and while its answers are sent
 /// each file that a crash leaves has its record.
 pub fn acknowledged_is_kept<D: Device>()
     ensures committing { LogWhileCommitting D.tells D.disk }

@@ -1,5 +1,5 @@
-//! A follower of a log that outlives its process: each entry of the log is in a file, with the position and both hashes behind it, before
-//! its replies are sent. What is opened at a position goes on as if it had read all entries up to it.
+//! A follower of a log that outlives its process: each entry of the log is in a file, with the position and both hashes after it, before its
+//! replies are sent. A follower that is opened at a position goes on as if it had read all entries up to it.
 //!
 //! Modules, each over those before it:
 //!
@@ -7,11 +7,11 @@
 //! - `marks`: the record of an entry: the rules, the position, both hashes, and the pairs.
 //! - `keepers`: `LogKeeper`, a follower, and the journal that its entries are in.
 //! - `entries`: an entry served in memory; the entry of a record entered again, and compared with it.
-//! - `rereading`: `read_log`, a follower behind all records of a file.
+//! - `rereading`: `read_log`, a follower after all records of a file.
 //! - `beginning`: `LogKeeper::open` and `LogKeeper::start`.
 //! - `checking`: `check_log`, a file read as a start reads it, without a write.
-//! - `copying`: `copy_log`, the entries of a file taken over into a new one.
-//! - `reading_on`: `read_log_on`, the entries that are behind a file's damage taken over too.
+//! - `copying`: `copy_log`, the entries of a file copied into a new one.
+//! - `reading_on`: `read_log_on`, the entries after a file's damage, copied too.
 //! - `items`: `keep_log`, items read, entries committed, and then answers sent.
 //! - `dumps`: `write_log_dump`, the history of a kept log without positions, and `write_log_entries`, a part of it.
 //! - `laws`: what holds of every kept log: functions that do nothing.

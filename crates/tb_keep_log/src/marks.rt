@@ -35,7 +35,7 @@ pub(crate) fn write_mark(rules: &Rules) -> [u8; 6]
     ]
 }
 
-/// The record of an entry of these pairs, behind which a follower is.
+/// The record of an entry of these pairs, by the follower that has read it.
 pub(crate) fn record_of<A: Allocator + Clone>(
     global: Global,
     rules: &Rules,
@@ -52,7 +52,7 @@ pub(crate) fn record_of<A: Allocator + Clone>(
     Ok(record)
 }
 
-/// Why a record that begins otherwise is refused, behind the entry of this position.
+/// Why a record that does not begin with the mark is refused after the entry of this position.
 fn other_mark(bytes: &[u8], rules: &Rules, last: u64) -> LogStartFault
     requires { starts_with nat_eq bytes.now (By rules.now mark) ≡ false }
     ensures { By rules.now (RefusesMark result) last bytes.now }
@@ -66,7 +66,7 @@ fn other_mark(bytes: &[u8], rules: &Rules, last: u64) -> LogStartFault
     LogStartFault::NoEntry(last)
 }
 
-/// The position of the entry of a record behind the entry of this position, by the record's first bytes and its length.
+/// The position of the entry of a record after the entry of this position, by the record's first bytes and its length.
 pub(crate) fn check_mark(bytes: &[u8], rules: &Rules, last: u64) -> Result<u64, LogStartFault>
     ensures next { IfOk result (λ position. position ≡ last + 1) }
     ensures marked { OnOk result (starts_with nat_eq bytes.now (By rules.now mark) ≡ true) }

@@ -1,4 +1,4 @@
-//! The entries that stand in a log's file behind its damage, taken over too.
+//! The entries that are in a log's file after its damage, copied too.
 ghost use Rattle.std.specs.Prelude.{◌≡◌, ◌+◌, ◌<◌, ◌≤◌, ◌^◌, ℕ, true, false, List, length, IfOk, IfSome, OnOk};
 ghost use Rattle.tb_journal.specs.Device.{LeavesOnly, OfHeld};
 ghost use Rattle.tb_journal.specs.Ready.{IsReady};
@@ -20,12 +20,12 @@ use tb_journal::{
 use tb_keep::{ReadOn, Rules};
 use tb_log::Follower;
 
-/// What was taken over of a log's file behind its damage.
+/// What was copied from a log's file after its damage.
 #[derive(Clone, Copy)]
 pub struct LogReadOn {
     /// How far the log is after that. The extent is that of the records before the damage.
     pub reached: Reached,
-    /// Where the blocks of the entries that were taken over are.
+    /// Where the blocks of the entries that were copied are.
     pub on: ReadOn,
 }
 
@@ -36,12 +36,12 @@ const LENGTH_BYTES: usize = 3;
 
 const SUM_BYTES: usize = 4;
 
-// Where a record is behind the length of its block, and where the position of its entry is there: behind the mark and a kind.
+// The offset of a record from the length of its block on, and that of the position of its entry: after the mark and a kind.
 const RECORD_AT: usize = LENGTH_BYTES + SUM_BYTES;
 
 const POSITION_AT: usize = RECORD_AT + 6 + 1;
 
-// So many bytes, from the length on, say whether a record is that of an entry of a position.
+// This many bytes, from the length on, say whether a record may be that of an entry of a position.
 const PEEK_BYTES: usize = POSITION_AT + 8;
 
 // The parts of a pair before the items of its request: its moment, and the header, in which the number of bytes of the items is.
@@ -56,7 +56,7 @@ fn old_fault(fault: JournalFault) -> CopyLogFault
     CopyLogFault::Old(LogStartFault::Journal(OpenFault::Device(fault)))
 }
 
-/// Whether the record of the entry of a position may be here, behind the length and the checksum of its block: by its first bytes.
+/// Whether the record of the entry of a position may be here, after the length and the checksum of its block, by its first bytes.
 fn is_next(bytes: &[u8], rules: &Rules, position: u64) -> bool {
     if bytes.len() < PEEK_BYTES {
         return false;
@@ -65,7 +65,7 @@ fn is_next(bytes: &[u8], rules: &Rules, position: u64) -> bool {
         && bytes[POSITION_AT..].starts_with(&position.to_le_bytes())
 }
 
-/// A length as a record can have it.
+/// Bounds a length to those that a record can have.
 fn record_len(len: usize) -> usize
     ensures some { 0 < result }
     ensures short { result < 2 ^ 24 }
@@ -84,7 +84,7 @@ fn named_len(bytes: &[u8]) -> usize
     record_len(u32::from_le_bytes([*a, *b, *c, 0]) as usize)
 }
 
-/// The length of the pair that these bytes begin with. None where there is no whole pair, or the next block is here.
+/// The length of the pair that these bytes begin with. None if there is no whole pair, or the next block is here.
 fn pair_len(bytes: &[u8], mark: &[u8]) -> Option<usize>
     ensures { IfSome result (λ len. len ≤ length bytes.now) }
 {
@@ -98,7 +98,7 @@ fn pair_len(bytes: &[u8], mark: &[u8]) -> Option<usize>
     if len > bytes.len() { None } else { Some(len) }
 }
 
-/// The length of the record behind the checksum in these bytes, by its pairs: it ends where no more pair is.
+/// The length of the record after the checksum in these bytes, by its pairs: it ends where there is no further pair.
 fn paired_len(bytes: &[u8], rules: &Rules) -> usize
     ensures some { 0 < result }
     ensures short { result < 2 ^ 24 }
@@ -118,7 +118,7 @@ fn paired_len(bytes: &[u8], rules: &Rules) -> usize
     record_len(0)
 }
 
-/// Takes over the record of so many bytes whose checksum is at the place of a seek: false where there is none.
+/// Copies the record of `len` bytes whose checksum is at the place of a seek: false if there is no such record.
 fn take_standing<D: Device, N: Device, A: Allocator + Clone>(
     global: Global,
     rules: &Rules,
@@ -151,7 +151,7 @@ fn take_standing<D: Device, N: Device, A: Allocator + Clone>(
     }
 }
 
-/// Goes on behind the record of so many bytes that was taken over.
+/// Moves a seek past the record of `len` bytes that was copied, and counts its block.
 fn pass_record(seek: &mut Seek, on: &mut ReadOn, len: usize)
     requires near { seek.old.at < 2 ^ 62 }
     requires short { len < 2 ^ 24 }
@@ -165,7 +165,7 @@ fn pass_record(seek: &mut Seek, on: &mut ReadOn, len: usize)
     seek.skip(SUM_BYTES + len);
 }
 
-/// Takes over the record of so many bytes at the place of a seek, and goes on behind it. Where there is none, false: the seek stays.
+/// Copies the record of `len` bytes at the place of a seek, and moves past it. If there is no such record it returns false, and the seek stays.
 fn take_or_stay<D: Device, N: Device, A: Allocator + Clone>(
     global: Global,
     rules: &Rules,
@@ -197,7 +197,7 @@ fn take_or_stay<D: Device, N: Device, A: Allocator + Clone>(
     }
 }
 
-/// Takes over the record at the place of a seek, behind a length that is not the record's, by its pairs.
+/// Copies the record at the place of a seek by its pairs, after a length that is not the record's.
 fn take_paired<D: Device, N: Device, A: Allocator + Clone>(
     global: Global,
     rules: &Rules,
@@ -227,7 +227,7 @@ fn take_paired<D: Device, N: Device, A: Allocator + Clone>(
     }
 }
 
-/// Takes over the record behind the length and the checksum at the place of a seek, by that length or by its pairs, and goes on behind it.
+/// Copies the record after the length and the checksum at the place of a seek, by that length or by its pairs, and moves past it.
 fn take_named<D: Device, N: Device, A: Allocator + Clone>(
     global: Global,
     rules: &Rules,
@@ -254,7 +254,7 @@ fn take_named<D: Device, N: Device, A: Allocator + Clone>(
     }
 }
 
-/// Takes over the record of the next entry where that is at the place of a seek that has bytes ahead, and goes on behind it; by one byte where it is not.
+/// Copies the record of the next entry at the place of a seek that has bytes ahead, and moves past it; by one byte if its first bytes are not there.
 fn look_here<D: Device, N: Device, A: Allocator + Clone>(
     global: Global,
     rules: &Rules,
@@ -314,8 +314,8 @@ fn look_on<D: Device, N: Device, A: Allocator + Clone>(
     }
 }
 
-/// Takes over what is behind the place of a seek, to the end of the file or to a record of the next position that is not its entry's. Returns
-/// how far that is, and why it ended.
+/// Copies what is after the place of a seek, to the end of the file or to a record of the next position that is not its entry's. Returns how far
+/// that is, and why it ended.
 fn look_through<D: Device, N: Device, A: Allocator + Clone>(
     global: Global,
     rules: &Rules,
@@ -345,7 +345,7 @@ fn look_through<D: Device, N: Device, A: Allocator + Clone>(
     }
 }
 
-/// Ends the reading where a record is refused as not that of the next entry. Any other fault stays one.
+/// Ends the reading if a record is refused as not that of the next entry. Any other fault is returned.
 fn halted(looked: Result<(), CopyLogFault>) -> Result<(), CopyLogFault>
     ensures { HaltedBy result looked }
 {
@@ -358,15 +358,15 @@ fn halted(looked: Result<(), CopyLogFault>) -> Result<(), CopyLogFault>
     }
 }
 
-/// Takes over the entries that are in a log's file behind its damage: from where its records end, the log of the new file goes on with each
-/// next entry whose record and checksum are at any later offset, whatever is between. The follower is behind the entries of the new file.
-/// What was taken over is durable. A record of the next position that is not its entry's ends the reading.
+/// Copies the entries that are in a log's file after its damage. From where its records end, the log of the new file goes on with each next entry
+/// whose record and checksum are at any later offset, whatever is between. The follower is then after the entries of the new file. What was copied
+/// is durable. A record of the next position that is not its entry's ends the reading.
 ///
-/// Each offset costs one test of 15 bytes, the mark and the position of the next entry; where they are there, the checksum of one record is
-/// made, or of two: of as many bytes as its block names, and of its pairs.
+/// Each offset costs one test of 15 bytes, the mark and the position of the next entry. If they match, the checksum of one record is computed, or
+/// of two: of as many bytes as its block states, and of its pairs.
 ///
-/// An error is Old where the old file is not read on, and New where the new one is not written to: it then has the log that it had, and
-/// maybe more.
+/// The fault is Old if the old file is not read on, and New if the new one is not written to. The new file then has the log that it had, and maybe
+/// more.
 pub fn read_log_on<D: Device, N: Device, A: Allocator + Clone>(
     global: Global,
     rules: &Rules,
@@ -377,7 +377,7 @@ pub fn read_log_on<D: Device, N: Device, A: Allocator + Clone>(
 ) -> Result<LogReadOn, CopyLogFault>
     requires usable { journal.old.usable ≡ true }
     requires ready { N.tells → IsReady N.disk journal.old }
-    // Of any device, by the file that the reads of the old one are of.
+    // For any device, by the file that the old one reads.
     ensures on { IfOk result (By rules.now (IsLogReadOn N.tells N.disk) (D.holds from.old) extent follower.old journal.old journal.new) }
     ensures any_moment { N.tells → (first : List (List ℕ)) → By rules.now (HasLog N.disk) first follower.old journal.old
         → LeavesOnly (N.disk journal.old.device) (N.disk journal.new.device) (By rules.now HasLongerLog first) }

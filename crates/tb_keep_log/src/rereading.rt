@@ -1,4 +1,4 @@
-//! A follower behind all records of a file.
+//! A follower after all records of a file.
 ghost use Rattle.std.specs.Prelude.{◌≡◌, ◌≤◌, true, IfErr, IfOk, OnOk};
 ghost use Rattle.tb_journal.specs.Device.{OfHeld, IsOnDisk};
 ghost use Rattle.tb_journal.specs.Scans.{GoesFurther, IsAt, ScanCause};
@@ -16,7 +16,7 @@ use tb_journal::{Device, Extent, OpenFault, Scan};
 use tb_keep::Rules;
 use tb_log::Follower;
 
-/// Reads the next record, and answers whether there is one.
+/// Reads the next record, and returns whether there is one.
 pub(crate) fn read_record<D: Device>(scan: &mut Scan, device: &mut D) -> Result<bool, OpenFault>
     ensures reads { OfEachRead (D.holds device.old) scan.old (λ read file. IsNext result read file scan.new) }
     ensures same { OfHeld (D.holds device.old) (D.holds device.new) }
@@ -28,7 +28,7 @@ pub(crate) fn read_record<D: Device>(scan: &mut Scan, device: &mut D) -> Result<
     scan.next(device)
 }
 
-/// Reads the next record and enters its entry: false where there is none.
+/// Reads the next record and enters its entry: false if there is no record.
 fn enter_next<D: Device, A: Allocator + Clone>(
     global: Global,
     rules: &Rules,
@@ -52,7 +52,7 @@ fn enter_next<D: Device, A: Allocator + Clone>(
     }
 }
 
-/// Enters the entries of the records that are left, each before the next is read.
+/// Enters the entries of the remaining records, each before the next is read.
 fn enter_all<D: Device, A: Allocator + Clone>(
     global: Global,
     rules: &Rules,
@@ -74,7 +74,7 @@ fn enter_all<D: Device, A: Allocator + Clone>(
     }
 }
 
-/// The follower behind the entries of a file of which nothing was read, and where its records end.
+/// The follower after the entries of a file of which nothing was read, and where its records end.
 fn read_records<D: Device, A: Allocator + Clone>(
     global: Global,
     alloc: A,
@@ -100,19 +100,19 @@ fn read_records<D: Device, A: Allocator + Clone>(
     }
 }
 
-/// Reads the file of a kept log of these rules record by record, serves the pairs of each again, and compares what they leave behind with
-/// the position and the hashes of the record: the follower behind the last entry, and where the records end. What was read is durable;
-/// nothing is written. The first record that is damaged, or that is not that of the next entry, is reported.
+/// Reads the file of a kept log of these rules record by record, serves the pairs of each again, and compares the position and hashes that they
+/// give with those of the record. Returns the follower after the last entry, and where the records end. What was read is durable; nothing is
+/// written. The first record that is damaged, or is not that of the next entry, is reported.
 pub fn read_log<D: Device, A: Allocator + Clone>(
     global: Global,
     alloc: A,
     rules: &Rules,
     device: &mut D,
 ) -> Result<(Follower<A>, Extent), LogStartFault>
-    // Of any device, by the file that its reads are of.
+    // For any device, by the file that it reads.
     ensures found { OfHeld (D.holds device.old) (By rules.now (ReadsLog result)) }
     ensures few { IfOk result (λ found. found.1.count ≤ found.1.end) }
-    // Where no sync has failed before.
+    // If no sync has failed before.
     ensures kept { IfSound D.Device device.old (OnOk result (IsOnDisk (D.disk device.new))) }
     ensures sound { D.tells → OnOk result ((D.disk device.new).sound ≡ (D.disk device.old).sound) }
     ensures same { OfHeld (D.holds device.old) (D.holds device.new) }

@@ -55,7 +55,7 @@ StopsAfter start.NoMemory records S file = Unit {0}
 StopsAfter (start.TornTooLong at bytes) records S file = ⊥
 StopsAfter fault records S file = StopsBehind (Some fault) records S file
 
--- if a file has no rules nothing is copied of it
+-- if a file has no rules nothing is copied from it
 abbrev pub IsNotTaken : {T : Type 0} → Result T StartFault → List ℕ → Type 0
 IsNotTaken result file = IfErr result (λ fault. IsUnsalvaged (Old fault) file)
 

@@ -6,7 +6,7 @@ use Rattle.tb_keep.specs.private.Entering.{StaysKept}
 use Rattle.tb_keep_log.specs.private.CopySteps.{TakenOver}
 use Rattle.tb_keep_log.proofs.copying.take_all.Given as goal
 
--- the records so far were taken over, and no call on the old file's device has failed
+-- the records so far were copied, and no call on the old file's device has failed
 abbrev pub invariant-loop-fault : goal.invariant-loop-fault
 invariant-loop-fault g l = record {
   same : (file : List ℕ) → g.D.Device.holds l.fn.from file → g.D.Device.holds l.from file;

@@ -4,7 +4,7 @@ use Rattle.tb_keep.specs.private.Entering.{StaysKept}
 use Rattle.tb_keep_log.specs.private.BehindDamage.{TakenBehind}
 use Rattle.tb_keep_log.proofs.reading_on.look_through.Given as goal
 
--- the records so far were taken over
+-- the records so far were copied
 abbrev pub invariant-loop-on : goal.invariant-loop-on
 invariant-loop-on g l = record {
   same : (file : List ℕ) → g.D.Device.holds l.fn.from file → g.D.Device.holds l.from file;
