@@ -69,7 +69,7 @@ StartsFile (Ok keeper) profile clients_max file =
 StartsFile (Err failed) profile clients_max file =
     IsNotOfFile failed.fault ⊎ (StopsOpening failed.fault profile clients_max file × (is_blank file ≡ false))
 
--- the file is as it was, and was at each moment
+-- the file is unchanged, and was so at each moment
 pub record IsDiskUntouched (before after : Disk) : Type 0 where
   pub seen : after.seen ≡ before.seen
   pub any_moment : LeavesAsBefore before after

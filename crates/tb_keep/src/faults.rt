@@ -139,7 +139,7 @@ impl fmt::Display for StartFault {
 pub enum DumpFault {
     /// The file is no journal, or it is damaged, or a call on its device failed.
     Journal(OpenFault),
-    /// The writer failed, or took nothing.
+    /// The writer failed, or accepted no bytes.
     Writer(FrameFault),
 }
 

@@ -1,4 +1,4 @@
-//! A keeper: a machine, and the journal that its entries are in.
+//! A keeper: a machine, and the journal that holds its entries.
 ghost use Rattle.std.specs.Prelude.{◌≡◌, true};
 
 use std::alloc::{Allocator, Global};

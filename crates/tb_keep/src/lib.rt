@@ -3,7 +3,7 @@
 //! Modules, each over those before it:
 //!
 //! - `faults`: why a kept ledger does not go on.
-//! - `keepers`: `Keeper`, a machine, and the journal that its entries are in.
+//! - `keepers`: `Keeper`, a machine, and the journal that holds its entries.
 //! - `recovering`: record 0 of the journal, the rules of the ledger; a machine from the records after it, each entered before the next is read.
 //! - `creating`: `create`, `Keeper::open` and `Keeper::start`.
 //! - `replies`: replies held in memory until the entries that they depend on are durable.

@@ -157,8 +157,7 @@ fn take_all<D: Device, N: Device>(
     }
 }
 
-/// The fault, if every start refuses the file for it: the file is damaged or no journal, or a record is not that of the next entry. None for any
-/// other.
+/// The fault, if every start refuses the old file for it: it is damaged or no journal, or a record is not that of the next entry. None for any other.
 pub(crate) fn stop_of(fault: SalvageFault) -> Option<StartFault>
     ensures { result ≡ stop_of fault }
 {

@@ -30,7 +30,7 @@ OpenedGoesOn = (profile : Profile) (clients_max : ℕ) (records : List (List ℕ
 abbrev pub OneLog : Type 0
 OneLog = (profile : Profile) (clients_max : ℕ) (records : List (List ℕ)) (F G : Following) → IsKept profile clients_max records F → IsKept profile clients_max records G → F ≡ G
 
--- a record of an entry is no head of a ledger without positions, and the other way round
+-- no record of an entry is the head of a ledger without positions
 abbrev pub OtherFormat : Type 0
 OtherFormat = (profile other : Profile) (clients_max number : ℕ) (F : Following) (content : List ℕ) → record_bytes profile clients_max F content ≡ head_record other number → ⊥
 

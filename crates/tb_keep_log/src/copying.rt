@@ -184,7 +184,7 @@ fn take_all<D: Device, N: Device, A: Allocator + Clone>(
     }
 }
 
-/// The fault, if every start refuses the file for it. None for any other.
+/// The fault, if every start refuses the old file for it: it is damaged or no journal, or a record is not that of the next entry. None for any other.
 pub(crate) fn stop_of(fault: CopyLogFault) -> Option<LogStartFault>
     ensures { result ≡ log_stop_of fault }
 {

@@ -105,7 +105,7 @@ pub enum DumpLogFault {
     TimeExhausted,
     /// Out of memory.
     NoMemory,
-    /// The writer failed, or took nothing.
+    /// The writer failed, or accepted no bytes.
     Writer,
 }
 

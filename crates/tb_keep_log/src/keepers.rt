@@ -1,4 +1,4 @@
-//! A keeper: a follower, and the journal that its entries are in.
+//! A keeper: a follower, and the journal that holds its entries.
 ghost use Rattle.std.specs.Prelude.{◌≡◌, true, IfOk};
 ghost use Rattle.tb_log.specs.Steps.{follower_standing};
 

@@ -5,7 +5,7 @@
 //!
 //! - `faults`: why a kept log is not opened, and why it does not go on.
 //! - `marks`: the record of an entry: the rules, the position, both hashes, and the pairs.
-//! - `keepers`: `LogKeeper`, a follower, and the journal that its entries are in.
+//! - `keepers`: `LogKeeper`, a follower, and the journal that holds its entries.
 //! - `entries`: an entry served in memory; the entry of a record entered again, and compared with it.
 //! - `rereading`: `read_log`, a follower after all records of a file.
 //! - `beginning`: `LogKeeper::open` and `LogKeeper::start`.

@@ -41,7 +41,7 @@ HeadRead holds rules scan file = HoldsRead holds (head_of rules) scan file
 abbrev pub Unread : (List ℕ → Type 0) → ScanState → List ℕ → Type 0
 Unread holds scan file = HoldsRead holds [] scan file
 
--- the fault for which every start refuses a file
+-- the fault, if every start refuses the old file for it: it is damaged or no journal, or a record is not that of the next entry
 abbrev pub stop_of : SalvageFault → Option StartFault
 stop_of (Old (start.Journal (open_faults.Refused why))) = Some (start.Journal (open_faults.Refused why))
 stop_of (Old (start.Record place fault)) = Some (start.Record place fault)
