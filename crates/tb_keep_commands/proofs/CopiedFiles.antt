@@ -31,7 +31,7 @@ copy_is its holds len salvaged is =
       damage = refl;
     }
 
--- what was copied was printed, where that is not refused
+-- what was copied was printed, if that is not refused
 pub printed : {E : Type 0} (its : devices.Ghosts E) (asked : Option StartFault) (c copied : Copied) (outcome : FileOutcome) (from : E) (start written : Output) → None ≡ asked → c ≡ copied
     → PrintsText (copied_text c) outcome start written → EndsCopy its asked copied outcome (record { file = from; sink = start }) (record { file = from; sink = written })
 printed its asked c copied outcome from start written none same prints =

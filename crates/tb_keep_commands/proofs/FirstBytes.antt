@@ -12,7 +12,7 @@ first_bytes count n into file reads long =
 not_short : (n least : ℕ) → least ≤ n → nat_lt n least ≡ false
 not_short n least long = grind (arith, nat_tests)
 
--- behind so many others
+-- after so many others
 pub behind_is : (at : ℕ) (prefix bytes : List ℕ) (result : Bool) → at ≤ length bytes → result ≡ begins prefix (take (length bytes - at) (drop at bytes)) → result ≡ begins_at at prefix bytes
 behind_is at prefix bytes result long is =
     is ∙ ap (begins prefix) (take_all (length bytes - at) (drop at bytes) (omega (arith, length-drop at bytes)))

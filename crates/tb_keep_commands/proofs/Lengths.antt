@@ -7,7 +7,7 @@ use Rattle.tb_keep_commands.specs.ExitStatuses.{shown_words, usage_lines, wrong_
 use Rattle.tb_keep_commands.specs.Printable.{printable}
 
 module _ {X : Type 0} (bytes : X → List ℕ) where
-  -- a word and those behind it
+  -- an argument and those after it
   pub shown_front : (words : List X) (word d : X) → 1 ≤ length words → word ≡ get_or words 0 d
       → (32 ∷ printable (bytes word)) ++ shown_words (map bytes (take (length words - 1) (drop 1 words))) ≡ shown_words (map bytes words)
   shown_front [] word d some same = absurd (omega (arith, some))

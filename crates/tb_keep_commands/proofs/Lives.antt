@@ -41,7 +41,7 @@ pub stays : {D : Type 0} → (holds : D → List ℕ → Type 0) → (device : D
 stays holds device file held =
     record { later = file; since = later_same file; held = held; first = file; was = held; moment = file; grown = later_same file; all = refl }
 
--- it still holds that behind a call at which its file stays
+-- it still holds that after a call at which its file stays
 pub looked_still : {D T E : Type 0} (whole holds : D → List ℕ → Type 0) (before mid after : D) (file : List ℕ) (result : Result T E)
     → LooksAgain whole holds before mid file → ((shown : List ℕ) → holds mid shown → holds after shown) → OnOk result (LooksAgain whole holds before after file)
 looked_still whole holds before mid after file (Ok done) looked same = record {

@@ -22,7 +22,7 @@ use Rattle.tb_keep_commands.specs.declared.faults.Failed.TheVariants as failed
 use Rattle.tb_keep_commands.specs.ExitStatuses.{disk_fault, opened_fault, dumped_fault}
 use Rattle.tb_keep_commands.specs.Following.{HasPartCause, IsReadOnFrom, RoundCause}
 
--- behind calls of which none failed
+-- after calls of which none failed
 
 module _ (before mid after : Disk) (quiet : FailsNone before mid) (seen : mid.seen ≡ before.seen) where
   pub part_cause_then : (outcome : Result (Unit {0}) KeepCommandFault) → HasPartCause outcome mid after → HasPartCause outcome before after

@@ -16,7 +16,7 @@ both_printed (c ∷ cs) ds = append_assoc (encode_utf8 (printable_char c)) (prin
 pub printed_more : (cs : List ℕ) (c : ℕ) → printed cs ++ encode_utf8 (printable_char c) ≡ printed (cs ++ c ∷ [])
 printed_more cs c = ap (λ (l : List ℕ). printed cs ++ l) (sym (append-nil (encode_utf8 (printable_char c)))) ∙ both_printed cs (c ∷ [])
 
--- characters whose first ones are these, with this one behind them
+-- characters whose first ones are these, with this one after them
 parted : (cs all : List ℕ) (c : ℕ) → cs ≡ take (length cs) all → length cs < length all → c ≡ get_or all (length cs) c → cs ++ c ∷ drop (suc (length cs)) all ≡ all
 parted [] [] c same low at = absurd (omega (arith, low))
 parted [] (a ∷ all) c same low at = ap (λ (x : ℕ). x ∷ all) at
@@ -25,7 +25,7 @@ parted (x ∷ cs) (a ∷ all) c same low at =
     ap (λ (y : ℕ). y ∷ (cs ++ c ∷ drop (suc (length cs)) all)) (ap (λ (l : List ℕ). get_or l 0 x) same)
     ∙ ap (λ (l : List ℕ). a ∷ l) (parted cs all c (ap (λ (l : List ℕ). drop 1 l) same) (omega (arith, low)) at)
 
--- what is printed of them, with what is behind this one
+-- what is printed of them, with what is after this one
 pub printed_whole : (cs all : List ℕ) (c : ℕ) → cs ≡ take (length cs) all → length cs < length all → c ≡ get_or all (length cs) c
     → (printed cs ++ encode_utf8 (printable_char c)) ++ printed (drop (suc (length cs)) all) ≡ printed all
 printed_whole cs all c same low at =

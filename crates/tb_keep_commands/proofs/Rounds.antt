@@ -65,7 +65,7 @@ round_broken after read file scan (dump.Journal cause) fault old new is (refuses
     (more, begins, inl (record { why = cause; named = is; refuses = refuses; went = sent }))
 round_broken after read file scan (dump.Writer cause) fault old new is (device, (more, begins, cut)) = (more, begins, inr (is, cut))
 
--- one more round behind those that were written
+-- one more round after those that were written
 module _ {D : Type 0} (holds : D → List ℕ → Type 0) (after : ℕ) (file : List ℕ) (start : Output) where
   pub once_more : (records : List (List ℕ)) (now : List ℕ) (device : D) (scan : ScanState) (result : Result (Unit {0}) KeepCommandFault) (mid new : Output)
       → Later file now → holds device now → Sent (entries_above after [] records) start mid → SendsRound result after records now scan mid new
@@ -102,7 +102,7 @@ module _ {D : Type 0} (holds : D → List ℕ → Type 0) (after : ℕ) (file : 
       → EndsRounds (holds device) (Ok tt) true after file start mid
   reached device scan mid g = record { later = g.later; since = g.since; held = g.held; records = g.records; whole = g.whole; sent = g.sent }
 
--- the entries, behind what comes before them
+-- the entries, after what comes before them
 module _ (holds : List ℕ → Type 0) (follows : Bool) (after : Option ℕ) (rules : Rules) (file : List ℕ) (old mid new : Output) where
   pub part_sent : (result : Result (Unit {0}) KeepCommandFault) → Sent (start_of after rules) old mid → EndsRounds holds result follows (floor_of after) file mid new
       → WritesPart holds result follows after rules file old new

@@ -1,9 +1,9 @@
--- What is reported where bytes that a start cuts off were not copied.
+-- What is reported if bytes that a start cuts off were not copied.
 use Rattle.std.specs.Prelude.{ℕ, List, codes}
 use Rattle.tb_keep_commands.specs.declared.asides.Uncopied.{Uncopied}
 use Rattle.tb_keep_commands.specs.declared.asides.Uncopied.TheVariants.{Full, Forbidden, TooMany, Taken, Failed}
 
--- why, behind the path of the file, and what is to be done
+-- why, after the path of the file, and what to do about it
 abbrev pub uncopied_text : Uncopied → List ℕ
 uncopied_text Full = codes ": the disk is full; free space for a copy of its torn bytes, or start with --drop-torn"
 uncopied_text Forbidden = codes ": no permission to copy its torn bytes next to it; allow that, or start with --drop-torn"

@@ -1,4 +1,4 @@
--- Laws of what is written of a file that grows.
+-- Laws about what a dump writes of a file that grows.
 use Rattle.std.specs.Prelude.{ℕ, ◌≡◌, List, ◌++◌, Option, None}
 use Rattle.tb_journal.specs.Contents.{Records, contents}
 use Rattle.tb_journal.specs.Growing.{Later}
@@ -6,7 +6,7 @@ use Rattle.tb_keep.specs.declared.recovering.Rules.{Rules}
 use Rattle.tb_keep.specs.Reading.{dump_with}
 use Rattle.tb_keep_commands.specs.Following.{part_of}
 
--- a later file represents records of which the same part begins with these bytes
+-- a later file represents records, and the same part of these begins with these bytes
 pub record DumpGoesOn (after : Option ℕ) (rules : Rules) (written later : List ℕ) : Type 0 where
   pub records : List (List ℕ)
   pub reads : contents later ≡ Records records
@@ -18,6 +18,6 @@ abbrev pub PartsGoOn : Type 0
 PartsGoOn = (after : Option ℕ) (rules : Rules) (file later : List ℕ) (records : List (List ℕ)) → contents file ≡ Records records → Later file later
     → DumpGoesOn after rules (part_of after rules records) later
 
--- a dump is the part above no commit number
+-- a dump is the part for which no commit number is given
 abbrev pub DumpsAreParts : Type 0
 DumpsAreParts = (rules : Rules) (records : List (List ℕ)) → dump_with rules records ≡ part_of None rules records

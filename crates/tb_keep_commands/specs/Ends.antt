@@ -27,12 +27,12 @@ pub record KnownFiles (O D E : Type 0) : Type 1 where
 abbrev pub reading_of : {O D E : Type 0} → KnownFiles O D E → KnownReading E
 reading_of its = known_reading its.reading its.whole
 
--- what opens the device of a name that is served: where one that is there is asked for none is made
+-- how the device of a name that is served is opened: if it has to exist, none is made
 abbrev pub made_by : {O D E : Type 0} → KnownFiles O D E → Bool → O → List ℕ → Result D OpeningFault → O → Type 0
 made_by its true = its.opener.takes
 made_by its false = its.opener.makes
 
--- files, a reader, a writer that says whether nothing is held back, and a writer of lines
+-- files, a reader, a writer that says whether it holds nothing back, and a writer of lines
 pub record KnownEnds (O D E R W L : Type 0) : Type 1 where
   pub files : KnownFiles O D E
   pub source : sources.Ghosts R
@@ -40,7 +40,7 @@ pub record KnownEnds (O D E R W L : Type 0) : Type 1 where
   pub gone : W → Type 0
   pub lines : sinks.Ghosts L
 
--- of the streams between the ends of a command, before it and after it
+-- a relation of the streams between the ends of a command, before it and after it
 abbrev pub OnEnds : {O D E R W L : Type 0} → KnownEnds O D E R W L → (Streams → Streams → Type 0) → Change R → Change W → Change L → Type 0
 OnEnds its = OnStreams its.source its.sink its.lines
 
@@ -49,7 +49,7 @@ abbrev pub outcome_by : {T F G : Type 0} → (F → G) → Result T F → Result
 outcome_by name (Ok done) = Ok tt
 outcome_by name (Err fault) = Err (name fault)
 
--- of what a writer took, before a call and after it
+-- a relation of what a writer took, before a call and after it
 abbrev pub OnWriter : {W : Type 0} → sinks.Ghosts W → (Output → Output → Type 0) → Change W → Type 0
 OnWriter sink Does writer = Does (sink.output (old writer)) (sink.output (new writer))
 
@@ -58,7 +58,7 @@ pub record FileOutput (D : Type 0) : Type 0 where
   pub file : D
   pub sink : Output
 
--- of both, before a call and after it
+-- a relation of both, before a call and after it
 abbrev pub OnDevice : {D W : Type 0} → sinks.Ghosts W → (FileOutput D → FileOutput D → Type 0) → Change D → Change W → Type 0
 OnDevice sink Does device writer =
     Does (record { file = old device; sink = sink.output (old writer) }) (record { file = new device; sink = sink.output (new writer) })

@@ -60,7 +60,7 @@ use Rattle.tb_keep_commands.specs.declared.reports.Reported.{Reported}
 use Rattle.tb_keep_commands.specs.declared.lines.WrongEntry.{WrongEntry}
 use Rattle.tb_keep_commands.specs.Printable.{printable}
 
--- what the faults of the system and of the libraries are here
+-- the fault of a command for each fault of the system and of the libraries
 
 abbrev pub opening_fault_of : ErrorKind → OpeningFault
 opening_fault_of kinds.NotFound = opening.Missing
@@ -72,12 +72,12 @@ opening_fault_of kinds.IsADirectory = opening.NotAFile
 opening_fault_of kinds.OutOfMemory = opening.NoMemory
 opening_fault_of kind = opening.Unopened
 
--- a sync fails since memory ran out, or what was written may be lost
+-- a sync fails because memory ran out, or what was written may be lost
 abbrev pub sync_fault : JournalFault → OpeningFault
 sync_fault disk.Memory = opening.NoMemory
 sync_fault fault = opening.SyncFailed
 
--- a file was opened, but its length or its first bytes are not read
+-- a file was opened, but its length or its first bytes could not be read
 abbrev pub unread_fault : JournalFault → OpeningFault
 unread_fault disk.Memory = opening.NoMemory
 unread_fault fault = opening.Unread
@@ -94,7 +94,7 @@ abbrev pub words_fault_of : ErrorKind → KeepCommandFault
 words_fault_of kinds.OutOfMemory = NoMemory
 words_fault_of kind = Usage
 
--- a word of the command line is not UTF-8, or there is no memory for one
+-- an argument is not UTF-8, or there is no memory for one
 abbrev pub words_fault : Error → KeepCommandFault
 words_fault error = words_fault_of (error_kind error)
 
@@ -127,7 +127,7 @@ abbrev pub dumped_fault : DumpFault → KeepCommandFault
 dumped_fault (dump.Journal fault) = opened_fault fault
 dumped_fault (dump.Writer fault) = Device OutputSide
 
--- a fault of the file, where that is the new one
+-- a fault of the file, if that is the new one
 abbrev pub new_fault : KeepCommandFault → KeepCommandFault
 new_fault (Device File) = Device New
 new_fault (NotAJournal kind) = Making opening.Exists
@@ -146,7 +146,7 @@ fault_path (Making fault) file new = new
 fault_path (Device New) file new = new
 fault_path fault file new = file
 
--- where a pipe failed, this one
+-- if a pipe failed, it is this one
 abbrev pub read_fault : Failed → RunFault → KeepCommandFault
 read_fault pipe (run.Frame frame.Device) = Device pipe
 read_fault pipe (run.Frame frame.NoMemory) = NoMemory
@@ -157,7 +157,7 @@ abbrev pub kept_fault : Failed → KeepFault → KeepCommandFault
 kept_fault pipe (keep.Serving fault) = read_fault pipe fault
 kept_fault pipe (keep.Journal fault) = disk_fault fault
 
--- of a reader whose count of errors was this before and is this now, and of a writer behind it
+-- which pipe failed, by the reader's count of errors before and now: standard input if it changed, otherwise standard output
 abbrev pub failed_pipe : ℕ → ℕ → Failed
 failed_pipe before now = if before == now then OutputSide else Input
 
@@ -165,7 +165,7 @@ failed_pipe before now = if before == now then OutputSide else Input
 abbrev pub numbers_of : Rules → Numbers
 numbers_of rules = record { clients_max = rules.clients_max; profile = profile_number rules.profile }
 
--- of a file that is not opened or made
+-- the exit status if a file is not opened or made
 abbrev pub opening_exit_status : OpeningFault → ℕ
 opening_exit_status opening.Locked = 4
 opening_exit_status opening.SyncFailed = 9
@@ -174,7 +174,7 @@ opening_exit_status opening.Empty = 5
 opening_exit_status opening.Full = 8
 opening_exit_status fault = 1
 
--- 1 a device or memory failed, 2 the arguments are wrong or a request is none, and from 4 on why the file is not served
+-- 1: a device or memory failed. 2: the arguments are wrong, or what was read is no request. From 4 on: why the file is not served
 abbrev pub file_exit_status : KeepCommandFault → ℕ
 file_exit_status (Device which) = 1
 file_exit_status NoMemory = 1
@@ -191,7 +191,7 @@ file_exit_status SyncFailed = 9
 file_exit_status Gone = 10
 file_exit_status (NotCopied why) = 11
 
--- a number behind a text
+-- a number after a text
 abbrev pub numbered : List ℕ → ℕ → List ℕ
 numbered text number = text ++ decimal number
 
@@ -203,7 +203,7 @@ counted_text number text = decimal number ++ text
 abbrev pub named : List ℕ → List ℕ → List ℕ → List ℕ
 named first path last = first ++ (printable path ++ last)
 
--- a text to the end of its line
+-- a text and the end of its line
 abbrev pub line_of : List ℕ → List ℕ
 line_of text = text ++ codes "\n"
 
@@ -217,39 +217,39 @@ damage_text (Record place fault) = codes "record " ++ decimal place ++ (codes ":
 damage_text (Entry fault) = codes "record " ++ decimal fault.place ++ (codes ": " ++ unfit_name fault.cause)
 damage_text (Torn at bytes) = (decimal bytes ++ codes " bytes behind byte ") ++ (decimal at ++ codes ", more than one batch can have")
 
--- of which entry a block is that is not what was written: record 0 is the head
+-- that a block is not what was written, and which entry it is of: record 0 is the head
 abbrev pub unread_text : Option ℕ → List ℕ
 unread_text None = codes " is not what was written"
 unread_text (Some n) =
     if n == 0 then codes " (the head) is not what was written"
     else codes " (entry " ++ counted_text n (codes ") is not what was written")
 
--- the same in a line of its own, of a file with this path: entry N is the record N behind the head
+-- the same in the words of a line: entry N is record N after the head
 abbrev pub harm_text : Damage → List ℕ
 harm_text (Block at entry) = numbered (codes "the block at byte ") at ++ unread_text entry
 harm_text (Record place fault) = numbered (codes "entry ") place ++ (codes " is none: " ++ fault_name fault)
 harm_text (Entry fault) = numbered (codes "entry ") fault.place ++ (codes " may not come next: " ++ unfit_name fault.cause)
 harm_text (Torn at bytes) = counted_text bytes (codes " bytes are behind byte ") ++ counted_text at (codes ", more than one batch can have")
 
--- a text, what is damaged in the file of this path, and what is to be done
+-- a text, what is damaged in the file of this path, and what to do about it
 abbrev pub damaged_text : List ℕ → Damage → List ℕ → List ℕ → List ℕ
 damaged_text first damage path next = named first path (codes ": ") ++ (harm_text damage ++ next)
 
 abbrev pub damage_line : Damage → List ℕ → List ℕ → List ℕ
 damage_line damage path next = line_of (damaged_text (codes "tbd: Damaged: ") damage path next)
 
--- it is known that the head is damaged, without which no file is read
+-- the head is known to be damaged: without it no file is read
 abbrev pub is_of_head : Damage → Bool
 is_of_head (Block at (Some n)) = n == 0
 is_of_head damage = false
 
--- what is to be done about damage of a ledger's file
+-- what to do about damage of a ledger's file
 abbrev pub next_of : Damage → List ℕ
 next_of damage =
     if is_of_head damage then codes "; restore a backup: tbd salvage needs the head"
     else codes "; tbd salvage makes a new file of the entries before it"
 
--- what is wrong with an entry in the file of this path, and what is to be done
+-- what is wrong with an entry in the file of this path, and what to do about it
 abbrev pub wrong_text : WrongEntry → List ℕ → List ℕ → List ℕ
 wrong_text wrong path next =
     named (codes "tbd: Damaged: ") path wrong.before.now ++ (counted_text wrong.number wrong.after.now ++ (wrong.name.now ++ next))
@@ -260,7 +260,7 @@ sync_text path = named (codes "SyncFailed: ") path (codes ": restart the machine
 abbrev pub full_text : List ℕ → List ℕ
 full_text path = named (codes "Full: ") path (codes ": the disk is full, or the file has its greatest length; free space, and start again")
 
--- why a file was not opened; where the words may be wrong they are reported
+-- why a file was not opened, and what to do about it
 abbrev pub opening_text : OpeningFault → List ℕ → List ℕ
 opening_text opening.Locked path = named (codes "Locked: ") path (codes " is open in another program; end that one first")
 opening_text opening.Missing path = named (codes "Device: cannot find ") path (codes "; look at its name and at its folder")
@@ -277,7 +277,7 @@ opening_text opening.Unread path = named (codes "Device: ") path (codes ": a rea
 opening_text opening.Full path = full_text path
 opening_text opening.Empty path = codes "NotAJournal: " ++ (printable path ++ codes " is empty; without --existing tbd run makes a ledger in it, and tbd follow a log")
 
--- why a new file was not made, or not to its end: then it has a prefix of what was to be in it
+-- why a new file was not made, or not to its end: it then has a prefix of what was to be in it
 abbrev pub making_text : OpeningFault → List ℕ → List ℕ
 making_text opening.SyncFailed path = named (codes "SyncFailed: ") path (codes ": it may be lost; remove it, look at the disk, and start again")
 making_text opening.Unread path = named (codes "Device: ") path (codes ": a read or write failed; remove it, look at the disk, and start again")
@@ -291,7 +291,7 @@ failed_text OutputSide path = codes "Device: standard output"
 failed_text File path = named (codes "Device: ") path (codes ": a read or write failed; look at the disk, and start again")
 failed_text New path = named (codes "Device: ") path (codes ": a read or write failed; remove it, look at the disk, and start again")
 
--- a file that is no ledger, and what it is; nothing more where it was not looked at
+-- a file that is no ledger, and what it is; only the fault's name if it was not looked at
 abbrev pub kind_text : Kind → List ℕ → List ℕ
 kind_text kind.Unread path = codes "NotAJournal"
 kind_text kind.Empty path = codes "NotAJournal: " ++ (printable path ++ codes " is empty; tbd run makes a ledger in it")
@@ -318,7 +318,7 @@ abbrev pub mismatch_text : Option Mismatch → List ℕ → List ℕ
 mismatch_text None path = named (codes "OtherRules: ") path (codes " was made with others; tbd check shows them")
 mismatch_text (Some both) path = (codes "OtherRules: " ++ (printable path ++ codes " was made with ")) ++ both_text both (codes ", not with ")
 
--- the fault's name, and words behind it where there is more to say, of a file with this path
+-- the fault's name, and after it what more there is to say, over a file of this path
 abbrev pub fault_text : KeepCommandFault → List ℕ → List ℕ
 fault_text Usage path = codes "Usage: a word is not UTF-8"
 fault_text (Device which) path = failed_text which path
@@ -335,58 +335,58 @@ fault_text SyncFailed path = sync_text path
 fault_text Gone path = codes "Gone: " ++ (printable path ++ codes " is not the file that was opened, or another program cut it; put that file back before the next start")
 fault_text (NotCopied why) path = named (codes "NotCopied: ") path (uncopied_text why)
 
--- a line went out, and is not held back; or a prefix of it did, where the writer failed or took nothing
+-- a line was sent, and is not held back; or a prefix of it was, because the writer failed or took nothing
 abbrev pub SaysLine : List ℕ → Output → Output → Type 0
 SaysLine line before after = (Sent line before after × (after.held ≡ false)) ⊎ CutOff line before after
 
--- of a writer of lines, before and after a call
+-- the same of a writer of lines, before a call and after it
 abbrev pub Says : {E : Type 0} → sinks.Ghosts E → List ℕ → E → E → Type 0
 Says lines line before after = SaysLine line (lines.output before) (lines.output after)
 
 abbrev pub file_fault_line : KeepCommandFault → List ℕ → List ℕ
 file_fault_line fault path = codes "tbd: " ++ (fault_text fault path ++ codes "\n")
 
--- what a start says that made a file of this path
+-- the line of a start that made a file of this path
 abbrev pub made_line : List ℕ → List ℕ
 made_line path = codes "tbd: made " ++ (printable path ++ codes "\n")
 
--- a line is reported, or none is
+-- a line is reported, or nothing is
 abbrev pub PrintsWhere : Bool → List ℕ → Output → Output → Type 0
 PrintsWhere false line before after = after ≡ before
 PrintsWhere true line before after = SaysLine line before after
 
--- of a file of so many bytes: it was made where it had none, and else nothing is reported
+-- a file that had no bytes is reported as made; for any other, nothing is reported
 abbrev pub PrintsMade : ℕ → List ℕ → Output → Output → Type 0
 PrintsMade len path before after = PrintsWhere (nat_eq len 0) (made_line path) before after
 
--- what a start says that cut bytes off: how many, and where the records end that stay
+-- the line of a start that cut bytes off: how many, and where the records that stay end
 abbrev pub cut_line : ℕ → ℕ → List ℕ
 cut_line bytes at = numbered (codes "tbd: cut ") bytes ++ line_of (numbered (codes " bytes of a batch that was not committed, behind byte ") at)
 
--- how far the file of this path was read, in millions of bytes
+-- how far a file was read, in millions of bytes
 abbrev pub read_text : ℕ → ℕ → List ℕ
 read_text read all = (decimal read ++ codes " of ") ++ (decimal all ++ codes " MB")
 
 abbrev pub reading_line : List ℕ → ℕ → ℕ → List ℕ
 reading_line path read all = (codes "tbd: reading " ++ (printable path ++ codes ", ")) ++ (read_text read all ++ codes "\n")
 
--- of a start that is reported: that it begins to read a file of a million bytes or more
+-- a start that is reported says that it begins to read a file, if that has a million bytes or more
 abbrev pub PrintsReading : Bool → List ℕ → ℕ → Output → Output → Type 0
 PrintsReading reports path bytes before after = PrintsWhere (reports && nat_le 1000000 bytes) (reading_line path 0 (bytes / 1000000)) before after
 
--- where an answer is no fault this holds of it, and of whatever file a device held
+-- if a result is no fault, this holds of it and of any file that a device held
 abbrev pub IfHeld : {D X F : Type 0} → (D → List ℕ → Type 0) → D → Result X F → (X → List ℕ → Type 0) → Type 0
 IfHeld holds device answer Is = (file : List ℕ) → holds device file → IfOk answer (λ x. Is x file)
 
--- a device was made of another that was looked at, and reports the same of what its calls do
+-- a device was made of another that was looked at, and reports the same about its calls
 abbrev pub IsMadeLooking : {D X F : Type 0} → devices.Ghosts D → devices.Ghosts X → D → Result X F → Type 0
 IsMadeLooking its made device answer = its.tells → IfOk answer (λ x. IsLookedAt (its.disk device) (made.disk x))
 
--- from which offset on it is first reported how far a file was read: of no file where that is not wanted
+-- the offset from which on it is first reported how far a file was read: the greatest one if no reports are wanted
 abbrev pub first_due : Bool → ℕ
 first_due reports = if reports then 64000000 else 2 ^ 64 - 1
 
--- a read at an offset was reported where that was due, and the next report is due 64 MB behind it
+-- a read at an offset was reported if that was due, and the next report is then due 64 MB after it
 abbrev pub ReportsProgress : {D E : Type 0} → sinks.Ghosts E → ℕ → Reported D E → Reported D E → Type 0
 ReportsProgress lines at before after =
     (after.path ≡ before.path) × (after.len ≡ before.len)
@@ -394,49 +394,49 @@ ReportsProgress lines at before after =
     × PrintsWhere (nat_le before.due at) (reading_line (string_bytes before.path) (at / 1000000) (before.len / 1000000))
     (lines.output before.lines) (lines.output after.lines)
 
--- of a start that is reported: that requests are served from here on, and the last commit and its time; both are 0 before the first one
+-- the line of a start that is reported: requests are served from here on; the last commit and its time, both 0 before the first one
 abbrev pub ready_line : ℕ → ℕ → List ℕ
 ready_line commit time = numbered (codes "tbd: ready: commit ") commit ++ line_of (numbered (codes ", time ") time)
 
 abbrev pub PrintsReady : Bool → ℕ → ℕ → Output → Output → Type 0
 PrintsReady reports commit time before after = PrintsWhere reports (ready_line commit time) before after
 
--- of requests that would come from a terminal: where words are read
+-- the line if requests would come from a terminal: which programs read words
 abbrev pub frames_line : List ℕ
 frames_line = codes "tbd: standard input is a terminal, and run reads request frames there; telovamish repl and telovamish script take words\n"
 
 abbrev pub PrintsFrames : Bool → Output → Output → Type 0
 PrintsFrames talks before after = PrintsWhere talks frames_line before after
 
--- nothing where nothing was cut off
+-- nothing is reported if nothing was cut off
 abbrev pub PrintsCut : ℕ → ℕ → Output → Output → Type 0
 PrintsCut zero at before after = after ≡ before
 PrintsCut (suc more) at before after = SaysLine (cut_line (suc more) at) before after
 
--- what was sent is passed on, where all was
+-- what was sent is passed on, if all of it was sent
 abbrev pub PassesOn : Result (Unit {0}) FrameFault → Output → Output → Type 0
 PassesOn (Ok done) before after = Sent [] before after × (after.held ≡ false)
 PassesOn (Err fault) before after = after ≡ before
 
--- words as they are shown, a space before each
+-- arguments as they are shown, a space before each
 abbrev pub shown_words : List (List ℕ) → List ℕ
 shown_words words = flat_map (λ word. 32 ∷ printable word) words
 
--- words that are no form: those that are wrong, and what is wrong with them
+-- arguments that are no form: those that are wrong, and what is wrong with them
 abbrev pub said_text : List (List ℕ) → List ℕ → List ℕ
 said_text shown what = shown_words shown ++ (codes ": " ++ (what ++ codes "\n"))
 
 abbrev pub wrong_line : Wrong → List (List ℕ) → List ℕ
 wrong_line wrong words = codes "tbd: Usage:" ++ said_text (take wrong.shown words) (cli.word_fault_text wrong.fault)
 
--- the page of usage where there are no words
+-- the page of usage if there are no arguments
 abbrev pub usage_lines : Wrong → List (List ℕ) → List ℕ
 usage_lines wrong [] = USAGE.now
 usage_lines wrong (word ∷ rest) = wrong_line wrong (word ∷ rest)
 
--- what private functions alone cite
+-- cited only by private functions
 
--- words, and behind a text what is wrong with them
+-- arguments, a text, and after it what is wrong with the arguments
 abbrev pub said_with : List (List ℕ) → List ℕ → List ℕ → List ℕ
 said_with shown between what = shown_words shown ++ (between ++ line_of what)
 
@@ -444,7 +444,7 @@ said_with shown between what = shown_words shown ++ (between ++ line_of what)
 abbrev pub rules_text : List ℕ → List ℕ → List ℕ → Mismatch → List ℕ → List ℕ
 rules_text first path last both between = named first path last ++ both_text both between
 
--- how much of how much was read, to the end of its line
+-- how much of how much was read, and the end of the line
 abbrev pub read_line : ℕ → ℕ → List ℕ
 read_line read all = line_of (read_text read all)
 

@@ -18,12 +18,12 @@ use Rattle.tb_keep_commands.specs.declared.faults.Failed.TheVariants as failed
 use Rattle.tb_keep_commands.specs.Ends.{outcome_by}
 use Rattle.tb_keep_commands.specs.ExitStatuses.{opened_fault, dumped_fault}
 
--- above which commit number entries are written: all where none is given
+-- the commit number above which entries are written: 0, so that all are, if none is given
 abbrev pub floor_of : Option ℕ → ℕ
 floor_of None = 0
 floor_of (Some after) = after
 
--- a dump's head where all entries are written, and nothing before later ones
+-- a dump's head if all entries are written; no head if only later ones are
 abbrev pub start_of : Option ℕ → Rules → List ℕ
 start_of None rules = head_bytes rules.profile rules.clients_max
 start_of (Some after) rules = []
@@ -32,25 +32,25 @@ start_of (Some after) rules = []
 abbrev pub part_of : Option ℕ → Rules → List (List ℕ) → List ℕ
 part_of after rules records = start_of after rules ++ entries_above (floor_of after) [] records
 
--- the file itself, or, where more is waited for, a later one
+-- the file itself, or a later one if more is waited for
 abbrev pub GrowsTo : Bool → List ℕ → List ℕ → Type 0
 GrowsTo false file later = later ≡ file
 GrowsTo true file later = Later file later
 
--- the file was not read on for the reason that the fault names, and before that this went out
+-- reading the file stopped for the reason that the fault names, and before that this was sent
 pub record StopsWriting (fault : KeepCommandFault) (file : List ℕ) (Went : Type 0) : Type 0 where
   pub why : OpenFault
   pub named : fault ≡ opened_fault why
   pub refuses : RefusesFile why file
   pub went : Went
 
--- the file was not read on, and these bytes went out; or standard output failed, and a prefix of them did
+-- reading the file stopped, and these bytes were sent; or standard output failed, and a prefix of them was sent
 abbrev pub EndsWriting : KeepCommandFault → List ℕ → List ℕ → Output → Output → Type 0
 EndsWriting fault file bytes start written =
     StopsWriting fault file (Sent bytes start written) ⊎ ((fault ≡ Device failed.Output) × CutOff bytes start written)
 
--- all of a file was read, the file itself or, where more was waited for, what it had become: it is the one that the device holds at the
--- end. The part of its records went out
+-- all of a file was read, and the part of its records was sent: of the file itself, or of what it had become if more was waited for. It is the
+-- one that the device holds at the end
 pub record WritesRead (holds : List ℕ → Type 0) (follows : Bool) (after : Option ℕ) (rules : Rules) (file : List ℕ) (start written : Output) : Type 0 where
   pub later : List ℕ
   pub since : GrowsTo follows file later
@@ -59,7 +59,7 @@ pub record WritesRead (holds : List ℕ → Type 0) (follows : Bool) (after : Op
   pub whole : contents later ≡ Records records
   pub sent : Sent (part_of after rules records) start written
 
--- or, at a fault, that of the records that were read until then
+-- or, at a fault, the part of the records that were read until then, or a prefix of it
 pub record WritesSome (fault : KeepCommandFault) (follows : Bool) (after : Option ℕ) (rules : Rules) (file : List ℕ) (start written : Output) : Type 0 where
   pub later : List ℕ
   pub since : GrowsTo follows file later
@@ -72,15 +72,15 @@ WritesPart holds (Ok done) follows after rules file start written = WritesRead h
 WritesPart holds (Err fault) follows after rules file start written =
     StopsWriting fault file (written ≡ start) ⊎ WritesSome fault follows after rules file start written
 
--- the cause of an outcome, over a device that reports what its calls do: that of a dump
+-- the cause of an outcome, over a device that reports what its calls do: the same as of a dump
 pub record HasPartCause (outcome : Result (Unit {0}) KeepCommandFault) (before after : Disk) : Type 0 where
   pub result : Result (Unit {0}) DumpFault
   pub outcome_is : outcome ≡ outcome_by dumped_fault result
   pub cause : HasDumpCause result before after
 
--- what private functions alone cite
+-- cited only by private functions
 
--- no call on a device failed, and its file is read on from there
+-- no call on a device failed, and reading its file goes on from this place
 pub record IsReadOnFrom (before after : Disk) (scan : ScanState) : Type 0 where
   pub quiet : FailsNone before after
   pub seen : after.seen ≡ before.seen
@@ -91,7 +91,7 @@ abbrev pub RoundCause : Result (Unit {0}) KeepCommandFault → Disk → Disk →
 RoundCause (Ok done) before after scan = IsReadOnFrom before after scan
 RoundCause (Err fault) before after scan = HasPartCause (Err fault) before after
 
--- the entries behind the records that were read were read and written, to the end of the file; or some of them
+-- the entries after the records that were read before were read and written, to the end of the file; at a fault, some of them
 abbrev pub SendsRound : Result (Unit {0}) KeepCommandFault → ℕ → List (List ℕ) → List ℕ → ScanState → Output → Output → Type 0
 SendsRound (Ok done) after read file scan start written =
     (more : List (List ℕ)) × (contents file ≡ Records (read ++ more)) × HasRead (read ++ more) file scan
@@ -99,7 +99,7 @@ SendsRound (Ok done) after read file scan start written =
 SendsRound (Err fault) after read file scan start written =
     (more : List (List ℕ)) × BeginsWith (read ++ more) file × EndsWriting fault file (entries_above after read more) start written
 
--- a file that has grown meanwhile was read to its end, and of its entries those were written
+-- a file that has grown meanwhile was read to its end, and its entries above the commit number were written
 pub record WritesGrown (holds : List ℕ → Type 0) (after : ℕ) (file : List ℕ) (scan : ScanState) (start written : Output) : Type 0 where
   pub later : List ℕ
   pub since : Later file later
@@ -109,7 +109,7 @@ pub record WritesGrown (holds : List ℕ → Type 0) (after : ℕ) (file : List 
   pub place : HasRead records later scan
   pub sent : Sent (entries_above after [] records) start written
 
--- a fault ends the writing of the entries of a file that grows: of records that it begins with
+-- a fault ended the writing of the entries of a file that grows; the later file begins with the records of these entries
 pub record Breaks (fault : KeepCommandFault) (follows : Bool) (after : ℕ) (file : List ℕ) (start written : Output) : Type 0 where
   pub later : List ℕ
   pub since : GrowsTo follows file later
@@ -122,7 +122,7 @@ abbrev pub GrowsBy : (List ℕ → Type 0) → Result (Unit {0}) KeepCommandFaul
 GrowsBy holds (Ok done) after file scan start written = WritesGrown holds after file scan start written
 GrowsBy holds (Err fault) after file scan start written = Breaks fault true after file start written
 
--- all rounds: nobody waits for more, or a fault
+-- the outcome of all rounds: nobody waits for more, or a fault ended them
 pub record Reaches (holds : List ℕ → Type 0) (follows : Bool) (after : ℕ) (file : List ℕ) (start written : Output) : Type 0 where
   pub later : List ℕ
   pub since : GrowsTo follows file later

@@ -1,4 +1,4 @@
--- What the words of the command line ask for.
+-- What the arguments of the command line ask for.
 use Rattle.std.specs.Prelude.{ℕ, true, false, ◌≡◌, List, [], ◌∷◌, Option, Some, None, Result, Ok, Err, codes, refl}
 use Rattle.tb_cli.specs.Words.{asked_of, given_word}
 use Rattle.tb_cli.specs.declared.faults.Fault.TheVariants as fault
@@ -17,7 +17,7 @@ use Rattle.tb_keep_commands.specs.declared.arguments.Form.TheVariants as form
 use Rattle.tb_keep_commands.specs.declared.arguments.Options.{Options}
 use Rattle.tb_keep_commands.specs.declared.arguments.TheConstants.{FORMS}
 
--- what words ask for by the table of tb_cli
+-- what arguments ask for by the table of tb_cli
 unfoldable pub asked_in : List (List ℕ) → Result Asked Wrong
 asked_in words = asked_of FORMS.now words
 
@@ -48,7 +48,7 @@ form_by name.Memory given = memory_by given.clients_max given.profile
 form_by name.Help given = Some (form.Help name.Help)
 form_by name.Version given = Some form.Version
 
--- words that are no form are wrong from the first one on
+-- arguments that are no form: the first one is shown as wrong
 abbrev pub form_or_fault : Option Form → Result Form Wrong
 form_or_fault (Some form) = Ok form
 form_or_fault None = Err (record { shown = 1; fault = fault.NoForm })
@@ -66,7 +66,7 @@ file_asked words (Ok (asked.Form of given)) = given_word words given.file
 file_asked words (Ok (asked.Help of)) = []
 file_asked words (Err wrong) = []
 
--- the word that names the file
+-- the argument that names the file
 abbrev pub file_word : List (List ℕ) → List ℕ
 file_word words = file_asked words (asked_in words)
 
@@ -75,16 +75,16 @@ new_asked words (Ok (asked.Form of given)) = given_word words given.new
 new_asked words (Ok (asked.Help of)) = []
 new_asked words (Err wrong) = []
 
--- the word that names the new file
+-- the argument that names the new file
 abbrev pub new_word : List (List ℕ) → List ℕ
 new_word words = new_asked words (asked_in words)
 
--- what was read: a command of a form, with the words that name its files; or what is wrong
+-- what was read: a command of a form, with the arguments that name its files; or what is wrong
 abbrev pub ReadsForm : Result Command Wrong → Result Form Wrong → List ℕ → List ℕ → Type 0
 ReadsForm (Ok command) form file new = (form ≡ Ok command.form) × (command.file.now ≡ file) × (command.new.now ≡ new)
 ReadsForm (Err wrong) form file new = form ≡ Err wrong
 
--- a command was read of words, or which of them is wrong, and how
+-- a command was read from arguments, or which of them is wrong, and how
 abbrev pub IsRead : Result Command Wrong → List (List ℕ) → Type 0
 IsRead read words = ReadsForm read (command_form words) (file_word words) (new_word words)
 

@@ -17,26 +17,26 @@ module _ {D : Type 0} (whole holds : D → List ℕ → Type 0) where
     pub grown : Later first moment
     pub all : contents later ≡ contents moment
 
-  -- or it failed, and holds what it held
+  -- or it failed, and still holds what it held
   abbrev pub RefreshesFile : D → D → List ℕ → Result (Unit {0}) JournalFault → Type 0
   RefreshesFile before after file (Ok done) = LooksAgain before after file
   RefreshesFile before after file (Err fault) = holds after file
 
-  -- of whatever file it held
+  -- the same for any file that it held
   abbrev pub RefreshesHeld : Result (Unit {0}) JournalFault → D → D → Type 0
   RefreshesHeld result before after = (file : List ℕ) → holds before file → RefreshesFile before after file result
 
--- so many bytes had the whole file at some moment of a call
+-- the whole file had this many bytes at some moment of a call
 abbrev pub MeasuresWhole : {D : Type 0} → (D → List ℕ → Type 0) → Result ℕ JournalFault → D → D → Type 0
 MeasuresWhole whole len before after = (file : List ℕ) → whole before file → Grown (whole after) file (λ later. IfOk len (λ n. n ≡ length later))
 
--- a whole file, by what the part of it represents that a device holds: it extends these records, or is refused as the part is
+-- a whole file, by what the part of it that a device holds represents: it extends these records, or is refused as the part is
 abbrev pub WholeOf : Contents → List ℕ → List ℕ → Type 0
 WholeOf (Records records) file whole = Extends records file whole
 WholeOf (Damaged at) file whole = contents whole ≡ Damaged at
 WholeOf NotAJournal file whole = contents whole ≡ NotAJournal
 
--- so many bytes has a whole file of which a device holds this one
+-- a whole file of which a device holds this part has this many bytes
 pub record IsWholeLength (file : List ℕ) (len : ℕ) : Type 0 where
   pub whole : List ℕ
   pub goes_on : WholeOf (contents file) file whole

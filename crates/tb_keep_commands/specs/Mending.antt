@@ -6,17 +6,17 @@ use Rattle.tb_journal.specs.Real.{untold}
 use Rattle.tb_keep_commands.specs.declared.mending.Mended.{Mended}
 use Rattle.tb_keep_commands.specs.Ends.{KnownReading, known_reading}
 
--- bytes over the first ones of others, as far as these go
+-- bytes written over the first ones of others, as far as these go
 abbrev pub overlaid : List ℕ → List ℕ → List ℕ
 overlaid [] bytes = bytes
 overlaid (x ∷ xs) [] = []
 overlaid (x ∷ xs) (y ∷ ys) = x ∷ overlaid xs ys
 
--- a file with the first bytes of a journal over its own
+-- a file with its first bytes replaced by those of a journal
 abbrev pub mended : List ℕ → List ℕ
 mended file = overlaid magic file
 
--- that is of which the reads are
+-- the file whose bytes reads return: the one that the device holds, mended
 abbrev pub IsMended : (List ℕ → Type 0) → List ℕ → Type 0
 IsMended holds file = (own : List ℕ) × holds own × (file ≡ mended own)
 
@@ -29,7 +29,7 @@ mended_device its = record {
   aside = λ at bytes. Unit {0};
 }
 
--- all that is in such a file is what its reads are of
+-- such a file as one that is read: all that is in it is what reads return
 abbrev pub mended_reading : {D : Type 0} → devices.Ghosts D → KnownReading (Mended D)
 mended_reading its = known_reading (mended_device its) (mended_device its).holds
 

@@ -24,30 +24,30 @@ use Rattle.tb_keep_commands.specs.declared.kinds.Kind.TheVariants.{NoRecord, Beg
 use Rattle.tb_keep_commands.specs.Kinds.{kind_by}
 use Rattle.tb_keep_commands.specs.ExitStatuses.{is_of_head, numbers_of, started_fault}
 
--- rules that were read next to those that were asked for
+-- the rules that were read, and those that were asked for; None if they were not read
 abbrev pub mismatch : Result Rules StartFault → Rules → Option Mismatch
 mismatch (Ok made) asked = Some (record { made = numbers_of made; asked = numbers_of asked })
 mismatch (Err fault) asked = None
 
--- a file begins with records that end there and are so many; behind them are none, or a block that is not what was written
+-- a file begins with this many records, which end there; after them there is no record, or a block that is not what was written
 abbrev pub IsReadable : Result Extent OpenFault → List ℕ → Type 0
 IsReadable (Ok extent) file =
     (records : List (List ℕ)) × BeginsWith records file × (extent.end ≡ records_end records) × (extent.count ≡ length records)
     × ((contents file ≡ damaged extent.end) ⊎ (contents file ≡ Records records))
 IsReadable (Err fault) file = RefusesFile fault file
 
--- the number of the record at an offset, where a file is readable up to there
+-- the number of the record at an offset, if a file is readable up to there
 abbrev pub entry_by : ℕ → Result Extent OpenFault → Option ℕ
 entry_by at (Ok extent) = if extent.end == at then Some extent.count else None
 entry_by at (Err fault) = None
 
--- of a journal whose first record is no ledger's head, or that has none: what it is instead
+-- the fault of a journal that has no record, or whose first one is no ledger's head: what it is instead
 abbrev pub headless_fault : Kind → KeepCommandFault
 headless_fault NoRecord = NotAJournal NoRecord
 headless_fault Log = NotAJournal Log
 headless_fault kind = NoHead
 
--- of a journal whose first block is not what was written: it has none yet, or is a log
+-- the fault of a journal whose first block is not what was written: it may end before its first record, or be a log
 abbrev pub first_block_fault : Damage → Kind → KeepCommandFault
 first_block_fault damage Begun = NotAJournal Begun
 first_block_fault damage Log = NotAJournal Log
@@ -72,17 +72,17 @@ module _ {D : Type 0} (its : devices.Ghosts D) where
   abbrev pub NamesHeadless : KeepCommandFault → D → D → Type 0
   NamesHeadless fault device after = (kind : Kind) × (fault ≡ headless_fault kind) × IsOfKind kind device after
 
-  -- the same of one whose first block is damaged
+  -- the same if the first block of a journal is damaged; otherwise the fault says what is damaged
   abbrev pub NamesFirst : Bool → Damage → KeepCommandFault → D → D → Type 0
   NamesFirst true damage fault device after = (kind : Kind) × (fault ≡ first_block_fault damage kind) × IsOfKind kind device after
   NamesFirst false damage fault device after = (fault ≡ Damaged damage) × (after ≡ device)
 
-  -- the records before a block that is not what was written were counted, and if there is none the first bytes were read
+  -- the records before a block that is not what was written were counted; if there are no such records, the first bytes were read
   abbrev pub NamesBlock : ℕ → KeepCommandFault → D → D → Type 0
   NamesBlock at fault device after =
       (entry : Option ℕ) × (counted : D) × IsEntryAt at entry device counted × NamesFirst (is_of_head (Block at entry)) (Block at entry) fault counted after
 
-  -- of a file that is no journal, or has no head, it is said what it is, and of a block that is not what was written, of which entry it is
+  -- if a file is no journal, or has no head, the fault says what it is; if a block is not what was written, it says which entry it is of
   abbrev pub Names : KeepCommandFault → KeepCommandFault → D → D → Type 0
   Names (NotAJournal kind) fault device after = (found : Kind) × (fault ≡ NotAJournal found) × IsOfKind found device after
   Names NoHead fault device after = NamesHeadless fault device after
@@ -96,13 +96,13 @@ module _ {D : Type 0} (its : devices.Ghosts D) where
     pub of_file : (file : List ℕ) → its.holds device file → RulesAnswer made file
     pub cause : its.tells → HasStartCause made (its.disk device) (its.disk after)
 
-  -- of one of other rules than were asked for it is said which these are
+  -- if a file has other rules than were asked for, the fault says which these are
   abbrev pub NamesAsked : Rules → StartFault → KeepCommandFault → D → D → Type 0
   NamesAsked asked start.OtherRules fault device after = (numbers : Option Mismatch) × (fault ≡ OtherRules numbers) × IsMadeWith asked numbers device after
   NamesAsked asked cause fault device after = Names (started_fault cause) fault device after
 
--- what private functions alone cite
+-- cited only by private functions
 
--- a call left a device so
+-- a call left a device of which this holds
 abbrev pub Left : {D : Type 0} → (D → Type 0) → Type 0
 Left {D} Leaves = (after : D) × Leaves after

@@ -1,9 +1,9 @@
--- What is counted of a std writer behind a buffer, and what its end answers.
+-- What is counted of a std writer behind a buffer, and what its `finish` returns.
 use Rattle.std.specs.Prelude.{ℕ, true, ◌||◌, ◌&&◌, ◌==◌, not, [], Result, if◌then◌else◌}
 use Rattle.tb_records.specs.declared.faults.FrameFault.{FrameFault}
 use Rattle.tb_records.specs.Transport.{Counted, Output, IsSent, uncounted, risen}
 
--- what is held back went out, or the writer failed; no byte is put
+-- what is held back was sent, or the writer failed; no byte is put
 abbrev pub SendsHeld : Result (Unit {0}) FrameFault → Output → Output → Type 0
 SendsHeld result before after = IsSent result [] before after
 
@@ -15,7 +15,7 @@ Watched W = Counted W
 abbrev pub outgoing : {W : Type 0} → W → Counted W
 outgoing inner = uncounted inner
 
--- so many bytes were taken of those that were put
+-- this many of the bytes that were put were taken
 abbrev pub took : {W : Type 0} → ℕ → ℕ → Counted W → Counted W
 took count offered w = record w {
   stalls = if count == 0 && not (offered == 0) then risen w.stalls else w.stalls;

@@ -4,7 +4,7 @@ use Rattle.tb_cli.specs.declared.table.FormName.{FormName}
 use Rattle.tb_cli.specs.declared.table.FormName.TheVariants as name
 use Rattle.tb_keep_commands.specs.declared.help.TheConstants.{BACKUP, CHECK, DUMP, FOLLOW, MEMORY, RUN, SALVAGE, USAGE}
 
--- the page of a form; of `--help` and `--version` that of the program
+-- the page of a form; for `--help` and `--version`, the page of the program
 abbrev pub page_of : FormName → List ℕ
 page_of name.Run = RUN.now
 page_of name.Dump = DUMP.now

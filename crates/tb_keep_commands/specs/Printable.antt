@@ -1,4 +1,4 @@
--- A path or a word as a line of standard error shows it: no control character is left in it, so that no escape code reaches a
+-- A path or an argument as a line of standard error shows it: no control character is left in it, so that no escape code reaches a
 -- terminal, and one line stays one line.
 use Rattle.std.specs.Prelude.{ℕ, ◌≡◌, List, [], ◌∷◌, map, if◌then◌else◌, refl}
 use Rattle.std.specs.Char.{is_control}

@@ -25,6 +25,6 @@ module _ {R W E : Type 0} (source : sources.Ghosts R) (sink : sinks.Ghosts W) (l
   abbrev pub streams : R → W → E → Streams
   streams reader writer faults = record { source = source.input reader; sink = sink.output writer; faults = lines.output faults }
 
-  -- before a call, and after it
+  -- a relation of them, before a call and after it
   abbrev pub OnStreams : (Streams → Streams → Type 0) → Change R → Change W → Change E → Type 0
   OnStreams Does reader writer faults = Does (streams (old reader) (old writer) (old faults)) (streams (new reader) (new writer) (new faults))

@@ -23,7 +23,7 @@ pub record IsFound (found : Found) (file : List ℕ) : Type 0 where
   pub time : found.time ≡ (history_state history).books.time
   pub end : found.end ≡ records_end (recorded file)
 
--- the file was read to its end as one history, or there is none
+-- the file was read to its end as one history, or it holds no history
 abbrev pub ReadsWhole : Result Found StartFault → List ℕ → Type 0
 ReadsWhole (Ok found) file = IsFound found file
 ReadsWhole (Err fault) file = IsNoHistory fault file
@@ -35,12 +35,12 @@ pub record IsFoundQuick (found : Found) (file : List ℕ) : Type 0 where
   pub entries : found.entries ≡ length (recorded file) - 1
   pub end : found.end ≡ records_end (recorded file)
 
--- the file was read to its end so, or it is no such file
+-- the file was read to its end in this way, or it is no such file
 abbrev pub ReadsQuick : Result Found StartFault → List ℕ → Type 0
 ReadsQuick (Ok found) file = IsFoundQuick found file
 ReadsQuick (Err fault) file = IsNotInOrder fault file
 
--- this is what is in it, where it has so many bytes. Those behind the closed latch are not committed yet, or torn: a start cuts them off
+-- what is in a file of this many bytes. The bytes after the closed latch are not committed yet, or torn: a start cuts them off
 abbrev pub summary_of : Found → ℕ → Bool → Summary
 summary_of found len quick = record {
   rules = found.rules;
@@ -51,15 +51,15 @@ summary_of found len quick = record {
   replayed = not quick;
 }
 
--- a number behind its name, before other lines
+-- a number after its name, before other lines
 abbrev pub line_before : List ℕ → ℕ → List ℕ → List ℕ
 line_before name number others = name ++ (decimal number ++ 10 ∷ others)
 
--- what so many bytes behind the records are
+-- what this many bytes after the records are
 abbrev pub behind_text : ℕ → List ℕ
 behind_text bytes = if nat_eq bytes 0 then [] else codes ", not committed yet or torn"
 
--- what a summary ends with where the ledger was not replayed
+-- what a summary ends with if the ledger was not replayed
 abbrev pub replayed_text : Bool → List ℕ
 replayed_text true = []
 replayed_text false = codes "not replayed: only checksums, commit numbers and times were checked\n"

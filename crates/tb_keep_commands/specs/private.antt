@@ -1,3 +1,3 @@
--- what private contracts alone cite
+-- cited only by private contracts
 pub mod Changes
 pub mod Stages

@@ -1,4 +1,4 @@
-//! What the words of the command line ask for.
+//! What the arguments of the command line ask for.
 ghost use Rattle.std.specs.Prelude.{◌≡◌, map, string_bytes};
 ghost use Rattle.tb_cli.specs.Words.{given_word};
 ghost use Rattle.tb_keep_commands.specs.Forms.{IsRead, ReadsForm, asked_in, form_by, form_or_fault, options_in, given_options};
@@ -6,12 +6,12 @@ ghost use Rattle.tb_keep_commands.specs.Forms.{IsRead, ReadsForm, asked_in, form
 use tb_cli::{Asked, Fault, FormName, Given, Wrong, given_word, read};
 use tb_records::{ClientsMax, Profile};
 
-/// What more `run` or `follow` is asked.
+/// The options of `run` and `follow`.
 #[derive(Clone, Copy)]
 pub struct Options {
     /// Its start is reported.
     pub reports: bool,
-    /// The file is one that is there: none is made.
+    /// The file has to exist: none is made.
     pub existing: bool,
     /// What a start cuts off is not copied.
     pub drops: bool,
@@ -20,14 +20,13 @@ pub struct Options {
 /// What the program is asked to do.
 #[derive(Clone, Copy)]
 pub enum Form {
-    /// Serve requests over a file, which is made where there is none, unless the options say otherwise.
+    /// Serve requests over a file, which is made if it is missing, unless the options say otherwise.
     Run(ClientsMax, Profile, Options),
-    /// Follow a log over a file, which is made where there is none, unless the options say otherwise.
+    /// Follow a log over a file, which is made if it is missing, unless the options say otherwise.
     Follow(ClientsMax, Profile, Options),
     /// Follow a log, with the ledger in memory.
     Memory(ClientsMax, Profile),
-    /// Write the history of a file as a dump: all of it, or the entries above a commit number, without a head. The flag has more waited
-    /// for.
+    /// Write the history of a file as a dump: all of it, or the entries above a commit number, without a head. With the flag it waits for more.
     Dump(Option<u64>, bool),
     /// Read a file, and report what is in it. With the flag only checksums, commit numbers and times are checked.
     Check(bool),
@@ -41,13 +40,13 @@ pub enum Form {
     Version,
 }
 
-/// A form, and the words that name its files.
+/// A form, and the arguments that name its files.
 #[derive(Clone, Copy)]
 pub struct Command<'a> {
     pub form: Form,
-    /// An empty word where no file is named.
+    /// Empty if no file is named.
     pub file: &'a str,
-    /// An empty word where no new file is named.
+    /// Empty if no new file is named.
     pub new: &'a str,
 }
 
@@ -64,7 +63,7 @@ pub const FORMS: &[FormName] = &[
     FormName::Version,
 ];
 
-/// What is wrong with words that name no form.
+/// What is wrong with arguments that name no form.
 const NO_FORM: Wrong = Wrong {
     shown: 1,
     fault: Fault::NoForm,
@@ -82,7 +81,7 @@ fn options_of(given: Given) -> Options
 }
 
 impl Form {
-    /// What more it is asked: nothing where it is neither `run` nor `follow`.
+    /// Its options: all are false if it is neither `run` nor `follow`.
     pub fn options(self) -> Options
         ensures { result ≡ options_in self }
     {
@@ -97,7 +96,7 @@ impl Form {
     }
 }
 
-/// The form that is asked for; None where a number of clients is missing.
+/// The form that is asked for; None if a number of clients is missing.
 fn form_by(form: FormName, given: Given) -> Option<Form>
     ensures { result ≡ form_by form given }
 {
@@ -131,7 +130,7 @@ fn command_by(words: &[String], form: FormName, given: Given) -> Result<Command<
     }
 }
 
-/// What the words ask for, by the table of tb_cli.
+/// What the arguments ask for, by the table of tb_cli.
 #[tactic(auto, unfolding(crate::specs::Forms::asked_in))]
 fn read_words(words: &[String]) -> Result<Asked, Wrong>
     ensures { result ≡ asked_in (map string_bytes words.now) }
@@ -139,7 +138,7 @@ fn read_words(words: &[String]) -> Result<Asked, Wrong>
     read(FORMS, words)
 }
 
-/// What the words ask for; or which of them is wrong, and how.
+/// What the arguments ask for; or which of them is wrong, and how.
 pub fn read_command(words: &[String]) -> Result<Command<'_>, Wrong>
     ensures { IsRead result (map string_bytes words.now) }
 {

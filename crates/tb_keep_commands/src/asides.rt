@@ -1,4 +1,4 @@
-//! Bytes that a start cuts off, which are copied before.
+//! Bytes that a start copies before it cuts them off.
 ghost use Rattle.std.specs.Prelude.{◌≡◌};
 ghost use Rattle.tb_keep_commands.specs.Asides.{uncopied_text};
 
@@ -17,10 +17,10 @@ pub enum Uncopied {
     Failed,
 }
 
-/// So many copies may be beside one file.
+/// The greatest number of copies next to one file.
 pub const COPIES_MAX: usize = 16;
 
-/// Why a call on a file that is served failed, where what opened it knows more than the call's fault says.
+/// Why a call on a file that is served failed, if what opened it knows more than the call's fault says.
 #[derive(Clone, Copy, Debug, PartialEq, Eq)]
 pub enum Reason {
     /// The name no longer leads to what was opened.
@@ -29,7 +29,7 @@ pub enum Reason {
     NotCopied(Uncopied),
 }
 
-/// What is reported of a file whose torn bytes were not copied, behind its path.
+/// What is reported of a file whose torn bytes were not copied, after its path.
 pub(crate) fn uncopied_text(why: Uncopied) -> &'static str
     ensures { result.now ≡ uncopied_text why }
 {

@@ -17,7 +17,7 @@ use std::alloc::Global;
 use tb_keep::Rules;
 use tb_records::{Sink, Source, put_all};
 
-/// Opens the device of a path that is served: one that is there, or else one that is made where there is none.
+/// Opens the device of a path that is served. If it has to exist, none is made; otherwise a missing one is made.
 pub fn made_by<O: Opener>(
     opener: &mut O,
     path: &str,
@@ -32,7 +32,7 @@ pub fn made_by<O: Opener>(
     opener.make(path)
 }
 
-/// The outcome of serving, of which a fault has the name of the reason, where one is known.
+/// The outcome of serving. If a reason is known, a fault is named by it.
 fn named_by(
     reason: Option<Reason>,
     served: Result<(), KeepCommandFault>,
@@ -45,7 +45,7 @@ fn named_by(
     }
 }
 
-/// Serves a ledger over the device of a path, opened so.
+/// Opens the device of a path, and serves a ledger over it.
 fn run_opened<O: Opener, R: Source, W: Outlet, E: Sink>(
     alloc: Global,
     opener: &mut O,
@@ -63,7 +63,7 @@ fn run_opened<O: Opener, R: Source, W: Outlet, E: Sink>(
     }
 }
 
-/// Serves a ledger over the device of a path. Where requests would come from a terminal it is reported first where words are read.
+/// Serves a ledger over the device of a path. If requests would come from a terminal, it first reports which programs read words.
 pub fn run_over<O: Opener, R: Source, W: Outlet, E: Sink>(
     alloc: Global,
     opener: &mut O,

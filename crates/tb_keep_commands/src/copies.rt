@@ -16,7 +16,7 @@ pub struct Copied {
     pub time: u64,
     /// Where the entries end in the file.
     pub end: u64,
-    /// The bytes behind the latch there: not committed yet, or torn; or lost.
+    /// The bytes after the latch there: not committed yet, or torn; or lost.
     pub behind: usize,
     /// What is damaged there, and ended the copy.
     pub damage: Option<Damage>,

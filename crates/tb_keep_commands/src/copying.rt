@@ -1,4 +1,4 @@
-//! A file copied into a new one: what can be read of it, or where it is whole.
+//! A file copied into a new one: what can be read of it, or all of it if it is whole.
 ghost use Rattle.std.specs.Prelude.{◌≡◌, true};
 ghost use Rattle.tb_keep_commands.specs.Copies.{copied_of, is_mended, mended_line, copied_text, rescued_text, refused_by, NamesCopy, Rescues, EndsOrReadsOn, CopiesLong, CopiesFile, CopiesOver};
 ghost use Rattle.tb_keep.specs.Keeping.{IsUsable, IsFresh};
@@ -20,7 +20,7 @@ use tb_journal::Device;
 use tb_keep::{NotSalvaged, SalvageFault, Salvaged, StartFault, read_on, read_rules, salvage};
 use tb_records::{Sink, put_all};
 
-/// What is reported of a file of so many bytes that was copied.
+/// What is reported of a file of this many bytes that was copied.
 fn copied_of<N: Device>(salvaged: &Salvaged<N>, len: usize) -> Copied
     ensures { result ≡ copied_of len salvaged.now }
 {
@@ -47,14 +47,14 @@ fn report<W: Sink>(alloc: Global, copied: Copied, writer: &mut W) -> Result<(), 
     }
 }
 
-/// Why a copy that ended so is refused: none, where the file needs not be whole.
+/// Why a copy that ended so is refused: None if the file need not be whole.
 fn refused_by(whole: bool, stop: Option<StartFault>) -> Option<StartFault>
     ensures { result ≡ refused_by whole stop }
 {
     if whole { stop } else { None }
 }
 
-/// Writes what was copied of a file of so many bytes; or refuses it, where it was to be whole.
+/// Writes what was copied of a file of this many bytes; or refuses a damaged one if it was to be whole.
 fn end_copy<D: Device, N: Device + Drop, W: Sink>(
     alloc: Global,
     from: &mut D,
@@ -84,7 +84,7 @@ fn named_copy<D: Device>(alloc: Global, from: &mut D, fault: SalvageFault) -> Ke
     }
 }
 
-/// The same, of a new file that was not made to its end.
+/// The same for a new file that was not made to its end.
 fn uncopied<D: Device, N: Device + Drop>(
     alloc: Global,
     from: &mut D,
@@ -97,7 +97,7 @@ fn uncopied<D: Device, N: Device + Drop>(
     named_copy(alloc, from, fault)
 }
 
-/// Writes what was copied of a file, and read on behind its damage.
+/// Writes what was copied of a file that was also read on after its damage.
 fn report_rescued<W: Sink>(
     alloc: Global,
     rescued: Rescued,
@@ -114,7 +114,7 @@ fn report_rescued<W: Sink>(
     }
 }
 
-/// Reads a file of so many bytes on behind what was copied of it, and writes what was taken over.
+/// Reads a file of this many bytes on after what was copied of it, and writes what was copied.
 fn rescue<D: Live, N: Device + Drop, W: Sink>(
     alloc: Global,
     from: &mut D,
@@ -162,7 +162,7 @@ fn end_by<D: Live, N: Device + Drop, W: Sink>(
     rescue(alloc, from, len, salvaged, writer)
 }
 
-/// Copies a file of so many bytes into a new one.
+/// Copies a file of this many bytes into a new one.
 fn copy_long<D: Live, N: Device + Drop, W: Sink>(
     alloc: Global,
     from: &mut D,
@@ -180,8 +180,8 @@ fn copy_long<D: Live, N: Device + Drop, W: Sink>(
     }
 }
 
-/// Copies a file into a new one, up to its first damage and then each next entry that stands behind it, and writes what was copied. A file
-/// that is to be whole is refused where it is damaged: the new one then has what is before that.
+/// Copies a file into a new one, up to its first damage and then each next entry that is after it, and writes what was copied. A damaged file
+/// that is to be whole is refused: the new one then has what is before the damage.
 pub(crate) fn copy<D: Live, N: Device + Drop, W: Sink>(
     alloc: Global,
     from: &mut D,
@@ -255,8 +255,8 @@ fn note_mended<W: Sink>(
     }
 }
 
-/// Copies a file that is refused for its first bytes as one that begins as a journal. Where it does not go on as a ledger's it is refused
-/// as it was.
+/// Copies a file that is refused because of its first bytes as one that begins as a journal. If it does not go on as a ledger's file, it is
+/// refused as before.
 fn copy_mended<O: Opener, W: Sink>(
     alloc: Global,
     opener: &mut O,
@@ -284,7 +284,7 @@ fn copy_mended<O: Opener, W: Sink>(
     }
 }
 
-/// Copies a file that is refused, where it may be one whose first bytes are damaged alone.
+/// Copies a file that is refused, if it may be one of which only the first bytes are damaged.
 fn copy_refused<O: Opener, W: Sink>(
     alloc: Global,
     opener: &mut O,
@@ -305,7 +305,8 @@ fn copy_refused<O: Opener, W: Sink>(
     Err(refused)
 }
 
-/// Copies a file into a new one of a name, which is made where the file begins as a ledger's.
+/// Copies a file into a new one of a name, which is made if the file begins as a ledger's. Otherwise the file is refused, or its first bytes are
+/// mended.
 fn copy_headed<O: Opener, W: Sink>(
     alloc: Global,
     opener: &mut O,

@@ -20,7 +20,7 @@ impl<O: Opener> Files for O {
     } };
 }
 
-/// The ends of a command: its files, its reader, its writer, and the writer of its lines. Each opener with such is one.
+/// The ends of a command: its files, its reader, its writer, and the writer of its lines. Each opener with such streams is one.
 pub trait Ends<R: Source, W: Outlet, E: Sink>: Opener {
     /// What is known of them.
     ghost its: { KnownEnds Self Self.File Self.Reading R W E };

@@ -13,7 +13,7 @@ use tb_keep::{DumpFault, KeepFault, Rules, StartFault};
 use tb_machine::{RestoreFault, RunFault};
 use tb_records::FrameFault;
 
-/// What a read, a write or a sync failed of.
+/// What a read, a write or a sync failed on.
 #[derive(Clone, Copy, Debug, PartialEq, Eq)]
 pub enum Failed {
     /// Standard input.
@@ -55,19 +55,19 @@ pub(crate) fn numbers_of(rules: Rules) -> Numbers
 /// What is damaged in a file.
 #[derive(Clone, Copy, Debug, PartialEq, Eq)]
 pub enum Damage {
-    /// The block at this offset is not whole, or its checksum does not match: that of the record of this number, or of one that was
-    /// not counted. Record 0 is the head, and each record behind it has the number that its entry has.
+    /// The block at this offset is not whole, or its checksum does not match. It is that of the record of this number; None if the records were
+    /// not counted. Record 0 is the head, and each record after it has the number of its entry.
     Block { at: usize, entry: Option<u64> },
-    /// The record of this place, 1, 2, 3 and so on behind the head, is that of no entry.
+    /// The record at this place, 1, 2, 3 and so on after the head, is not an entry's.
     Record { place: u64, fault: FrameFault },
     /// The entry may not come next.
     Entry(RestoreFault),
-    /// Behind the records, which end at this offset, are more bytes than a batch can have that was not committed.
+    /// After the records, which end at this offset, there are more bytes than a batch can have that was not committed.
     Torn { at: u64, bytes: u64 },
 }
 
 impl Damage {
-    /// Says whether it is known that the head is damaged, without which no file is read.
+    /// Says whether the head is known to be damaged: without it no file is read.
     pub(crate) fn is_of_head(self) -> bool
         ensures { result ≡ is_of_head self }
     {
@@ -84,7 +84,7 @@ impl Damage {
 /// Why a command ends with an exit status other than 0.
 #[derive(Clone, Copy, Debug, PartialEq, Eq)]
 pub enum KeepCommandFault {
-    /// The words of the command line are none of the program's forms, or one is not UTF-8.
+    /// The arguments match no form of the program, or one is not UTF-8.
     Usage,
     /// A pipe, or a read or write of the file failed.
     Device(Failed),
@@ -94,11 +94,11 @@ pub enum KeepCommandFault {
     Making(OpeningFault),
     /// There is no memory.
     NoMemory,
-    /// A request is none, or no time is left for it.
+    /// What was read is no request, or no time is left for it.
     Request(RunFault),
     /// The file is no journal, but something of this kind.
     NotAJournal(Kind),
-    /// The file is a journal, but its first record is no ledger's head, or it has none.
+    /// The file is a journal, but it has no record, or its first one is no ledger's head.
     NoHead,
     /// The file is damaged. It is as it was.
     Damaged(Damage),
@@ -189,7 +189,7 @@ pub fn dumped_fault(fault: DumpFault) -> KeepCommandFault
     }
 }
 
-/// A fault of the file, where that is the new one.
+/// A fault of the file, if that is the new one.
 pub fn new_fault(fault: KeepCommandFault) -> KeepCommandFault
     ensures { result ≡ new_fault fault }
 {
@@ -202,7 +202,7 @@ pub fn new_fault(fault: KeepCommandFault) -> KeepCommandFault
     }
 }
 
-/// The fault of reading a request, or of writing replies, where this pipe failed if one did.
+/// The fault of reading a request, or of writing replies. If a pipe failed, it is this one.
 fn read_fault(fault: RunFault, pipe: Failed) -> KeepCommandFault
     ensures { result ≡ read_fault pipe fault }
 {
@@ -214,7 +214,7 @@ fn read_fault(fault: RunFault, pipe: Failed) -> KeepCommandFault
     }
 }
 
-/// The fault that serving ends with, where this pipe failed if one did.
+/// The fault that serving ends with. If a pipe failed, it is this one.
 pub fn kept_fault(fault: KeepFault, pipe: Failed) -> KeepCommandFault
     ensures { result ≡ kept_fault pipe fault }
 {
@@ -224,7 +224,7 @@ pub fn kept_fault(fault: KeepFault, pipe: Failed) -> KeepCommandFault
     }
 }
 
-/// The fault where the words cannot be had: there is no memory for them, or one is not UTF-8.
+/// The fault if the arguments cannot be read: there is no memory for them, or one is not UTF-8.
 pub fn words_fault(error: &io::Error) -> KeepCommandFault
     ensures { result ≡ words_fault error.now }
 {

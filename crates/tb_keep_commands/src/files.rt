@@ -40,7 +40,7 @@ pub(crate) fn read_whole<D: Device>(alloc: Global, device: &mut D) -> Result<Fou
     }
 }
 
-/// Reads a whole file, of whose entries only the numbers and times are checked.
+/// Reads a whole file, and checks only the numbers and times of its entries.
 fn read_quickly<D: Device>(alloc: Global, device: &mut D) -> Result<Found, StartFault>
     ensures found { (file : List ℕ) → D.holds device.old file → ReadsQuick result file }
     ensures same { (file : List ℕ) → D.holds device.old file → D.holds device.new file }
@@ -84,7 +84,7 @@ fn dump_found<D: Device, W: Sink>(
     }
 }
 
-/// Writes the history of a file as a dump. The file is read twice: before anything is written all of it was read.
+/// Writes the history of a file as a dump. The file is read twice: all of it is read before anything is written.
 pub(crate) fn dump<D: Device, W: Sink>(
     alloc: Global,
     device: &mut D,
@@ -111,7 +111,7 @@ fn report<W: Sink>(alloc: Global, summary: Summary, writer: &mut W) -> Result<()
     }
 }
 
-/// Reads a whole file of so many bytes, and writes what is in it.
+/// Reads a whole file of this many bytes, and writes what is in it.
 fn check_long<D: Device, W: Sink>(
     alloc: Global,
     device: &mut D,
@@ -127,7 +127,7 @@ fn check_long<D: Device, W: Sink>(
     }
 }
 
-/// Reads a whole file, and writes what is in it, and how many bytes are behind that in the file by now.
+/// Reads a whole file, and writes what is in it, and how many bytes are after that in the file by now.
 pub(crate) fn check<D: Live, W: Sink>(
     alloc: Global,
     device: &mut D,

@@ -19,7 +19,7 @@ use tb_records::{DumpHead, Sink};
 /// Which part of a history is written.
 #[derive(Clone, Copy)]
 pub struct Part {
-    /// The entries above this commit number, without a head; else all, as a dump.
+    /// The entries above this commit number, without a head; all of them, as a dump, if there is no number.
     pub after: Option<u64>,
     /// Whether more are waited for.
     pub follows: bool,
@@ -88,11 +88,11 @@ fn send_on<O: Opener, W: Outlet>(
             Err(fault) => return Err(fault),
         }
     }
-    // So many rounds do not come to an end on any machine.
+    // No machine comes to the end of so many rounds.
     Err(KeepCommandFault::NoMemory)
 }
 
-/// Writes the entries of a file of which nothing was read, and those that are committed meanwhile where more are waited for.
+/// Writes the entries of a file of which nothing was read, and, if more are waited for, those that are committed meanwhile.
 fn send_entries<O: Opener, W: Outlet>(
     opener: &O,
     scan: &mut Scan,
@@ -117,7 +117,7 @@ fn send_entries<O: Opener, W: Outlet>(
     }
 }
 
-/// Writes the head of a dump of these rules, where all entries are written.
+/// Writes the head of a dump of these rules, if all entries are written.
 fn send_start<W: Sink>(
     writer: &mut W,
     rules: Rules,
@@ -138,7 +138,7 @@ fn send_start<W: Sink>(
     }
 }
 
-/// The commit number above which entries are written: of all where none is given.
+/// The commit number above which entries are written: 0, so that all are, if none is given.
 fn floor_of(after: Option<u64>) -> u64
     ensures { result ≡ floor_of after }
 {
@@ -191,8 +191,8 @@ fn part_found<O: Opener, W: Outlet>(
     }
 }
 
-/// Writes the part of a file's history that was asked for: once, or as long as more is waited for. Before anything is written all of
-/// the file was read.
+/// Writes the part of a file's history that was asked for: once, or as long as more is waited for. All of the file is read before anything is
+/// written.
 pub(crate) fn follow<O: Opener, W: Outlet>(
     alloc: Global,
     opener: &O,

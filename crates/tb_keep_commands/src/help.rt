@@ -114,7 +114,7 @@ pub const SALVAGE: &str = page!(salvage);
 /// The page of `backup`.
 pub const BACKUP: &str = page!(backup);
 
-/// The page of a form; of `--help` and `--version` that of the program.
+/// The page of a form; for `--help` and `--version`, the page of the program.
 pub fn page(form: FormName) -> &'static str
     ensures { result.now ≡ page_of form }
 {

@@ -17,7 +17,7 @@ use tb_journal::Device;
 use tb_keep::{KeepFault, Keeper, NotKept, Rules, keep};
 use tb_records::{Sink, Source};
 
-/// A start: over a file of which path, whether that it reads, and is done, is reported, and whether a ledger is to be in the file.
+/// A start: the path of its file, whether it reports that it reads and that it is ready, and whether the file has to have a ledger.
 #[derive(Clone, Copy)]
 pub struct FileStart<'a> {
     pub path: &'a str,
@@ -36,7 +36,7 @@ fn refused<D: Device + Drop>(alloc: Global, failed: NotKept<D>, asked: Rules) ->
     named
 }
 
-/// Which pipe failed if one did, of a reader that had so many errors before, and has so many now.
+/// Which pipe failed, if one did, by how many errors a reader had before and has now.
 pub fn failed_pipe(before: u64, now: u64) -> Failed
     ensures { result ≡ failed_pipe before now }
 {
@@ -57,8 +57,8 @@ fn kept_outcome(kept: Result<u64, KeepFault>, pipe: Failed) -> Result<(), KeepCo
     }
 }
 
-/// Serves pairs over a ledger until they end. What its start made of the file of this path is reported first: where it had no bytes
-/// it was made, and else what was cut off behind the records; and then that it is done, where that is reported.
+/// Serves pairs over a ledger until they end. First it reports what its start did to the file of this path: made it, if it had no bytes, or cut
+/// bytes off after the records. Then it reports that the start is done, if that is wanted.
 fn serve<D: Device + Drop, A: Allocator + Clone, R: Source, W: Sink, E: Sink>(
     alloc: Global,
     keeper: Keeper<D, A>,
@@ -85,7 +85,7 @@ fn serve<D: Device + Drop, A: Allocator + Clone, R: Source, W: Sink, E: Sink>(
     kept_outcome(kept, failed_pipe(failures, reader.failures()))
 }
 
-/// Opens a ledger over a device, and, unless one is to be there, creates one in a file that is blank.
+/// Opens a ledger over a device; unless the ledger has to exist, creates one in a blank file.
 fn started<D: Device, A: Allocator + Copy>(
     alloc: Global,
     pool: A,
@@ -105,8 +105,8 @@ fn started<D: Device, A: Allocator + Copy>(
     Keeper::start(alloc, pool, device, rules)
 }
 
-/// Opens a ledger over a device, or creates one, and serves pairs until they end: each reply is sent when the entry that it
-/// rests on is in the file. The machine's records take their memory of the pool. So many bytes were in the file before.
+/// Opens a ledger over a device, or creates one, and serves pairs until they end: each reply is sent when the entry that it rests on is in the
+/// file. The machine's records are allocated in the pool. `len` is how many bytes the file had before.
 fn start<D: Device + Drop, A: Allocator + Copy, R: Source, W: Sink, E: Sink>(
     alloc: Global,
     pool: A,
@@ -129,7 +129,7 @@ fn start<D: Device + Drop, A: Allocator + Copy, R: Source, W: Sink, E: Sink>(
     }
 }
 
-/// Serves pairs over the device of a path, whose length is asked for first. The machine has its records in a pool.
+/// Serves pairs over the device of a path, after asking for its length. The machine has its records in a pool.
 pub(crate) fn run<D: Device + Drop, R: Source, W: Sink, E: Sink>(
     alloc: Global,
     device: D,

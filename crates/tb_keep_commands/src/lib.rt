@@ -2,34 +2,34 @@
 //!
 //! Modules, each over those before it:
 //!
-//! - `arguments`: `read_command`, what the words of the command line ask for.
+//! - `arguments`: `read_command`, what the arguments of the command line ask for.
 //! - `help`: the pages of usage.
 //! - `live`: `Live`, a file that is read while another program may append to it.
 //! - `mending`: `Mended`, a file whose first bytes are read as a journal's.
 //! - `laws`: what holds of every dump of a file that grows.
 //! - `openers`: `Opener`, what opens the device of a name, and why it does not.
-//! - `outlets`: `Outlet`, a writer that says at its end whether all that was put went out.
-//! - `steady`: `Steady`, a writer whose calls are made again where a signal interrupts them.
-//! - `places`: `Named`, a file that is compared with what its name leads to, and of which nothing is cut off before it is set aside.
+//! - `outlets`: `Outlet`, a writer that says at its end whether all that was put was sent.
+//! - `steady`: `Steady`, a writer whose calls are repeated if a signal interrupts them.
+//! - `places`: `Named`, a file that is compared with what its name leads to, and whose bytes are set aside before they are cut off.
 //! - `asides`: why bytes that were to be cut off were not copied.
 //! - `ends`: `Files` and `Ends`, what contracts know of what a command works with.
 //! - `kinds`: what a file is that holds no ledger, by its first bytes.
 //! - `faults`: why a command ends with an exit status other than 0.
-//! - `printable`: a path or a word as a line shows it, without control characters.
-//! - `lines`: the lines that say so, and what is wrong with words.
+//! - `printable`: a path or an argument as a line shows it, without control characters.
+//! - `lines`: the lines that report faults, and what is wrong with arguments.
 //! - `reports`: `Reported`, a file that reports how far it was read.
 //! - `summaries`: what `check` reports of a file.
 //! - `naming`: what there is to say of a file that is refused.
 //! - `files`: `dump` and `check`, a file read without a write.
 //! - `copies`: what is reported of a file that was copied.
-//! - `rescues`: what is reported of one that was read on behind its damage.
+//! - `rescues`: what is reported of a file that was read on after its damage.
 //! - `copying`: `salvage` and `backup`, a file copied into a new one.
 //! - `following`: the entries of a file above a commit number, as it grows.
 //! - `keeping`: `run`, a ledger over a file served.
-//! - `commands`: each form, over what opens devices. tb_keep_follow has how it ends.
+//! - `commands`: each form, over what opens devices. tb_keep_follow says how it ends.
 //!
-//! specs/Forms is which words ask for what, specs/Outcomes and specs/Copies what each form does, specs/ExitStatuses the exit status
-//! and the line of each fault.
+//! specs/Forms says which arguments ask for what, specs/Outcomes and specs/Copies what each form does, specs/ExitStatuses the exit status and the
+//! line of each fault.
 #![tactic(auto)]
 
 mod arguments;

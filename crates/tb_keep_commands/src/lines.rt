@@ -15,7 +15,7 @@ use itoa::Buffer;
 use tb_cli::Wrong;
 use tb_records::{FrameFault, Sink, put_all};
 
-/// Writes two texts, one behind the other.
+/// Writes two texts, one after the other.
 fn put_both<E: Sink>(faults: &mut E, first: &str, second: &str) -> Result<(), FrameFault>
     ensures { PutsText E.Sink result (first.now ++ second.now) faults }
 {
@@ -25,7 +25,7 @@ fn put_both<E: Sink>(faults: &mut E, first: &str, second: &str) -> Result<(), Fr
     }
 }
 
-/// Writes a text, and a path or a word behind it.
+/// Writes a text, and a path or an argument after it.
 fn put_shown<E: Sink>(faults: &mut E, first: &str, path: &str) -> Result<(), FrameFault>
     ensures { PutsText E.Sink result (first.now ++ printable path.now) faults }
 {
@@ -35,7 +35,7 @@ fn put_shown<E: Sink>(faults: &mut E, first: &str, path: &str) -> Result<(), Fra
     }
 }
 
-/// Writes a path and a text behind it.
+/// Writes a path and a text after it.
 fn put_shown_before<E: Sink>(faults: &mut E, path: &str, last: &str) -> Result<(), FrameFault>
     ensures { PutsText E.Sink result (printable path.now ++ last.now) faults }
 {
@@ -45,7 +45,7 @@ fn put_shown_before<E: Sink>(faults: &mut E, path: &str, last: &str) -> Result<(
     }
 }
 
-/// Writes a text, the path of a file and a text behind it.
+/// Writes a text, the path of a file and a text after it.
 fn put_named<E: Sink>(faults: &mut E, first: &str, path: &str, last: &str) -> Result<(), FrameFault>
     ensures { PutsText E.Sink result (named first.now path.now last.now) faults }
 {
@@ -55,7 +55,7 @@ fn put_named<E: Sink>(faults: &mut E, first: &str, path: &str, last: &str) -> Re
     }
 }
 
-/// Writes a text and a number behind it.
+/// Writes a text and a number after it.
 fn put_number<E: Sink>(faults: &mut E, first: &str, number: u64) -> Result<(), FrameFault>
     ensures { PutsText E.Sink result (numbered first.now number) faults }
 {
@@ -79,7 +79,7 @@ fn put_place<E: Sink>(
     }
 }
 
-/// Writes a number and a text behind it.
+/// Writes a number and a text after it.
 fn put_counted<E: Sink>(faults: &mut E, number: u64, last: &str) -> Result<(), FrameFault>
     ensures { PutsText E.Sink result (counted_text number last.now) faults }
 {
@@ -87,7 +87,7 @@ fn put_counted<E: Sink>(faults: &mut E, number: u64, last: &str) -> Result<(), F
     put_both(faults, buffer.format(number), last)
 }
 
-/// Writes two numbers, each with a text behind it.
+/// Writes two numbers, each with a text after it.
 fn put_torn<E: Sink>(
     faults: &mut E,
     bytes: u64,
@@ -118,7 +118,7 @@ fn put_between<E: Sink>(
     }
 }
 
-/// Writes of which entry a block is that is not what was written, behind its place.
+/// Writes, after the place of a block, that it is not what was written, and which entry it is of.
 fn put_unread<E: Sink>(faults: &mut E, entry: Option<u64>) -> Result<(), FrameFault>
     ensures { PutsText E.Sink result (unread_text entry) faults }
 {
@@ -169,39 +169,39 @@ fn put_harm<E: Sink>(faults: &mut E, damage: Damage) -> Result<(), FrameFault>
     }
 }
 
-/// What is to be done where a sync failed.
+/// What to do if a sync failed.
 const SYNC: &str = ": restart the machine or copy the file before the next start";
 
-/// What is to be done where a read or a write failed.
+/// What to do if a read or a write failed.
 const DISK: &str = ": a read or write failed; look at the disk, and start again";
 
-/// What is to be done where a file is not found, behind its path.
+/// What to do if a file is not found, after its path.
 const MISSING: &str = "; look at its name and at its folder";
 
-/// The same where it may not be opened.
+/// The same if it may not be opened.
 const FORBIDDEN: &str = "; change its mode or its folder's, or run tbd as a user that may";
 
-/// The same where its disk is read-only.
+/// The same if its disk is read-only.
 const READ_ONLY: &str =
     " is on a disk that is read-only; mount it for writing, or name a file on another disk";
 
-/// The same where no more files may be opened.
+/// The same if no more files may be opened.
 const TOO_MANY: &str = ": too many files are open; raise their number by ulimit -n";
 
-/// The same of one that has no bytes.
+/// The same for one that has no bytes.
 const EMPTY: &str =
     " is empty; without --existing tbd run makes a ledger in it, and tbd follow a log";
 
-/// The same of a new file that is there.
+/// The same for a new file that exists already.
 const EXISTS: &str = " exists; give the name of one that is not there";
 
-/// The same of a folder, a pipe or a device of the system.
+/// The same for a folder, a pipe or a device of the system.
 const NOT_A_FILE: &str = " is no regular file; give the name of one";
 
-/// The same of a symbolic link to nothing.
+/// The same for a symbolic link to nothing.
 const DANGLING: &str = " is a link to nothing; remove it, or make the file that it names";
 
-/// The same where the system does not open it.
+/// The same if the system does not open it.
 const UNOPENED: &str = "; look at its disk and at its folder";
 
 /// Writes why a file of this path was not opened.
@@ -233,13 +233,13 @@ fn put_opening<E: Sink>(faults: &mut E, fault: OpeningFault, path: &str) -> Resu
     }
 }
 
-/// What is to be done where a sync of a new file failed.
+/// What to do if a sync of a new file failed.
 const NEW_SYNC: &str = ": it may be lost; remove it, look at the disk, and start again";
 
-/// The same where a read or a write of it failed.
+/// The same if a read or a write of it failed.
 const NEW_DISK: &str = ": a read or write failed; remove it, look at the disk, and start again";
 
-/// The same where there is no space for it.
+/// The same if there is no space for it.
 const NEW_FULL: &str =
     ": the disk is full, or the file has its greatest length; remove it, free space, and start again";
 
@@ -255,7 +255,7 @@ fn put_making<E: Sink>(faults: &mut E, fault: OpeningFault, path: &str) -> Resul
     }
 }
 
-/// Writes what is damaged and a text behind it.
+/// Writes what is damaged and a text after it.
 fn put_harmed<E: Sink>(faults: &mut E, damage: Damage, last: &str) -> Result<(), FrameFault>
     ensures { PutsText E.Sink result (harm_text damage ++ last.now) faults }
 {
@@ -265,7 +265,7 @@ fn put_harmed<E: Sink>(faults: &mut E, damage: Damage, last: &str) -> Result<(),
     }
 }
 
-/// What is to be done about damage of a ledger's file.
+/// What to do about damage of a ledger's file.
 fn next_of(damage: Damage) -> &'static str
     ensures { result.now ≡ next_of damage }
 {
@@ -276,7 +276,7 @@ fn next_of(damage: Damage) -> &'static str
     }
 }
 
-/// Writes a text, what is damaged in a file of this path, and what is to be done.
+/// Writes a text, what is damaged in a file of this path, and what to do about it.
 fn put_damaged<E: Sink>(
     faults: &mut E,
     first: &str,
@@ -373,7 +373,7 @@ fn put_kind<E: Sink>(faults: &mut E, kind: Kind, path: &str) -> Result<(), Frame
     }
 }
 
-/// Writes two numbers, each behind a text.
+/// Writes two numbers, each after a text.
 fn put_two<E: Sink>(
     faults: &mut E,
     first: &str,
@@ -403,7 +403,7 @@ fn put_numbers<E: Sink>(faults: &mut E, numbers: Numbers) -> Result<(), FrameFau
     )
 }
 
-/// Writes a text and rules in words behind it.
+/// Writes a text and rules in words after it.
 fn put_asked<E: Sink>(faults: &mut E, first: &str, asked: Numbers) -> Result<(), FrameFault>
     ensures { PutsText E.Sink result (first.now ++ numbers_text asked) faults }
 {
@@ -413,7 +413,7 @@ fn put_asked<E: Sink>(faults: &mut E, first: &str, asked: Numbers) -> Result<(),
     }
 }
 
-/// Writes rules in words, and others behind a text.
+/// Writes rules in words, and others after a text.
 fn put_both_numbers<E: Sink>(
     faults: &mut E,
     both: Mismatch,
@@ -427,7 +427,7 @@ fn put_both_numbers<E: Sink>(
     }
 }
 
-/// Writes a path between two texts, and then rules in words and others behind a text.
+/// Writes a path between two texts, and then rules in words and others after a text.
 fn put_rules<E: Sink>(
     faults: &mut E,
     first: &str,
@@ -444,7 +444,7 @@ fn put_rules<E: Sink>(
     }
 }
 
-/// Writes that the rules of a file of this path are others.
+/// Writes that a file of this path has other rules.
 fn put_mismatch<E: Sink>(
     faults: &mut E,
     numbers: Option<Mismatch>,
@@ -470,18 +470,18 @@ fn put_mismatch<E: Sink>(
     }
 }
 
-/// What is reported of a file whose records have no head, behind its path.
+/// What is reported of a file whose records have no head, after its path.
 const NO_HEAD: &str = " has a first record that is no ledger's head; restore a backup";
 
-/// What is reported of a request, behind its fault's name.
+/// What is reported of a request, after its fault's name.
 const REFUSED: &str =
     ": the next request on standard input is refused; those before it were answered";
 
-/// What is to be done where no space is left.
+/// What to do if no space is left.
 const FULL: &str =
     ": the disk is full, or the file has its greatest length; free space, and start again";
 
-/// What is reported of a file that is gone, behind its path.
+/// What is reported of a file that is gone, after its path.
 const GONE: &str =
     " is not the file that was opened, or another program cut it; put that file back before the next start";
 
@@ -535,7 +535,7 @@ fn put_rest<E: Sink>(faults: &mut E, fault: KeepCommandFault, path: &str) -> Res
     }
 }
 
-/// Writes a text and the line of a fault behind it.
+/// Writes a text and the line of a fault after it.
 fn put_line<E: Sink>(
     faults: &mut E,
     first: &str,
@@ -557,7 +557,7 @@ pub fn print_fault<E: Sink>(fault: KeepCommandFault, path: &str, faults: &mut E)
     pass(put_line(faults, "tbd: ", fault, path), faults);
 }
 
-/// Writes a number behind a text, and the end of the line.
+/// Writes a number after a text, and the end of the line.
 fn put_end<E: Sink>(faults: &mut E, first: &str, at: u64) -> Result<(), FrameFault>
     ensures { PutsText E.Sink result (line_of (numbered first.now at)) faults }
 {
@@ -567,7 +567,7 @@ fn put_end<E: Sink>(faults: &mut E, first: &str, at: u64) -> Result<(), FrameFau
     }
 }
 
-/// Writes two numbers, each behind a text, and the end of the line.
+/// Writes two numbers, each after a text, and the end of the line.
 fn put_cut<E: Sink>(
     faults: &mut E,
     first: &str,
@@ -608,7 +608,7 @@ fn put_fault_at<E: Sink>(
     }
 }
 
-/// Writes what is damaged in a file of this path, what is to be done, and the end of the line.
+/// Writes what is damaged in a file of this path, what to do about it, and the end of the line.
 fn put_damage_line<E: Sink>(
     faults: &mut E,
     damage: Damage,
@@ -623,14 +623,14 @@ fn put_damage_line<E: Sink>(
     }
 }
 
-/// Prints what is damaged in the file of a path, and what is to be done, in one line.
+/// Prints what is damaged in the file of a path, and what to do about it, in one line.
 pub fn print_damage<E: Sink>(damage: Damage, path: &str, next: &str, faults: &mut E)
     ensures { Says E.Sink (damage_line damage path.now next.now) faults.old faults.new }
 {
     pass(put_damage_line(faults, damage, path, next), faults);
 }
 
-/// What is wrong with an entry: a text, its number and another text, and a name behind them.
+/// What is wrong with an entry: a text, its number and another text, and a name after them.
 #[derive(Clone, Copy)]
 pub struct WrongEntry<'a> {
     pub before: &'a str,
@@ -639,7 +639,7 @@ pub struct WrongEntry<'a> {
     pub name: &'a str,
 }
 
-/// Writes a number, a text and a name, and what is to be done.
+/// Writes a number, a text and a name, and what to do about it.
 fn put_wrong_number<E: Sink>(
     faults: &mut E,
     wrong: &WrongEntry,
@@ -653,7 +653,7 @@ fn put_wrong_number<E: Sink>(
     }
 }
 
-/// Writes what is wrong with an entry in a file of this path, and what is to be done.
+/// Writes what is wrong with an entry in a file of this path, and what to do about it.
 fn put_wrong_entry<E: Sink>(
     faults: &mut E,
     wrong: &WrongEntry,
@@ -683,7 +683,7 @@ fn put_wrong_line<E: Sink>(
     }
 }
 
-/// Prints what is wrong with an entry in the file of a path, and what is to be done, in one line.
+/// Prints what is wrong with an entry in the file of a path, and what to do about it, in one line.
 pub fn print_wrong<E: Sink>(wrong: &WrongEntry, path: &str, next: &str, faults: &mut E)
     ensures { Says E.Sink (line_of (wrong_text wrong.now path.now next.now)) faults.old faults.new }
 {
@@ -697,21 +697,21 @@ pub fn print_named<E: Sink>(first: &str, path: &str, last: &str, faults: &mut E)
     pass(put_path(faults, first, path, last), faults);
 }
 
-/// Prints a number behind a text, in one line.
+/// Prints a number after a text, in one line.
 pub fn print_number<E: Sink>(first: &str, number: u64, faults: &mut E)
     ensures { Says E.Sink (line_of (numbered first.now number)) faults.old faults.new }
 {
     pass(put_end(faults, first, number), faults);
 }
 
-/// Prints a number behind a text and what is wrong there, in one line.
+/// Prints a number after a text and what is wrong there, in one line.
 pub fn print_place<E: Sink>(first: &str, place: u64, what: &str, faults: &mut E)
     ensures { Says E.Sink (place_line first.now place what.now) faults.old faults.new }
 {
     pass(put_fault_at(faults, first, place, what), faults);
 }
 
-/// Prints what is wrong behind a text, in one line.
+/// Prints what is wrong after a text, in one line.
 pub fn print_text<E: Sink>(first: &str, what: &str, faults: &mut E)
     ensures { Says E.Sink (first.now ++ line_of what.now) faults.old faults.new }
 {
@@ -721,7 +721,7 @@ pub fn print_text<E: Sink>(first: &str, what: &str, faults: &mut E)
 /// What is between the two numbers.
 const BEHIND: &str = " bytes of a batch that was not committed, behind byte ";
 
-/// Prints how many bytes a start cut off behind the records, which end at this place; nothing where there were none.
+/// Prints how many bytes a start cut off after the records, which end at this place; nothing if it cut none off.
 #[tactic(auto, using(crate::proofs::Passing::said))]
 pub fn print_cut<E: Sink>(bytes: u64, at: u64, faults: &mut E)
     ensures { PrintsCut bytes at (E.output faults.old) (E.output faults.new) }
@@ -731,7 +731,7 @@ pub fn print_cut<E: Sink>(bytes: u64, at: u64, faults: &mut E)
     }
 }
 
-/// Writes words, a space before each.
+/// Writes arguments, a space before each.
 fn put_words<E: Sink>(faults: &mut E, words: &[String]) -> Result<(), FrameFault>
     ensures { PutsText E.Sink result (shown_words (map string_bytes words.now)) faults }
 {
@@ -754,7 +754,7 @@ fn put_what<E: Sink>(faults: &mut E, what: &str) -> Result<(), FrameFault>
     }
 }
 
-/// Writes a text and what is wrong behind it.
+/// Writes a text and what is wrong after it.
 fn put_behind<E: Sink>(faults: &mut E, first: &str, what: &str) -> Result<(), FrameFault>
     ensures { PutsText E.Sink result (first.now ++ line_of what.now) faults }
 {
@@ -764,7 +764,7 @@ fn put_behind<E: Sink>(faults: &mut E, first: &str, what: &str) -> Result<(), Fr
     }
 }
 
-/// Writes words and what is wrong with them.
+/// Writes arguments and what is wrong with them.
 fn put_said<E: Sink>(
     faults: &mut E,
     shown: &[String],
@@ -779,7 +779,7 @@ fn put_said<E: Sink>(
     }
 }
 
-/// Writes a text, and the rest of the line of words that are none of the program's forms.
+/// Writes a text, and the rest of the line of arguments that match no form of the program.
 fn put_wrong<E: Sink>(
     faults: &mut E,
     first: &str,
@@ -794,7 +794,7 @@ fn put_wrong<E: Sink>(
     }
 }
 
-/// Reports that a file of this path was made, where it had no bytes; nothing where it had so many.
+/// Reports that a file of this path was made, if it had no bytes; otherwise nothing.
 pub fn print_made<E: Sink>(len: usize, path: &str, faults: &mut E)
     ensures { PrintsMade len path.now (E.output faults.old) (E.output faults.new) }
 {
@@ -844,7 +844,7 @@ pub(crate) fn print_read<E: Sink>(path: &str, read: u64, all: u64, faults: &mut 
     );
 }
 
-/// Reports that a start begins to read a file of this path and so many bytes, where starts are reported and the file is long.
+/// Reports that a start begins to read a file of this path and this many bytes, if starts are reported and the file is long.
 #[tactic(auto, using(crate::proofs::Passing::said))]
 pub(crate) fn print_reading<E: Sink>(reports: bool, path: &str, len: usize, faults: &mut E)
     ensures { PrintsReading reports path.now len (E.output faults.old) (E.output faults.new) }
@@ -854,7 +854,7 @@ pub(crate) fn print_reading<E: Sink>(reports: bool, path: &str, len: usize, faul
     }
 }
 
-/// Reports that a start is done, and the last commit and its time, where starts are reported.
+/// Reports that a start is done, and the last commit and its time, if starts are reported.
 #[tactic(auto, using(crate::proofs::Passing::said))]
 pub(crate) fn print_ready<E: Sink>(reports: bool, commit: u64, time: u64, faults: &mut E)
     ensures { PrintsReady reports commit time (E.output faults.old) (E.output faults.new) }
@@ -871,7 +871,7 @@ pub(crate) fn print_ready<E: Sink>(reports: bool, commit: u64, time: u64, faults
 const FRAMES: &str =
     "tbd: standard input is a terminal, and run reads request frames there; telovamish repl and telovamish script take words";
 
-/// Says where words are read, where requests would come from a terminal.
+/// Reports which programs read words, if requests would come from a terminal.
 pub(crate) fn print_frames<E: Sink>(talks: bool, faults: &mut E)
     ensures { PrintsFrames talks (E.output faults.old) (E.output faults.new) }
 {
@@ -880,7 +880,7 @@ pub(crate) fn print_frames<E: Sink>(talks: bool, faults: &mut E)
     }
 }
 
-/// The first words, up to so many.
+/// The first arguments, up to this many.
 fn first_words(words: &[String], count: usize) -> &[String]
     ensures { map string_bytes result.now ≡ take count (map string_bytes words.now) }
 {
@@ -891,7 +891,7 @@ fn first_words(words: &[String], count: usize) -> &[String]
     }
 }
 
-/// Writes the line of words that are wrong so.
+/// Writes the line of arguments that are wrong in this way.
 fn put_usage<E: Sink>(faults: &mut E, words: &[String], wrong: Wrong) -> Result<(), FrameFault>
     ensures { PutsText E.Sink result (wrong_line wrong (map string_bytes words.now)) faults }
 {
@@ -899,7 +899,7 @@ fn put_usage<E: Sink>(faults: &mut E, words: &[String], wrong: Wrong) -> Result<
     put_wrong(faults, "tbd: Usage:", shown, wrong.fault.text())
 }
 
-/// Prints what is wrong with words: without words, the page of usage.
+/// Prints what is wrong with arguments; the page of usage if there are none.
 #[tactic(auto, using(crate::proofs::Passing::said))]
 fn print_usage<E: Sink>(words: &[String], wrong: Wrong, faults: &mut E)
     ensures { Says E.Sink (usage_lines wrong (map string_bytes words.now)) faults.old faults.new }
@@ -910,7 +910,7 @@ fn print_usage<E: Sink>(words: &[String], wrong: Wrong, faults: &mut E)
     }
 }
 
-/// Prints what is wrong with words, and returns the exit status. A failure to write it changes none.
+/// Prints what is wrong with arguments, and returns the exit status. A failure to write it does not change that.
 pub fn refuse_words<E: Sink>(words: &[String], wrong: Wrong, faults: &mut E) -> u8
     ensures value { result ≡ 2 }
     ensures printed { Says E.Sink (usage_lines wrong (map string_bytes words.now)) faults.old faults.new }
@@ -919,7 +919,7 @@ pub fn refuse_words<E: Sink>(words: &[String], wrong: Wrong, faults: &mut E) -> 
     KeepCommandFault::Usage.exit_status()
 }
 
-/// Prints a fault of no file, and returns its exit status.
+/// Prints a fault that is about no file, and returns its exit status.
 pub fn refuse<E: Sink>(fault: KeepCommandFault, faults: &mut E) -> u8
     ensures value { result ≡ file_exit_status fault }
     ensures printed { Says E.Sink (file_fault_line fault []) faults.old faults.new }

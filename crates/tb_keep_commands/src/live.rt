@@ -5,30 +5,30 @@ ghost use Rattle.tb_keep_commands.specs.Live.{IsWholeLength, MeasuresWhole, Refr
 
 use tb_journal::{Device, Growing, JournalFault, Memory, Snapshot};
 
-/// A file that is read as it was at some moment, while another program may append to it. What it holds begins each later moment of
-/// the file, unless the machine lost power meanwhile (`tb_journal::laws`).
+/// A file that is read as it was at some moment, while another program may append to it. At each later moment the file extends what it holds,
+/// unless the machine lost power meanwhile (`tb_journal::laws`).
 pub trait Live: Device {
-    /// These are the bytes of the whole file at this moment, those too that are behind what the device holds.
+    /// These are the bytes of the whole file at this moment, including those after what the device holds.
     ghost whole: { Self → List ℕ → Type 0 };
 
     /// The number of bytes of the whole file now.
     fn file_len(&mut self) -> Result<usize, JournalFault>
         ensures long { MeasuresWhole whole result self.old self.new }
-        // Of any device: what it holds begins the file whose length that is.
+        // On any device: the file of this length extends what it holds.
         ensures extends { (file : List ℕ) → Self.holds self.old file → IfOk result (IsWholeLength file) }
-        // Of a device that reports what its calls do: nobody else appends to that.
+        // On a device that reports what its calls do: nobody else appends to it.
         ensures told { Self.tells → IfOk result (λ len. len ≡ length (Self.disk self.old).seen) }
         ensures same { (file : List ℕ) → Self.holds self.old file → Self.holds self.new file }
         ensures names { IfErr result IsOfCall }
         ensures looks { Self.tells → Looks result (Self.disk self.old) (Self.disk self.new) };
 
-    /// Goes on to what has been committed by now: to all that the whole file represented at some moment of the call. On a fault it
-    /// holds what it held.
+    /// Goes on to what has been committed by now: to all that the whole file represented at some moment of the call. On a fault it still holds
+    /// what it held.
     fn refresh(&mut self) -> Result<(), JournalFault>
         ensures later { RefreshesHeld whole Self.holds result self.old self.new }
         ensures looks { Self.tells → Looks result (Self.disk self.old) (Self.disk self.new) };
 
-    /// From now on a read gives the bytes of the whole file, those behind what the device held too.
+    /// From now on a read returns the bytes of the whole file, including those after what the device held.
     fn look_behind(&mut self)
         ensures whole { (file : List ℕ) → whole self.old file → whole self.new file }
         ensures all { (file : List ℕ) → Self.holds self.new file → whole self.new file }

@@ -20,7 +20,7 @@ fn mend(at: usize, bytes: &mut [u8])
     }
 }
 
-/// A file that is read alone, and whose first bytes are read as those of a journal, whatever they are.
+/// A file that is only read, and whose first bytes are read as those of a journal, whatever they are.
 #[derive(Drop)]
 pub struct Mended<D> {
     device: D,
@@ -60,7 +60,7 @@ impl<D: Device + Drop> Device for Mended<D> {
         self.device.len()
     }
 
-    // It is read alone.
+    // It is only read.
     fn write_at(&mut self, at: usize, bytes: &[u8]) -> Result<(), JournalFault> {
         Err(JournalFault::Failed)
     }

@@ -45,8 +45,8 @@ fn readable<D: Device>(alloc: Global, device: &mut D) -> Result<Extent, OpenFaul
     }
 }
 
-/// The number of the record at this offset, which is that of its entry: so many records are before it. The file is read up to there;
-/// None where that fails, or the file is no longer damaged there.
+/// The number of the record at this offset, which is that of its entry: how many records are before it. The file is read up to there; None if
+/// that fails, or if the file is no longer damaged there.
 pub fn entry_at<D: Device>(alloc: Global, device: &mut D, at: usize) -> Option<u64>
     ensures { IsEntryAt D.Device at result device.old device.new }
 {
@@ -62,7 +62,7 @@ pub fn entry_at<D: Device>(alloc: Global, device: &mut D, at: usize) -> Option<u
     }
 }
 
-/// The fault of a journal of this kind whose first record is no ledger's head, or that has none.
+/// The fault of a journal of this kind that has no record, or whose first one is no ledger's head.
 fn headless_fault(kind: Kind) -> KeepCommandFault
     ensures { result ≡ headless_fault kind }
 {
@@ -73,7 +73,7 @@ fn headless_fault(kind: Kind) -> KeepCommandFault
     }
 }
 
-/// The same, of which the first bytes are read.
+/// The same, after the first bytes are read.
 fn headless<D: Device>(device: &mut D) -> KeepCommandFault
     ensures { NamesHeadless D.Device result device.old device.new }
 {
@@ -115,7 +115,7 @@ pub(crate) fn named<D: Device>(alloc: Global, device: &mut D, fault: StartFault)
     }
 }
 
-/// The rules that a file was made with, next to those that were asked for; None where they are not read.
+/// The rules that a file was made with, and those that were asked for; None if they are not read.
 fn made_with<D: Device>(alloc: Global, device: &mut D, asked: Rules) -> Option<Mismatch>
     ensures { IsMadeWith D.Device asked result device.old device.new }
 {
@@ -128,7 +128,7 @@ fn made_with<D: Device>(alloc: Global, device: &mut D, asked: Rules) -> Option<M
     }
 }
 
-/// The same of a file over which a ledger of these rules was asked for.
+/// The fault of a file that is refused, over which a ledger of these rules was asked for.
 pub(crate) fn named_asked<D: Device>(
     alloc: Global,
     device: &mut D,

@@ -14,7 +14,7 @@ use tb_journal::{Device, FileFault, JournalFault};
 pub enum OpeningFault {
     /// Another process has it open.
     Locked,
-    /// There is none of this name, or no folder for it.
+    /// There is no file of this name, or no folder for it.
     Missing,
     /// This user may not open it.
     Forbidden,
@@ -26,7 +26,7 @@ pub enum OpeningFault {
     NoMemory,
     /// A sync of it failed.
     SyncFailed,
-    /// There is one of this name, and it was to be made.
+    /// There is a file of this name, and it was to be made.
     Exists,
     /// It is a folder, a pipe or a device of the system.
     NotAFile,
@@ -66,7 +66,7 @@ pub fn opening_fault(fault: &FileFault) -> OpeningFault
     }
 }
 
-/// The fault of a file that was opened, where its length or its first bytes are not read.
+/// The fault of a file that was opened, but whose length or first bytes are not read.
 pub fn unread_fault(fault: JournalFault) -> OpeningFault
     ensures { result ≡ unread_fault fault }
 {
@@ -81,51 +81,51 @@ pub trait Opener {
     /// A file that is served, or made: nobody else serves it meanwhile.
     type File: Device + Drop;
 
-    /// A file that is read alone, as it was at some moment: another program may serve it meanwhile.
+    /// A file that is only read, as it was at some moment: another program may serve it meanwhile.
     type Reading: Live + Drop;
 
-    /// An opening may answer this, where what is not there is made. Anything, where an opener does not say it.
+    /// What `make` may return: it makes a missing file. Anything, if an opener does not define it.
     ghost makes: { Self → List ℕ → Result Self.File OpeningFault → Self → Type 0 } = { λ before name answer after. Unit {0} };
 
-    /// The same of one that is there, to be served.
+    /// What `take` may return: the file exists, and is to be served.
     ghost takes: { Self → List ℕ → Result Self.File OpeningFault → Self → Type 0 } = { λ before name answer after. Unit {0} };
 
-    /// It may be answered this, where it is asked why a call failed.
+    /// What `reason` may return: it says why a call failed.
     ghost reasons: { Self → Option Reason → Type 0 } = { λ opener answer. Unit {0} };
 
-    /// An opening may answer this, where nothing is made.
+    /// What `open` may return: it makes nothing.
     ghost opens: { Self → List ℕ → Result Self.Reading OpeningFault → Self → Type 0 } = { λ before name answer after. Unit {0} };
 
-    /// A making may answer this, of one that is not there.
+    /// What `make_new` may return: it makes a file that does not exist.
     ghost makes_new: { Self → List ℕ → Result Self.File OpeningFault → Self → Type 0 } = { λ before name answer after. Unit {0} };
 
-    /// Nobody waits for more commits. Anything, where an opener does not say it.
+    /// Nobody waits for more commits. Anything, if an opener does not define it.
     ghost ended: { Self → Type 0 } = { λ opener. Unit {0} };
 
-    /// Opens the device of this name, and makes it where there is none. No sync has failed on it.
+    /// Opens the device of this name, and makes it if it is missing. No sync has failed on it.
     fn make(&mut self, name: &str) -> Result<Self::File, OpeningFault>
         ensures made { makes self.old name.now result self.new }
         ensures sound { Self.File.tells → IfOk result (λ device. (Self.File.disk device).sound ≡ true) };
 
-    /// Opens the device of this name, which is there and has bytes. No sync has failed on it.
+    /// Opens the device of this name, which exists and has bytes. No sync has failed on it.
     fn take(&mut self, name: &str) -> Result<Self::File, OpeningFault>
         ensures taken { takes self.old name.now result self.new }
         ensures sound { Self.File.tells → IfOk result (λ device. (Self.File.disk device).sound ≡ true) };
 
-    /// Why a call on a device that it made or took failed, where it knows more than the call's fault says.
+    /// Why a call on a device that it made or took failed, if it knows more than the call's fault says.
     fn reason(&self) -> Option<Reason>
         ensures { reasons self.now result };
 
-    /// Makes the device of this name, which is not there: where it is, the answer is Exists. No sync has failed on it.
+    /// Makes the device of this name, which must not exist: if it does, Exists is returned. No sync has failed on it.
     fn make_new(&mut self, name: &str) -> Result<Self::File, OpeningFault>
         ensures made { makes_new self.old name.now result self.new }
         ensures sound { Self.File.tells → IfOk result (λ device. (Self.File.disk device).sound ≡ true) };
 
-    /// Opens the device of this name, which is there, for reading alone.
+    /// Opens the device of this name, which exists, only for reading.
     fn open(&mut self, name: &str) -> Result<Self::Reading, OpeningFault>
         ensures { opens self.old name.now result self.new };
 
-    /// Waits a moment for more commits; false where nobody waits for any.
+    /// Waits a moment for more commits; false if nobody waits for any.
     fn pause(&self) -> bool
         ensures { result ≡ false → ended self.now };
 }

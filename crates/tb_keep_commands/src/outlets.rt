@@ -1,4 +1,4 @@
-//! Writers that say at their end whether all that was put went out.
+//! Writers that say at their end whether all that was put was sent.
 ghost use Rattle.std.specs.Prelude.{◌≡◌, [], IfOk, MatchResult};
 ghost use Rattle.std.specs.Io.Buffered.{writer_buffer, writer_contents};
 ghost use Rattle.tb_keep_commands.specs.Outlets.{SendsHeld, outgoing, took, failed};
@@ -7,12 +7,12 @@ use std::io::{self, BufWriter, Write};
 use std::marker::Model;
 use tb_records::{FrameFault, Sink};
 
-/// A writer that says at its end whether all that was put went out.
+/// A writer that says at its end whether all that was put was sent.
 pub trait Outlet: Sink {
     /// Nothing of what was put is held back.
     ghost gone: { Self → Type 0 };
 
-    /// Sends what is held back. Device where it does not go out.
+    /// Sends what is held back. Device if that fails.
     fn finish(&mut self) -> Result<(), FrameFault>
         ensures sent { SendsHeld result (Self.output self.old) (Self.output self.new) }
         ensures gone { IfOk result (λ _. gone self.new) };
@@ -23,9 +23,9 @@ pub trait Outlet: Sink {
 pub struct Outgoing<W: Write + Drop> {
     inner: BufWriter<W>,
     failures: u64,
-    // How often nothing was taken of bytes that were put.
+    // How often none of the bytes that were put were taken.
     stalls: u64,
-    // Says that the last answer was an error, or that nothing was taken.
+    // Says that the last call failed, or took nothing.
     halted: bool,
     // Says that bytes were taken since the last time that they were passed on.
     held: bool,
@@ -62,7 +62,7 @@ impl<W: Write + Drop> Outgoing<W> {
         }
     }
 
-    /// Counts an answer that is no error.
+    /// Counts a result that is no error.
     fn take(&mut self, count: usize, offered: usize)
         ensures { self.new ≡ took count offered self.old }
     {

@@ -1,4 +1,4 @@
-//! A file that is compared with what its name leads to, and of which nothing is cut off before it is set aside.
+//! A file that is compared with what its name leads to, and whose bytes are set aside before they are cut off.
 ghost use Rattle.std.specs.Prelude.{◌≡◌, ◌+◌, ◌-◌, ◌≤◌, ◌<◌, ◌^◌, Bool, true, false, ℕ, List, max, min, drop, length, IfOk, IfErr, OnOk};
 ghost use Rattle.tb_journal.specs.Real.{untold};
 ghost use Rattle.tb_journal.specs.Device.{IsOfCall, IsOfSync, SetsAside};
@@ -8,18 +8,17 @@ use tb_journal::{Device, JournalFault, Real};
 
 /// What a name leads to, and where bytes of the file of that name are set aside.
 pub trait Place {
-    /// It was asked meanwhile, and the name led to the file that was opened, which had so many bytes. Anything, where a place does not
-    /// say it.
+    /// It was asked meanwhile, and the name led to the file that was opened, which had this many bytes. Anything, if a place does not define it.
     ghost led: { Self → ℕ → Self → Type 0 } = { λ before len after. Unit {0} };
 
-    /// These bytes, which were in the file from this offset on, were set aside. Anything, where a place does not say it.
+    /// These bytes, which were in the file from this offset on, were set aside. Anything, if a place does not define it.
     ghost aside: { ℕ → List ℕ → Type 0 } = { λ at bytes. Unit {0} };
 
-    /// Says whether the name leads to the file that was opened, and that has so many bytes.
+    /// Says whether the name leads to the file that was opened, and the file has this many bytes.
     fn leads(&mut self, len: usize) -> bool
         ensures { result ≡ true → led self.old len self.new };
 
-    /// Sets bytes of the file aside, which are there from this offset on and are to be cut off.
+    /// Sets aside bytes of the file, which are there from this offset on and are to be cut off.
     fn set_aside(&mut self, at: usize, bytes: &[u8]) -> Result<(), JournalFault>
         ensures names { IfErr result IsOfCall }
         ensures aside { OnOk result (aside at bytes.now) }
@@ -35,8 +34,7 @@ impl Silent for Real {
     ghost silent = { λ told. told };
 }
 
-/// The bytes of a file from an offset on, of one that has no more than so many. Failed where it has more, and Memory where there
-/// is none for them.
+/// The bytes of a file from an offset on, if the file has at most `len` bytes. Failed if it has more, and Memory if there is no memory for them.
 fn bytes_from<D: Device>(
     alloc: Global,
     device: &mut D,
@@ -56,25 +54,25 @@ fn bytes_from<D: Device>(
     Ok(bytes)
 }
 
-/// A file that is compared with what its name leads to, before each cut, and behind a sync of bytes that were written over others.
-/// Before a write that lengthens it only its own length is asked for, which another program may have cut. Where they differ the call
-/// fails, and so does each later one. What a cut takes off is set aside before.
+/// A file that is compared with what its name leads to, before each cut, and after a sync of bytes that were written over others. Before a write
+/// that lengthens the file only its length is checked, because another program may have cut it. If they differ, the call fails, and so does each
+/// later one. What a cut takes off is set aside before.
 ///
-/// A journal commits by a write over an open latch, and syncs it: so each commit rests on a look at the name behind it.
+/// A journal commits by a write over an open latch, and syncs it: so each commit rests on a look at the name after that sync.
 #[derive(Drop)]
 pub struct Named<D, P> {
     alloc: Global,
     device: D,
     place: P,
-    // The bytes that the file had when it was opened, or that the calls since have left.
+    // How many bytes the file had when it was opened, or has after the calls since then.
     len: usize,
     gone: bool,
-    // Bytes were written over others, and the name was not looked at behind a sync of them.
+    // Bytes were written over others, and the name was not looked at after a sync of them.
     due: bool,
 }
 
 impl<D: Silent + Drop, P: Place + Drop> Named<D, P> {
-    /// An open file, and what its name leads to. Failed, or Memory, where its length cannot be asked for.
+    /// An open file, and what its name leads to. Failed, or Memory, if its length cannot be read.
     pub fn new(alloc: Global, device: D, place: P) -> Result<Named<D, P>, JournalFault>
         ensures names { IfErr result IsOfCall }
         ensures place { IfOk result (λ named. named.place ≡ place) }
@@ -94,7 +92,7 @@ impl<D: Silent + Drop, P: Place + Drop> Named<D, P> {
         })
     }
 
-    /// Says whether the name leads to the file still, as it did each time before.
+    /// Says whether the name still leads to the file, as it did each time before.
     fn look(&mut self) -> bool
         ensures device { self.new.device ≡ self.old.device }
         ensures len { self.new.len ≡ self.old.len }
@@ -110,8 +108,7 @@ impl<D: Silent + Drop, P: Place + Drop> Named<D, P> {
         !self.gone
     }
 
-    /// Compares the length of the file with what the calls left. Where it is another one, the name is looked at too, so that it is
-    /// said what is wrong.
+    /// Compares the length of the file with what the calls left. If it differs, the name is looked at too, so that the fault says what is wrong.
     fn check_length(&mut self) -> Result<(), JournalFault>
         ensures same { (file : List ℕ) → D.holds self.old.device file → D.holds self.new.device file }
         ensures whole { (file : List ℕ) → D.holds self.old.device file → OnOk result (length file ≡ self.old.len) }
@@ -132,7 +129,7 @@ impl<D: Silent + Drop, P: Place + Drop> Named<D, P> {
         Ok(())
     }
 
-    /// Sets aside what is in the file from an offset on; false where nothing is.
+    /// Sets aside what is in the file from an offset on; false if nothing is there.
     fn set_aside(&mut self, at: usize) -> Result<bool, JournalFault>
         ensures aside { (file : List ℕ) → D.holds self.old.device file → OnOk result (SetsAside P.aside at file) }
         ensures names { IfErr result IsOfCall }

@@ -1,4 +1,4 @@
-//! A path or a word of the command line as a line of standard error shows it.
+//! A path or an argument as a line of standard error shows it.
 ghost use Rattle.std.specs.Prelude.{◌≡◌};
 ghost use Rattle.tb_keep_commands.specs.Printable.{printable, printable_char};
 ghost use Rattle.tb_keep_commands.specs.private.Changes.{PutsText};

@@ -12,7 +12,7 @@ use tb_records::Sink;
 /// The bytes between two reports.
 const STEP_BYTES: usize = 64 * MEGABYTE;
 
-/// A file that reports how far it was read, each 64 MB. It is the file in all else.
+/// A file that reports how far it was read, each 64 MB. Otherwise it is that file.
 #[derive(Drop)]
 pub struct Reported<D, E> {
     device: D,
@@ -24,8 +24,8 @@ pub struct Reported<D, E> {
 }
 
 impl<D: Device + Drop, E: Sink + Drop> Reported<D, E> {
-    /// A file of this path, and where its reports go; none where they are not wanted. Failed, or Memory, where its length cannot be
-    /// asked for or there is no memory.
+    /// A file of this path, and the writer of its reports, if they are wanted. Failed, or Memory, if its length cannot be read or there is no
+    /// memory.
     pub fn new(
         alloc: Global,
         device: D,
@@ -53,7 +53,7 @@ impl<D: Device + Drop, E: Sink + Drop> Reported<D, E> {
         })
     }
 
-    /// Reports how far the file was read, where that is due.
+    /// Reports how far the file was read, if that is due.
     fn report(&mut self, at: usize)
         ensures same { self.new.device ≡ self.old.device }
         ensures reports { ReportsProgress E.Sink at self.old self.new }

@@ -1,4 +1,4 @@
-//! What is reported of a file that was copied into a new one, and read on behind its damage.
+//! What is reported of a file that was copied into a new one, and read on after its damage.
 ghost use Rattle.std.specs.Prelude.{◌≡◌};
 ghost use Rattle.tb_keep_commands.specs.Copies.{rescued_of};
 
@@ -7,12 +7,12 @@ use std::fmt;
 use tb_journal::Device;
 use tb_keep::{Keeper, ReadOn};
 
-/// What was copied of a file, and read on behind its damage.
+/// What was copied of a file, and read on after its damage.
 #[derive(Clone, Copy)]
 pub struct Rescued {
     /// All entries, and what is lost.
     pub copied: Copied,
-    /// How many of them were read behind the damage.
+    /// How many of them were read after the damage.
     pub more: u64,
     /// The offset of the first of these.
     pub first: usize,

@@ -1,11 +1,11 @@
-//! A writer whose calls are made again where a signal interrupts them.
+//! A writer whose calls are repeated if a signal interrupts them.
 ghost use Rattle.std.specs.Prelude.{take, IfOk, OnErr};
 ghost use Rattle.std.specs.Io.{WritesAtMost};
 ghost use Rattle.std.specs.Io.KnownBytes.{Appends, Keeps};
 
 use std::io::{self, ErrorKind, Write};
 
-/// A writer whose calls are made again where a signal interrupts them: one that it interrupted has written nothing.
+/// A writer whose calls are repeated if a signal interrupts them: a call that it interrupted has written nothing.
 #[derive(Drop)]
 pub struct Steady<W> {
     inner: W,
@@ -18,7 +18,7 @@ impl<W: Write + Drop> Steady<W> {
     }
 }
 
-/// Writes some bytes, again as long as a signal interrupts the call.
+/// Writes some bytes, and repeats the call as long as a signal interrupts it.
 fn write_again<W: Write>(writer: &mut W, bytes: &[u8]) -> io::Result<usize>
     ensures bound { WritesAtMost result bytes.now }
     ensures ok { IfOk result (λ n. Appends (W.contents writer.old) (W.contents writer.new) (take n bytes.now)) }
@@ -36,7 +36,7 @@ fn write_again<W: Write>(writer: &mut W, bytes: &[u8]) -> io::Result<usize>
     Err(io::Error::from(ErrorKind::Interrupted))
 }
 
-/// Flushes, again as long as a signal interrupts the call.
+/// Flushes, and repeats the call as long as a signal interrupts it.
 fn flush_again<W: Write>(writer: &mut W) -> io::Result<()>
     ensures bytes { Keeps (W.contents writer.old) (W.contents writer.new) }
 {

@@ -20,7 +20,7 @@ pub(crate) struct Found {
 }
 
 impl Found {
-    /// What is in such a file of so many bytes, which was read quickly or as one history.
+    /// What is in such a file of this many bytes, which was read quickly or as one history.
     pub fn summary(self, len: usize, quick: bool) -> Summary
         ensures { result ≡ summary_of self len quick }
     {
@@ -44,7 +44,7 @@ pub struct Summary {
     pub entries: u64,
     /// The time of the last entry, in nanoseconds.
     pub time: u64,
-    /// The bytes behind the records: not committed yet, or torn. A start would cut them off.
+    /// The bytes after the records: not committed yet, or torn. A start would cut them off.
     pub behind: usize,
     /// Whether the entries were replayed, or only their numbers and times checked.
     pub replayed: bool,
@@ -60,7 +60,7 @@ pub(crate) fn profile_number(profile: Profile) -> u8
     }
 }
 
-/// What so many bytes behind the records are.
+/// What this many bytes after the records are.
 pub(crate) fn behind_text(bytes: usize) -> &'static str
     ensures { result.now ≡ behind_text bytes }
 {

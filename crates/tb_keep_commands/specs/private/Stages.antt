@@ -1,4 +1,4 @@
--- What the private functions behind a command do, as they have its parts.
+-- What the private functions of a command do, with its parts as their arguments.
 use Rattle.std.specs.Prelude.{ℕ, Bool, true, List, [], OnOk}
 use Rattle.tb_records.specs.Transport.{Output}
 use Rattle.tb_records.specs.declared.devices.Sink as sinks
@@ -18,7 +18,7 @@ use Rattle.tb_keep_commands.specs.Following.{EndsRounds, WritesGrown, GrowsBy, H
 use Rattle.tb_keep_commands.specs.Live.{LooksAgain}
 use Rattle.tb_keep_commands.specs.Outcomes.{DumpsPart, DumpsFollowing, FileOutcome, ServesFile, ServesKept, ServesLong, ServesOpened, file_of}
 
--- a start that is reported so
+-- a start that has this outcome
 module _ {D : Type 0} (its : devices.Ghosts D) (outcome : FileOutcome) where
   abbrev pub KeepsOver : Keeping D → FileStart → ℕ → Streams → Streams → Type 0
   KeepsOver keeper start len = ServesKept its outcome keeper start.path.now start.reports len
@@ -29,11 +29,11 @@ module _ {D : Type 0} (its : devices.Ghosts D) (outcome : FileOutcome) where
   abbrev pub RunsFile : Rules → FileStart → D → Streams → Streams → Type 0
   RunsFile rules start device = ServesFile its outcome (file_of rules start) start.reports device
 
--- what is written of a file of so many bytes that was copied, or why it is refused
+-- what is written about a file of this many bytes that was copied, or why it is refused
 abbrev pub EndsSalvage : {E N : Type 0} → devices.Ghosts E → ℕ → Bool → Salvaged N → FileOutcome → FileOutput E → FileOutput E → Type 0
 EndsSalvage its len whole salvaged outcome = EndsCopy its (refused_by whole salvaged.stop) (copied_of len salvaged) outcome
 
--- the part of a dump that was asked for, of what a device holds
+-- the part of a dump that was asked for, from what a device holds
 module _ {D W : Type 0} (its : devices.Ghosts D) (sink : sinks.Ghosts W) (Ended : Type 0) (part : Part) (outcome : FileOutcome) where
   abbrev pub DumpsAsked : Change D → Change W → Type 0
   DumpsAsked device writer = OnDevice sink (DumpsPart its Ended part.after part.follows outcome) device writer
@@ -68,27 +68,27 @@ module _ {O D E R W L : Type 0} (its : KnownEnds O D E R W L) (rules : Rules) (s
   RunsOpened outcome opener =
       OnEnds its (ServesOpened its.files.file (made_by its.files start.existing (old opener) start.path.now) (new opener) outcome (file_of rules start) start.reports)
 
--- of the entries above a commit number, of whatever file a device holds
+-- the entries above a commit number, of any file that a device holds
 module _ {D W : Type 0} (holds : D → List ℕ → Type 0) (sink : sinks.Ghosts W) (outcome : FileOutcome) where
-  -- of which a scan has read some records: the entries of the others are written
+  -- a scan has read some records of the file: the entries of the others are written
   abbrev pub SendsRest : ℕ → Change ScanState → Change D → Change W → Type 0
   SendsRest after scan device writer =
       (file : List ℕ) (read : List (List ℕ)) → holds (old device) file → HasRead read file (old scan)
       → OnWriter sink (SendsRound outcome after read file (new scan)) writer
 
-  -- one more round, behind those that wrote what went out so far
+  -- one more round, after those that wrote what was sent so far
   abbrev pub SendsMore : ℕ → Change ScanState → Change D → Change W → Type 0
   SendsMore after scan device writer =
       (file : List ℕ) (start : Output) → WritesGrown (holds (old device)) after file (old scan) start (sink.output (old writer))
       → GrowsBy (holds (new device)) outcome after file (new scan) start (sink.output (new writer))
 
-  -- all that are left
+  -- all rounds that are left
   abbrev pub SendsOn : ℕ → Change ScanState → Change D → Change W → Type 0
   SendsOn after scan device writer =
       (file : List ℕ) (start : Output) → WritesGrown (holds (old device)) after file (old scan) start (sink.output (old writer))
       → EndsRounds (holds (new device)) outcome true after file start (sink.output (new writer))
 
-  -- of which a scan has read nothing
+  -- a scan has read nothing of the file
   abbrev pub SendsUnread : Bool → ℕ → Change ScanState → Change D → Change W → Type 0
   SendsUnread follows after scan device writer =
       (file : List ℕ) → holds (old device) file → HasRead [] file (old scan)
@@ -108,7 +108,7 @@ abbrev pub LooksOnOk : {D : Type 0} → (D → List ℕ → Type 0) → (D → L
 LooksOnOk whole holds outcome device =
     (file : List ℕ) → holds (old device) file → OnOk outcome (LooksAgain whole holds (old device) (new device) file)
 
--- why, over a device that reports what its calls do
+-- the cause, over a device that reports what its calls do
 module _ {D : Type 0} (its : devices.Ghosts D) (outcome : FileOutcome) where
   abbrev pub HasRoundCause : Change ScanState → Change D → Type 0
   HasRoundCause scan device =
