@@ -17,7 +17,7 @@ use Rattle.tb_keep_follow.specs.Faults.{started_log_fault}
 use Rattle.tb_keep_follow.specs.Naming.{NamesLogFault}
 use Rattle.tb_keep_follow.specs.Outcomes.{LogOutcome}
 
--- what was copied was printed, where that is not refused
+-- what was copied was printed, if that is not refused
 pub printed : {E : Type 0} (its : devices.Ghosts E) (asked : Option LogStartFault) (c copied : LogCopied) (found : commands.FileOutcome) (outcome : LogOutcome) (from : E) (start written : Output)
     → None ≡ asked → c ≡ copied → PrintsText (log_copied_text c) found start written → outcome ≡ outcome_by Kept found
     → EndsLogCopy its asked copied outcome (record { file = from; sink = start }) (record { file = from; sink = written })

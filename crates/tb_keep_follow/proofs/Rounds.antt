@@ -23,7 +23,7 @@ use Rattle.tb_keep_follow.specs.declared.faults.FollowFault.TheVariants.{Kept}
 use Rattle.tb_keep_follow.specs.Parts.{DumpsRest, EndsLogRounds, WritesGrownLog, GrowsLogBy, HeadGoes, Selection, SendsLogRound, WritesLogPart, dump_point}
 
 module _ (wanted : Selection) where
-  -- one round, of the records behind those that were read
+  -- one round, of the records after those that were read
   module _ (read : List (List ℕ)) (file : List ℕ) (scan : ScanState) (S T : State) (a b c : Output) where
     next_of : (d : Dumped wanted.above wanted.rules.profile wanted.rules.clients_max read file scan S T a b) → AreNext read file d.pairs
     next_of d = record {
@@ -66,7 +66,7 @@ module _ (wanted : Selection) where
       ),
     )
 
-  -- behind those that were written
+  -- after those that were written
   module _ (here left : List ℕ → Type 0) (S : State) (file : List ℕ) (scan next : ScanState) (T U : State) (a b c : Output) (g : WritesGrownLog here wanted file scan (dump_point S a) (dump_point T b)) where
     pub once_more : (now : List ℕ) (result : Result (Unit {0}) FollowFault) → Later g.later now → left now → SendsLogRound result wanted g.dumps.0.records now next (dump_point T b) (dump_point U c)
         → GrowsLogBy left result wanted file next (dump_point S a) (dump_point U c)
@@ -130,7 +130,7 @@ module _ (wanted : Selection) where
       breaks = record { cause = cause; named = named; stops = ends.0; halts = ends.1 };
     }
 
-  -- behind a head, or nothing
+  -- after a head, or nothing
   module _ (here : List ℕ → Type 0) (follows : Bool) (file : List ℕ) (a b c : Output) where
     pub part_sent : (S : State) (result : Result (Unit {0}) FollowFault) → S ≡ start wanted.rules.profile wanted.rules.clients_max → Sent (start_of wanted.above wanted.rules) a b
         → EndsLogRounds here result follows wanted file (dump_point S b) c → WritesLogPart here result follows wanted file a c

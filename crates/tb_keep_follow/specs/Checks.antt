@@ -21,7 +21,7 @@ use Rattle.tb_keep_follow.specs.declared.faults.FollowFault.TheVariants.{Kept}
 use Rattle.tb_keep_follow.specs.Heads.{FindsRules}
 use Rattle.tb_keep_follow.specs.Outcomes.{IsLogReadWhole, IsLogFileRefused, LogOutcome, unopened}
 
--- what is in a file of so many bytes that was read to its end. Those behind the closed latch are not committed yet, or torn
+-- what is in a file of this many bytes that was read to its end. The bytes after the closed latch are not committed yet, or torn
 abbrev pub log_summary_of : Rules → Reached → ℕ → LogSummary
 log_summary_of rules reached len = record {
   summary = record { rules = rules; records = reached.extent.count; entries = reached.commit; time = reached.time; replayed = true; behind = len - reached.extent.end - 4 };
@@ -32,14 +32,14 @@ log_summary_of rules reached len = record {
 abbrev pub log_summary_text : LogSummary → List ℕ
 log_summary_text s = summary_text s.summary ++ (codes "position " ++ (decimal s.position ++ 10 ∷ []))
 
--- a text went out whole, or why not
+-- a text was sent whole, or why not
 pub record ReportsText (text : List ℕ) (outcome : LogOutcome) (start written : Output) : Type 0 where
   pub printed : commands.FileOutcome
   pub prints : PrintsText text printed start written
   pub outcome_is : outcome ≡ outcome_by Kept printed
 
 module _ {D : Type 0} (its : devices.Ghosts D) where
-  -- a file of so many bytes was read to its end before what is in it was printed. Of one that is refused nothing was
+  -- a file of this many bytes was read to its end before what is in it was printed. If it is refused, nothing was printed
   pub record ChecksLongLog (len : ℕ) (outcome : LogOutcome) (rules : Rules) (before after : FileOutput D) : Type 0 where
     pub read : Result Reached LogStartFault
     pub between : D
@@ -57,7 +57,7 @@ module _ {D : Type 0} (its : devices.Ghosts D) where
       pub checks : MatchResult len (λ n. ChecksLongLog n outcome rules (record before { file = between }) after)
           (λ fault. (outcome ≡ Err (Kept (disk_fault fault))) × (after ≡ record before { file = between }))
 
-    -- by the rules that its first bytes name; nothing of any other file
+    -- by the rules that its first bytes name; any other file is not read on
     abbrev pub ChecksNamed : LogOutcome → Result Rules KeepCommandFault → FileOutput D → FileOutput D → Type 0
     ChecksNamed outcome (Ok rules) before after = ChecksLogFile outcome rules before after
     ChecksNamed outcome (Err fault) before after = (outcome ≡ Err (Kept fault)) × (after ≡ before)

@@ -30,12 +30,12 @@ use Rattle.tb_keep_follow.specs.declared.faults.CommandFault.TheVariants.{Ledger
 use Rattle.tb_keep_follow.specs.declared.faults.FollowFault.{FollowFault}
 use Rattle.tb_keep_follow.specs.declared.faults.FollowFault.TheVariants.{Kept, Plain, OtherRules, NoEntry, Entry, OtherHashes, Unwritten, Item}
 
--- of a file that is no journal it is reported that it does not begin as one
+-- if a file is no journal, the fault says that it does not begin as one
 abbrev pub journal_fault : OpenFault → KeepCommandFault
 journal_fault (opened.Refused refusal.NotAJournal) = NotAJournal kind.Other
 journal_fault fault = opened_fault fault
 
--- of a file that is not read or opened as a kept log
+-- the fault of a file that is not read or opened as a kept log
 abbrev pub started_log_fault : LogStartFault → FollowFault
 started_log_fault (start.Journal fault) = Kept (journal_fault fault)
 started_log_fault start.Plain = Plain
@@ -46,7 +46,7 @@ started_log_fault (start.OtherHashes position) = OtherHashes position
 started_log_fault start.NoMemory = Kept NoMemory
 started_log_fault (start.TornTooLong at bytes) = Kept (Damaged (Torn at bytes))
 
--- of an item that is not served, where this pipe failed if one did
+-- the fault of an item that is not served; if a pipe failed, it is this one
 abbrev pub item_fault : Failed → LogFault → FollowFault
 item_fault pipe log.Device = Kept (Device pipe)
 item_fault pipe log.NoMemory = Kept NoMemory
@@ -62,7 +62,7 @@ dumped_log_fault dump.NoMemory = Kept NoMemory
 dumped_log_fault dump.Writer = Kept (Device Output)
 dumped_log_fault fault = Unwritten fault
 
--- the numbers of `tbd`: 2 an item is wrong, 5 a ledger without positions, 6 damaged, 7 other rules
+-- the numbers of `tbd`. 2: an item is wrong. 5: a ledger without positions. 6: damaged. 7: other rules
 abbrev pub follow_exit_status : FollowFault → ℕ
 follow_exit_status (Kept fault) = file_exit_status fault
 follow_exit_status (Item fault) = 2
@@ -88,7 +88,7 @@ log_place_line first place what = ((first ++ decimal place) ++ (codes ": " ++ wh
 abbrev pub path_line : List ℕ → List ℕ → List ℕ → List ℕ
 path_line first path last = (first ++ (printable path ++ last)) ++ codes "\n"
 
--- the position of a fault of an entry; 0 where it has none
+-- the position of a fault of an entry; 0 if it has none
 abbrev pub place_of : LogFault → ℕ
 place_of (log.Gap at) = at
 place_of (log.Repeat at) = at
@@ -110,11 +110,11 @@ item_line (log.TimeExhausted at) = number_line (codes "tbd: TimeExhausted at ") 
 item_line (log.BadEntry at fault) = log_place_line (codes "tbd: BadEntry at ") at (frames.fault_name fault)
 item_line fault = text_line (codes "tbd: ") (logs.log_fault_name fault)
 
--- the lines of what is damaged in a file of this path
+-- what to do about damage in a log's file
 abbrev pub next_step : List ℕ
 next_step = codes "; tbd salvage makes a new file of the entries before it"
 
--- there is no entry before the first one
+-- the same for this damage: no entry is before the first one
 abbrev pub next_of_log : Damage → List ℕ
 next_of_log (Block at (Some n)) = if n == 1 then codes "; restore a backup: no entry is before it" else next_step
 next_of_log damage = next_step
@@ -154,7 +154,7 @@ follow_line (OtherHashes position) path = hashes_line position path
 follow_line (Unwritten fault) path = text_line (codes "tbd: Damaged: ") (log_dump_fault_name fault)
 follow_line (Item fault) path = item_line fault
 
--- of a command, over a ledger or over a log
+-- a fault of a command, over a ledger or over a log
 
 abbrev pub command_exit_status : CommandFault → ℕ
 command_exit_status (Ledger fault) = file_exit_status fault
@@ -168,7 +168,7 @@ abbrev pub command_line : CommandFault → List ℕ → List ℕ
 command_line (Ledger fault) path = file_fault_line fault path
 command_line (Log fault) path = follow_line fault path
 
--- what a start says that serves: the position of the last entry that the file has. The log is wanted behind it
+-- the line of a start that serves: the position of the last entry that the file has. The log is wanted after that
 abbrev pub wanted_line : ℕ → List ℕ
 wanted_line position = number_line (codes "tbd: has the log up to position ") position
 

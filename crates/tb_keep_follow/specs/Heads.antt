@@ -22,7 +22,7 @@ abbrev pub rules_by : Option Profile → ℕ → Option Rules
 rules_by None clients = None
 rules_by (Some profile) clients = if nat_le 1 clients && nat_le clients CLIENTS_MAX then Some (rules_of profile clients) else None
 
--- behind four bytes: the number of the profile, and that of the clients
+-- after four bytes: the number of the profile, and that of the clients
 abbrev pub rules_behind : List ℕ → Option Rules
 rules_behind (a ∷ b ∷ c ∷ d ∷ profile ∷ clients ∷ rest) = rules_by (profile_numbered profile) clients
 rules_behind bytes = None
@@ -31,16 +31,16 @@ rules_behind bytes = None
 abbrev pub rules_of_mark : List ℕ → Option Rules
 rules_of_mark bytes = if starts_with nat_eq bytes (codes "TBF1") then rules_behind bytes else None
 
--- the first record begins behind the text of a journal, a latch, a length and a checksum
+-- the first record begins after the text of a journal, a latch, a length and a checksum
 abbrev pub rules_in : List ℕ → Option Rules
 rules_in first = if nat_lt (length first) 19 then None else rules_of_mark (drop 19 first)
 
--- a file of no log is refused
+-- a file that is no log's is refused
 abbrev pub rules_or_fault : Option Rules → Result Rules KeepCommandFault
 rules_or_fault None = Err (NotAJournal kind.Other)
 rules_or_fault (Some rules) = Ok rules
 
--- of a file whose first bytes were read; where that fails, it is the fault
+-- the rules in a file whose first bytes were read; if that failed, its fault
 abbrev pub rules_read : Result ℕ JournalFault → List ℕ → Result Rules KeepCommandFault
 rules_read (Ok count) file = rules_or_fault (rules_in (take 25 file))
 rules_read (Err fault) file = Err (disk_fault fault)

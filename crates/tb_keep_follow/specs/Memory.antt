@@ -12,14 +12,14 @@ use Rattle.tb_keep_follow.specs.declared.faults.FollowFault.TheVariants.{Kept}
 use Rattle.tb_keep_follow.specs.Faults.{item_fault}
 use Rattle.tb_keep_follow.specs.Outcomes.{LogOutcome}
 
--- before a fault ends it, the replies that are held back go out; where they do not, that is the fault
+-- if a fault ends it, the replies that are held back are sent first; if that fails, that is the fault
 abbrev pub SendsReplies : LogOutcome → LogOutcome → Output → Output → Type 0
 SendsReplies (Ok done) outcome middle written = (outcome ≡ Ok tt) × (written ≡ middle)
 SendsReplies (Err fault) outcome middle written =
     ((outcome ≡ Err fault) × Sent [] middle written)
     ⊎ ((outcome ≡ Err (Kept (Device failed.Output))) × CutOff [] middle written)
 
--- a log was followed from its first entry on by a machine in memory, and all that it answered was passed on, or the output failed
+-- a log was followed from its first entry on by a machine in memory, and all its replies were passed on, or the output failed
 pub record FollowsMemory (outcome : LogOutcome) (profile : Profile) (clients_max : ℕ) (first last : Input) (start written : Output) : Type 0 where
   pub result : Result ℕ LogFault
   pub middle : Output

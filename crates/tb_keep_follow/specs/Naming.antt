@@ -10,35 +10,35 @@ use Rattle.tb_keep_commands.specs.Naming.{IsEntryAt, IsOfKind}
 use Rattle.tb_keep_follow.specs.declared.faults.FollowFault.{FollowFault}
 use Rattle.tb_keep_follow.specs.declared.faults.FollowFault.TheVariants.{Kept, Plain}
 
--- the position of the entry of a record behind so many others: a log's file has no head
+-- the position of the entry of a record after this many others: a log's file has no head
 abbrev pub position_of : Option ℕ → Option ℕ
 position_of None = None
 position_of (Some count) = Some (min (count + 1) (2 ^ 64 - 1))
 
--- it is known that there are no records before one
+-- it is known that no records are before one
 abbrev pub is_first : Option ℕ → Bool
 is_first None = false
 is_first (Some count) = count == 0
 
--- of a journal whose first block is not what was written: it has none yet, or is a ledger
+-- the fault of a journal whose first block is not what was written: it may end before its first record, or be a ledger
 abbrev pub first_entry_fault : Damage → Kind → FollowFault
 first_entry_fault damage Begun = Kept (NotAJournal Begun)
 first_entry_fault damage Ledger = Plain
 first_entry_fault damage kind = Kept (Damaged damage)
 
 module _ {D : Type 0} (its : devices.Ghosts D) where
-  -- the first bytes of a journal whose first block is damaged were read
+  -- if the first block of a journal is damaged, its first bytes were read; otherwise the fault says what is damaged
   abbrev pub NamesFirstOfLog : Bool → Damage → FollowFault → D → D → Type 0
   NamesFirstOfLog true damage fault device after = (kind : Kind) × (fault ≡ first_entry_fault damage kind) × IsOfKind its kind device after
   NamesFirstOfLog false damage fault device after = (fault ≡ Kept (Damaged damage)) × (after ≡ device)
 
-  -- the records before a block that is not what was written were counted, and if there is none the first bytes were read
+  -- the records before a block that is not what was written were counted; if there are no such records, the first bytes were read
   abbrev pub NamesLogBlock : ℕ → FollowFault → D → D → Type 0
   NamesLogBlock at fault device after =
       (count : Option ℕ) × (counted : D) × IsEntryAt its at count device counted
       × NamesFirstOfLog (is_first count) (Block at (position_of count)) fault counted after
 
--- of a file that does not begin as a journal it is said what it is, and of a block that is not what was written which entry
+-- if a file does not begin as a journal, the fault says what it is; if a block is not what was written, it says which entry it is of
 abbrev pub NamesLogFault : {D : Type 0} → devices.Ghosts D → FollowFault → FollowFault → D → D → Type 0
 NamesLogFault its (Kept (NotAJournal _)) fault device after = (kind : Kind) × (fault ≡ Kept (NotAJournal kind)) × IsOfKind its kind device after
 NamesLogFault its (Kept (Damaged (Block at uncounted))) fault device after = NamesLogBlock its at fault device after

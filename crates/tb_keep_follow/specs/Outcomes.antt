@@ -57,7 +57,7 @@ module _ {D : Type 0} (its : devices.Ghosts D) where
     pub outcome_is : outcome ≡ Err named
     pub names : NamesLogFault its (started_log_fault fault) named device after
 
-  -- the dump of a log of these rules was written, or as much of it as the answer says; the file stays
+  -- the dump of a log of these rules was written, or as much of it as the result says; the file stays
   pub record IsLogDumped (result : Result (Unit {0}) DumpLogFault) (rules : Rules) (before after : FileOutput D) : Type 0 where
     pub dumps : OfFile its before.file (λ file. DumpsLog result rules.profile rules.clients_max file before.sink after.sink)
     pub same : OfFile its before.file (its.holds after.file)
@@ -70,7 +70,7 @@ module _ {D : Type 0} (its : devices.Ghosts D) where
     pub dumped : IsLogDumped result rules before after
     pub outcome_is : outcome ≡ outcome_by dumped_log_fault result
 
-  -- a file was read to its end before a byte of its dump was written: of one that is refused nothing was
+  -- a file was read to its end before a byte of its dump was written. If it is refused, nothing was written
   pub record DumpsLogFile (outcome : LogOutcome) (rules : Rules) (before after : FileOutput D) : Type 0 where
     pub read : Result Reached LogStartFault
     pub between : D
@@ -78,12 +78,12 @@ module _ {D : Type 0} (its : devices.Ghosts D) where
     pub dumps : MatchResult read (λ done. DumpsRead outcome rules (record before { file = between }) after)
         (λ fault. IsLogFileRefused fault outcome between after.file × (after.sink ≡ before.sink))
 
-  -- the part of a log's history that was asked for was written, of a log of these rules. Where that is done nobody waits for more
+  -- the part of a log's history that was asked for was written, of a log of these rules. If that is done, nobody waits for more
   pub record IsWritten (Ended : Type 0) (from : Option ℕ) (follows : Bool) (outcome : LogOutcome) (rules : Rules) (before after : FileOutput D) : Type 0 where
     pub writes : OfFile its before.file (λ file. WritesLogPart (its.holds after.file) outcome follows (selection rules from) file before.sink after.sink)
     pub ends : follows ≡ true → OnOk outcome Ended
 
-  -- a file was read to its end before a byte of a part of its dump was written: of one that is refused nothing was
+  -- a file was read to its end before a byte of a part of its dump was written. If it is refused, nothing was written
   pub record DumpsLater (Ended : Type 0) (from : Option ℕ) (follows : Bool) (outcome : LogOutcome) (rules : Rules) (before after : FileOutput D) : Type 0 where
     pub read : Result Reached LogStartFault
     pub between : D
@@ -96,7 +96,7 @@ module _ {D : Type 0} (its : devices.Ghosts D) where
   DumpsLogPart Ended None false outcome rules before after = DumpsLogFile outcome rules before after
   DumpsLogPart Ended from follows outcome rules before after = DumpsLater Ended from follows outcome rules before after
 
-  -- of a log, by the rules that its first bytes name; nothing of any other file
+  -- a log was dumped by the rules that its first bytes name; of any other file nothing is written
   abbrev pub DumpsNamed : Type 0 → Option ℕ → Bool → LogOutcome → Result Rules KeepCommandFault → FileOutput D → FileOutput D → Type 0
   DumpsNamed Ended from follows outcome (Ok rules) before after = DumpsLogPart Ended from follows outcome rules before after
   DumpsNamed Ended from follows outcome (Err fault) before after = (outcome ≡ Err (Kept fault)) × (after ≡ before)
@@ -107,8 +107,8 @@ module _ {D : Type 0} (its : devices.Ghosts D) where
     pub finds : FindsRules its found before.file between
     pub dumps : DumpsNamed Ended from follows outcome found (record before { file = between }) after
 
-  -- that its start made a file where there were no bytes was reported, and what it cut off behind the records of one of so many bytes, and from
-  -- which position the log is wanted; then a log was kept
+  -- a start reported that it made a file that had no bytes, or what it cut off after the records of one of this many bytes, and the position after
+  -- which the log is wanted; then a log was kept
   pub record FollowsKept (outcome : LogOutcome) (keeper : LogKeeping D) (path : List ℕ) (len : ℕ) (before after : Streams) : Type 0 where
     pub noted : Output
     pub made : PrintsMade len path before.faults noted
@@ -121,15 +121,15 @@ module _ {D : Type 0} (its : devices.Ghosts D) where
         (point keeper.now keeper.journal before.source before.sink) (point left.now left.journal after.source after.sink)
     pub outcome_is : outcome ≡ outcome_by (kept_log_fault (failed_pipe before.source.failed after.source.failed)) result
 
-  -- what a start over a device answers, of one that reports what its calls do; of a log that is kept, where no sync has failed before
+  -- what a start returns over a device that reports what its calls do; for a log that is kept, if no sync has failed before
   pub record StartsLog (result : Result (LogKeeping D) (NotStarted D)) (rules : Rules) (device : D) : Type 0 where
     pub answers : MatchResult result (λ keeper. (its.disk device).sound ≡ true → IsLogStarted its.disk (its.disk device).seen keeper)
         (λ failed. IsLogStartRefused failed.fault rules.profile rules.clients_max (its.disk device) (its.disk failed.device))
     pub cause : HasLogStartCause (why_log_left result) (its.disk device) (its.disk (log_device_left result))
-    -- a crash at any moment of it, where none has
+    -- a crash at any moment of it, if no sync has failed before
     pub any_moment : (its.disk device).sound ≡ true → LeavesOnly (its.disk device) (its.disk (log_device_left result)) (LogMayBeStarted (its.disk device))
 
-  -- the same of one over a file in which a log is to be: none is created
+  -- the same over a file that has to have a log: none is created
   pub record TakesLog (result : Result (LogKeeping D) (NotStarted D)) (rules : Rules) (device : D) : Type 0 where
     pub answers : MatchResult result (λ keeper. (its.disk device).sound ≡ true → IsOpenedLog its.disk (its.disk device).seen keeper)
         (λ failed. log.IsLogRefused failed.fault rules.profile rules.clients_max (its.disk device) (its.disk failed.device))
@@ -140,12 +140,12 @@ module _ {D : Type 0} (its : devices.Ghosts D) where
   StartsLogBy true result rules device = TakesLog result rules device
   StartsLogBy false result rules device = StartsLog result rules device
 
-  -- by the file that the reads of a device are of
+  -- by the file whose bytes a device's reads return
   abbrev pub HandsLogBy : Bool → Result (LogKeeping D) (NotStarted D) → Rules → D → Type 0
   HandsLogBy true result rules device = OfFile its device (OpensLog result rules.profile rules.clients_max)
   HandsLogBy false result rules device = OfFile its device (StartsLogFile result rules.profile rules.clients_max)
 
-  -- what a start cut off was set aside before
+  -- what a start cut off was set aside before that
   abbrev pub IsLogAside : Result (LogKeeping D) (NotStarted D) → D → Type 0
   IsLogAside result device = OfFile its device (λ file. IfOk result (λ keeper. AreAside its.aside keeper.cut file))
 
@@ -155,7 +155,7 @@ module _ {D : Type 0} (its : devices.Ghosts D) where
     pub refused : IsLogFileRefused failed.fault outcome failed.device left
     pub nothing : after ≡ before
 
-  -- a log was started over a file of so many bytes, or opened, where one is to be there; it was kept, or is refused
+  -- a log was started over a file of this many bytes, or opened, if it has to exist; it was kept, or is refused
   pub record FollowsLong (outcome : LogOutcome) (file : KeptFile) (len : ℕ) (device : D) (before after : Streams) : Type 0 where
     pub started : Result (LogKeeping D) (NotStarted D)
     pub starts : its.tells → StartsLogBy file.existing started file.rules device
@@ -173,11 +173,11 @@ module _ {D : Type 0} (its : devices.Ghosts D) where
         (λ fault. (outcome ≡ Err (Kept (disk_fault fault))) × (after ≡ before))
 
 module _ {D : Type 0} (its : devices.Ghosts D) {O : Type 0} (may : Result D OpeningFault → O → Type 0) (left : O) where
-  -- a log was followed over what an opening answered
+  -- a log was followed over what an opening returned
   abbrev pub FollowsOpened : LogOutcome → KeptFile → Streams → Streams → Type 0
   FollowsOpened outcome file before after = Opens unopened may left outcome (after ≡ before) (λ device. FollowsFile its outcome file device before after)
 
-  -- where it is known why a call on the file failed, the outcome is named by that
+  -- if it is known why a call on the file failed, the outcome is named by that
   pub record FollowsOver (may_be_for : Option Reason → Type 0) (outcome : LogOutcome) (file : KeptFile) (before after : Streams) : Type 0 where
     pub followed : LogOutcome
     pub reason : Option Reason
@@ -190,7 +190,7 @@ module _ {D : Type 0} (its : devices.Ghosts D) {O : Type 0} (may : Result D Open
       Opens unopened may left outcome (written ≡ start) (λ device. (after : D)
       × DumpsFoundLog its Ended from follows outcome (record { file = device; sink = start }) (record { file = after; sink = written }))
 
--- what private functions alone cite
+-- cited only by private functions
 
 -- the part of a dump that was asked for
 module _ {D : Type 0} (its : devices.Ghosts D) (Ended : Type 0) (part : Part) (outcome : LogOutcome) where

@@ -1,4 +1,4 @@
-//! The forms that there are over a ledger and over a log: over what a file is by its first bytes.
+//! The forms that exist over a ledger and over a log: a file's first bytes say which of the two it is.
 ghost use Rattle.std.specs.Prelude.{◌≡◌};
 ghost use Rattle.tb_keep_follow.specs.Exits.{ChecksEither, CopiesEither, DumpsEither, over_ledger, over_log};
 

@@ -18,14 +18,14 @@ use tb_records::{Sink, put_all};
 /// What is in a log's file.
 #[derive(Clone, Copy)]
 pub struct LogSummary {
-    /// What there is to say of each file. It has a record for each entry of the log, and no other.
+    /// What there is to say of each file. It has a record for each entry of the log, and no others.
     pub summary: Summary,
     /// The position of the last entry.
     pub position: u64,
 }
 
 impl LogSummary {
-    /// What is in a file of these rules and of so many bytes that was read to its end.
+    /// What is in a file of these rules and of this many bytes that was read to its end.
     fn of(rules: Rules, reached: Reached, len: usize) -> LogSummary
         ensures { result ≡ log_summary_of rules reached len }
     {
@@ -71,7 +71,7 @@ fn report<W: Sink>(
     }
 }
 
-/// What becomes of a check.
+/// The outcome of what was printed.
 pub(crate) fn printed_outcome(printed: Result<(), KeepCommandFault>) -> Result<(), FollowFault>
     ensures { result ≡ outcome_by FollowFault.Kept printed }
 {
@@ -81,7 +81,7 @@ pub(crate) fn printed_outcome(printed: Result<(), KeepCommandFault>) -> Result<(
     }
 }
 
-/// Reads a whole log's file of so many bytes, and writes what is in it.
+/// Reads a whole log's file of this many bytes, and writes what is in it.
 fn check_long<D: Device, W: Sink>(
     alloc: Global,
     rules: &Rules,
@@ -99,7 +99,7 @@ fn check_long<D: Device, W: Sink>(
     }
 }
 
-/// Reads a whole log's file, and writes what is in it, and how many bytes are behind that in the file by now.
+/// Reads a whole log's file, and writes what is in it, and how many bytes are after that in the file by now.
 fn check_file<D: Live, W: Sink>(
     alloc: Global,
     rules: &Rules,
@@ -114,7 +114,7 @@ fn check_file<D: Live, W: Sink>(
     }
 }
 
-/// The same of a log whose rules are those that its first bytes name.
+/// The same for a log whose rules are those that its first bytes name.
 pub(crate) fn check_found<D: Live, W: Sink>(
     alloc: Global,
     device: &mut D,

@@ -18,7 +18,7 @@ use tb_keep_commands::{
 };
 use tb_records::{Sink, Source};
 
-/// The outcome of following, of which a fault has the name of the reason, where one is known.
+/// The outcome of following. If a reason is known, a fault is named by it.
 fn named_by(reason: Option<Reason>, followed: Result<(), FollowFault>) -> Result<(), FollowFault>
     ensures { result ≡ named_by FollowFault.Kept reason followed }
 {
@@ -28,7 +28,7 @@ fn named_by(reason: Option<Reason>, followed: Result<(), FollowFault>) -> Result
     }
 }
 
-/// Follows a log over the device of a path, opened so.
+/// Opens the device of a path, and follows a log over it.
 fn follow_opened<O: Opener, R: Source, W: Outlet, E: Sink>(
     alloc: Global,
     opener: &mut O,
@@ -47,7 +47,7 @@ fn follow_opened<O: Opener, R: Source, W: Outlet, E: Sink>(
     }
 }
 
-/// Follows a log over the device of a path. Where it is known why a call on the file failed, the outcome is named by that.
+/// Follows a log over the device of a path. If it is known why a call on the file failed, the outcome is named by that.
 pub(crate) fn follow_over<O: Opener, R: Source, W: Outlet, E: Sink>(
     alloc: Global,
     opener: &mut O,

@@ -1,4 +1,4 @@
-//! A log's file copied into a new one: what can be read of it, or where it is whole.
+//! A log's file copied into a new one: what can be read of it, or all of it if it is whole.
 ghost use Rattle.std.specs.Prelude.{◌≡◌, true};
 ghost use Rattle.tb_journal.specs.Ready.{IsReady};
 ghost use Rattle.tb_keep_log.specs.Copying.{reads_on};
@@ -48,7 +48,7 @@ fn damage_of(stop: Option<LogStartFault>, end: usize) -> Option<Damage>
 }
 
 impl LogCopied {
-    /// What is reported of a file of so many bytes that was copied.
+    /// What is reported of a file of this many bytes that was copied.
     fn of<N: Device>(taken: &CopiedLog<N>, len: usize) -> LogCopied
         ensures { result ≡ log_copied_of len taken.now }
     {
@@ -78,7 +78,7 @@ impl fmt::Display for LogCopied {
     }
 }
 
-/// What was copied of a log's file, and read on behind its damage.
+/// What was copied of a log's file, and read on after its damage.
 #[derive(Clone, Copy)]
 pub struct LogRescued {
     /// What there is to say of each file.
@@ -88,7 +88,7 @@ pub struct LogRescued {
 }
 
 impl LogRescued {
-    /// What is reported where so much was read on behind what was copied.
+    /// What is reported if so much was read on after what was copied.
     fn of(it: LogCopied, on: LogReadOn) -> LogRescued
         ensures { result ≡ log_rescued_of it on }
     {
@@ -135,14 +135,14 @@ fn report<W: Sink>(alloc: Global, copied: LogCopied, writer: &mut W) -> Result<(
     }
 }
 
-/// Why a copy that ended so is refused: none, where the file needs not be whole.
+/// Why a copy that ended so is refused: None if the file need not be whole.
 fn refused_by(whole: bool, stop: Option<LogStartFault>) -> Option<LogStartFault>
     ensures { result ≡ refused_by whole stop }
 {
     if whole { stop } else { None }
 }
 
-/// Writes what was copied of a file of so many bytes; or refuses it, where it was to be whole.
+/// Writes what was copied of a file of this many bytes; or refuses a damaged one if it was to be whole.
 fn end_copy<D: Device, N: Device + Drop, W: Sink>(
     alloc: Global,
     from: &mut D,
@@ -172,7 +172,7 @@ fn uncopied_fault(fault: CopyLogFault) -> FollowFault
     }
 }
 
-/// Writes what was copied, and read on behind the damage.
+/// Writes what was copied, and read on after the damage.
 fn report_rescued<W: Sink>(
     alloc: Global,
     rescued: LogRescued,
@@ -189,7 +189,7 @@ fn report_rescued<W: Sink>(
     }
 }
 
-/// Reads a log's file of so many bytes on behind what was copied of it, and writes what was taken over.
+/// Reads a log's file of this many bytes on after what was copied of it, and writes what was copied.
 fn rescue<D: Live, N: Device + Drop, W: Sink>(
     alloc: Global,
     rules: &Rules,
@@ -242,7 +242,7 @@ fn end_by<D: Live, N: Device + Drop, W: Sink>(
     end_copy(alloc, from, copied, len, false, writer)
 }
 
-/// Copies a log's file of so many bytes into a new one.
+/// Copies a log's file of this many bytes into a new one.
 fn copy_long<D: Live, N: Device + Drop, W: Sink>(
     alloc: Global,
     rules: Rules,
@@ -265,8 +265,8 @@ fn copy_long<D: Live, N: Device + Drop, W: Sink>(
     }
 }
 
-/// Copies a log's file into a new one, up to its first damage and then each next entry behind it, and writes what was copied. One that is to
-/// be whole is refused where it is damaged: the new one then has what is before that.
+/// Copies a log's file into a new one, up to its first damage and then each next entry after it, and writes what was copied. A damaged file that
+/// is to be whole is refused: the new one then has what is before the damage.
 fn copy_file<D: Live, N: Device + Drop, W: Sink>(
     alloc: Global,
     rules: Rules,
@@ -306,7 +306,7 @@ fn copy_made<O: Opener, D: Live, W: Sink>(
     }
 }
 
-/// Looks whether a file begins as a journal. Why it does not, or is not read.
+/// Checks whether a file begins as a journal; if not, returns why it does not, or is not read.
 fn begun<D: Device>(alloc: Global, device: &mut D) -> Result<(), OpenFault>
     ensures { IsBegun D.Device result device.old device.new }
 {
@@ -329,7 +329,7 @@ fn is_mended(whole: bool, fault: OpenFault) -> bool
     }
 }
 
-/// Reports of a file that was copied that its first bytes are not a journal's.
+/// Reports that the first bytes of a file that was copied are not a journal's.
 fn note_mended<W: Sink>(copied: Result<(), FollowFault>, writer: &mut W) -> Result<(), FollowFault>
     ensures { OnWriter W.Sink (NotesMendedLog copied result) writer }
 {
@@ -378,7 +378,8 @@ fn copy_refused<O: Opener, W: Sink>(
     Err(FollowFault::Kept(journal_fault(fault)))
 }
 
-/// Copies the file of a log of these rules into a new one of a path, which is made where that begins as a journal.
+/// Copies the file of a log of these rules into a new one of a path, which is made if that file begins as a journal. Otherwise the file is
+/// refused, or its first bytes are mended.
 fn copy_begun<O: Opener, W: Sink>(
     alloc: Global,
     opener: &mut O,

@@ -15,7 +15,7 @@ use tb_keep_commands::{Opener, Outlet, Part};
 use tb_keep_log::{DumpLogFault, check_log, write_log_dump};
 use tb_records::Sink;
 
-/// What becomes of a dump.
+/// The outcome of a dump.
 fn dumped_outcome(dumped: Result<(), DumpLogFault>) -> Result<(), FollowFault>
     ensures { result ≡ outcome_by dumped_log_fault dumped }
 {
@@ -37,7 +37,7 @@ fn dump_read<D: Device, W: Sink>(
     dumped_outcome(write_log_dump(alloc, device, rules, writer))
 }
 
-/// Writes the history of a log as a dump, without positions. The file is read twice: before anything is written all of it was read.
+/// Writes the history of a log as a dump, without positions. The file is read twice: all of it is read before anything is written.
 fn dump<D: Device, W: Sink>(
     alloc: Global,
     rules: &Rules,
@@ -52,7 +52,7 @@ fn dump<D: Device, W: Sink>(
     }
 }
 
-/// Writes the part of a log's history that was asked for. Before anything is written all of the file was read.
+/// Writes the part of a log's history that was asked for. All of the file is read before anything is written.
 fn dump_later<O: Opener, W: Outlet>(
     alloc: Global,
     opener: &O,

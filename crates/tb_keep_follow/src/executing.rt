@@ -20,13 +20,13 @@ use tb_records::{ClientsMax, Profile, Sink, Source};
 /// Which of the program's ends are terminals.
 #[derive(Clone, Copy)]
 pub struct Terminals {
-    /// Standard input: then `run` says where words are read.
+    /// Standard input: then `run` reports which programs read words.
     pub input: bool,
     /// Standard error: then `run` reports its start.
     pub faults: bool,
 }
 
-/// A start over the file of a path, which is reported where that is asked for, and on a terminal.
+/// A start over the file of a path. It is reported if that is asked for, and on a terminal.
 fn file_start(path: &str, options: Options, ends: Terminals) -> FileStart<'_>
     ensures path { result.path.now ≡ path.now }
     ensures reports { result.reports ≡ (options.reports || ends.faults) }
@@ -39,7 +39,7 @@ fn file_start(path: &str, options: Options, ends: Terminals) -> FileStart<'_>
     }
 }
 
-/// The rules of a profile and of so many clients.
+/// The rules of a profile and of this many clients.
 fn rules_of(profile: Profile, clients_max: ClientsMax) -> Rules
     ensures { result ≡ rules_of profile clients_max }
 {
@@ -91,7 +91,7 @@ fn perform<O: Looker, R: Source, W: Outlet, E: Sink>(
     }
 }
 
-/// Sends what a writer holds back where all was done.
+/// Sends what a writer holds back, if all was done.
 fn finish<W: Outlet>(done: Result<(), CommandFault>, writer: &mut W) -> Result<(), CommandFault>
     ensures { FinishesOutput (W.gone writer.new) done result (W.output writer.old) (W.output writer.new) }
 {
@@ -104,8 +104,9 @@ fn finish<W: Outlet>(done: Result<(), CommandFault>, writer: &mut W) -> Result<(
     }
 }
 
-/// Does what a command asks for, and returns the exit status: 0 done, else that of the fault, whose line goes to `faults`. Before it a start
-/// of `run` or `follow` says there what it made of the file, and that of `follow` from which position the log is wanted.
+/// Does what a command asks for, and returns the exit status: 0 if it was done, otherwise that of the fault, whose line goes to `faults`. Before
+/// that, a start of `run` or `follow` reports there what it did to the file, and that of `follow` also the position after which the log is
+/// wanted.
 pub fn execute<O: Looker, R: Source, W: Outlet, E: Sink>(
     alloc: Global,
     opener: &mut O,

@@ -16,15 +16,15 @@ pub enum FollowFault {
     Plain,
     /// The file was made with another profile, or for another number of clients.
     OtherRules,
-    /// The record behind the entry of this position is that of no entry.
+    /// The record after the entry of this position is not an entry's.
     NoEntry(u64),
     /// The entry of a record cannot be served.
     Entry(LogFault),
-    /// The record of the entry at this position has another position or other hashes than that entry leaves behind.
+    /// The record of the entry at this position has another position or other hashes than follow from that entry.
     OtherHashes(u64),
     /// A record of a file that was read has no pairs now, or no time is left for them.
     Unwritten(DumpLogFault),
-    /// The next item is none, or is not the next one.
+    /// What was read is no item, or not the next one.
     Item(LogFault),
 }
 
@@ -56,7 +56,7 @@ pub(crate) fn started_fault(fault: LogStartFault) -> FollowFault
     }
 }
 
-/// The fault of an item that is not served, or of its answer, where this pipe failed if one did.
+/// The fault of an item that is not served, or of its reply. If a pipe failed, it is this one.
 pub(crate) fn item_fault(fault: LogFault, pipe: Failed) -> FollowFault
     ensures { result ≡ item_fault pipe fault }
 {
@@ -67,7 +67,7 @@ pub(crate) fn item_fault(fault: LogFault, pipe: Failed) -> FollowFault
     }
 }
 
-/// The fault that a log ends with, where this pipe failed if one did.
+/// The fault that a log ends with. If a pipe failed, it is this one.
 pub(crate) fn kept_fault(fault: KeepLogFault, pipe: Failed) -> FollowFault
     ensures { result ≡ kept_log_fault pipe fault }
 {

@@ -28,8 +28,8 @@ fn kept_outcome(kept: Result<u64, KeepLogFault>, pipe: Failed) -> Result<(), Fol
     }
 }
 
-/// Follows a log until it ends. What its start made of the file of this path is reported first: where it had no bytes it was made, and else
-/// what was cut off behind the records; and then from which position the log is wanted.
+/// Follows a log until it ends. First it reports what its start did to the file of this path: made it, if it had no bytes, or cut bytes off after
+/// the records. Then it reports the position after which the log is wanted.
 fn keep<D: Device + Drop, A: Allocator + Clone, R: Source, W: Sink, E: Sink>(
     alloc: Global,
     keeper: LogKeeper<D, A>,
@@ -55,7 +55,7 @@ fn keep<D: Device + Drop, A: Allocator + Clone, R: Source, W: Sink, E: Sink>(
     kept_outcome(kept, failed_pipe(failures, reader.failures()))
 }
 
-/// Opens a log over a device, and, unless one is to be there, creates one in a file that is blank.
+/// Opens a log over a device; unless the log has to exist, creates one in a blank file.
 fn started<D: Device, A: Allocator + Copy>(
     alloc: Global,
     pool: A,
@@ -75,8 +75,8 @@ fn started<D: Device, A: Allocator + Copy>(
     LogKeeper::start(alloc, pool, device, rules)
 }
 
-/// Opens a log over a device, or creates one, and follows it until it ends. The machine's records take their memory of the pool. So many
-/// bytes were in the file before.
+/// Opens a log over a device, or creates one, and follows it until it ends. The machine's records are allocated in the pool. `len` is how many
+/// bytes the file had before.
 fn start<D: Device + Drop, A: Allocator + Copy, R: Source, W: Sink, E: Sink>(
     alloc: Global,
     pool: A,
@@ -105,7 +105,7 @@ fn start<D: Device + Drop, A: Allocator + Copy, R: Source, W: Sink, E: Sink>(
     }
 }
 
-/// Follows a log over the device of a path, whose length is asked for first. The machine has its records in a pool.
+/// Follows a log over the device of a path, after asking for its length. The machine has its records in a pool.
 pub(crate) fn follow<D: Device + Drop, R: Source, W: Sink, E: Sink>(
     alloc: Global,
     rules: Rules,

@@ -14,12 +14,12 @@ const BEFORE_BYTES: usize = 19;
 /// The first bytes of a file that are looked at: up to the mark of its first record.
 pub const FIRST_BYTES: usize = 25;
 
-/// What opens devices, and looks at their first bytes before.
+/// What opens devices, and can read their first bytes before that.
 pub trait Looker: Opener {
-    /// A look at the first bytes of a device may answer this. Anything, where a looker does not say it.
+    /// What `look`, a read of the first bytes of a device, may return. Anything, if a looker does not define it.
     ghost looks: { Self → List ℕ → Result ℕ OpeningFault → List ℕ → Self → Type 0 } = { λ before name answer bytes after. Unit {0} };
 
-    /// Reads the first bytes of the device of this name, which is there: as many as fit, or all of them.
+    /// Reads the first bytes of the device of this name, which exists: as many as fit, or all of them.
     fn look(&mut self, name: &str, into: &mut [u8]) -> Result<usize, OpeningFault>
         ensures within { IfOk result (λ count. count ≤ length into.new) }
         ensures looked { looks self.old name.now result into.new self.new };
@@ -36,7 +36,7 @@ fn profile_numbered(number: u8) -> Option<Profile>
     }
 }
 
-/// The rules of a profile and of so many clients, if there can be such.
+/// The rules of a profile and of this many clients, if there can be such.
 fn rules_by(profile_given: Option<Profile>, clients_max: u8) -> Option<Rules>
     ensures { result ≡ rules_by profile_given clients_max }
 {
@@ -48,7 +48,7 @@ fn rules_by(profile_given: Option<Profile>, clients_max: u8) -> Option<Rules>
     })
 }
 
-/// The rules that a record names behind its text.
+/// The rules that a record names after its text.
 #[tactic(auto, using(crate::proofs::Lengths::few_no_rules))]
 fn rules_behind(mark: &[u8]) -> Option<Rules>
     ensures { result ≡ rules_behind mark.now }
@@ -61,7 +61,7 @@ fn rules_behind(mark: &[u8]) -> Option<Rules>
     }
 }
 
-/// The rules that a record names which begins so, if it is that of an entry of a log.
+/// The rules that a record with these first bytes names, if it is that of an entry of a log.
 fn rules_of_mark(mark: &[u8]) -> Option<Rules>
     ensures { result ≡ rules_of_mark mark.now }
 {
@@ -71,7 +71,7 @@ fn rules_of_mark(mark: &[u8]) -> Option<Rules>
     rules_behind(mark)
 }
 
-/// The rules of the log that a file with these first bytes is of; None where it is of none.
+/// The rules of the log whose file begins with these bytes; None if it is no log's.
 pub(crate) fn rules_in(first: &[u8]) -> Option<Rules>
     ensures { result ≡ rules_in first.now }
 {
@@ -91,7 +91,7 @@ fn rules_or_fault(rules: Option<Rules>) -> Result<Rules, KeepCommandFault>
     }
 }
 
-/// The rules of the log that the file of a device is of, by its first bytes; or why they are not known.
+/// The rules of the log whose file a device has, by its first bytes; or why they are not known.
 pub(crate) fn find_rules<D: Device>(device: &mut D) -> Result<Rules, KeepCommandFault>
     ensures { FindsRules D.Device result device.old device.new }
 {

@@ -9,14 +9,14 @@ use std::io::{BufReader, BufWriter, Read, Write};
 use tb_keep_commands::{Command, Files, Form, KeepCommandFault, Outgoing, refuse};
 use tb_records::{Buffered, Sink};
 
-/// The bytes of input that a form holds at a time which reads any. What is held goes behind one commit, so fewer bytes would need more syncs.
+/// The bytes of input that a form that reads any holds at a time. All that is held goes into one commit, so fewer bytes would need more syncs.
 const INPUT_BYTES: usize = 1 << 20;
 
 /// The bytes of output that a dump, or a log in memory, holds at a time.
 const OUTPUT_BYTES: usize = 1 << 16;
 
-/// The bytes that a form's reader and writer hold. Replies over a file are written at once, each time all that are buffered; and a form
-/// that writes once needs no buffer.
+/// The bytes that a form's reader and writer hold. Replies over a file are written at once, each time all that are buffered; and a form that
+/// writes once needs no buffer.
 fn capacities(form: Form) -> (usize, usize)
     ensures input { result.0 ≡ input_size form }
     ensures output { result.1 ≡ output_size form }

@@ -1,14 +1,15 @@
-//! The forms of `tbd` over a log: a follower whose entries are in a file, each with the position and both hashes behind it, before
-//! its replies are written; the history of such a file as a dump, without positions; and what is in it. And all commands of `tbd`, over
-//! whatever opens devices, any reader and any writer. A form that there is over a log and over a ledger is done by the file's first
-//! bytes; tb_keep_commands has those over a ledger.
+//! The forms of `tbd` over a log. A follower keeps its entries in a file, each with the position and both hashes after it, before its replies are
+//! written. The history of such a file is written as a dump, without positions; and a check prints what is in it.
+//!
+//! And all commands of `tbd`, over whatever opens devices, any reader and any writer. If a form exists over a log and over a ledger, the file's
+//! first bytes say which is done; tb_keep_commands has those over a ledger.
 //!
 //! Modules, each over those before it:
 //!
 //! - `heads`: which log a file is of, by its first bytes.
 //! - `faults`: why a command ends with an exit status other than 0.
 //! - `naming`: what there is to say of a file that is refused.
-//! - `lines`: the lines that say so, and from which position a log is wanted.
+//! - `lines`: the lines that report faults, and after which position a log is wanted.
 //! - `parts`: the entries of a log above a commit number, as it grows.
 //! - `checking`: `check`, what is in a log's file.
 //! - `copying`: `salvage` and `backup`, a log's file copied into a new one.
@@ -16,12 +17,13 @@
 //! - `following`: `follow`, a log kept over a file.
 //! - `memory`: `follow-memory`, a log followed without a file.
 //! - `commands`: each form over a log, over what opens devices.
-//! - `by_file`: the forms that there are over a ledger too.
+//! - `by_file`: the forms that exist over a ledger too.
 //! - `executing`: `execute`, each command, and the exit status of each outcome.
 //! - `host`: `serve`, from a program's input and output to `execute`.
 //!
-//! specs/Heads is whose log a file is, specs/Outcomes, specs/Memory, specs/Parts and specs/Checks what each form over a log does, specs/Exits what each
-//! command does and how it ends, specs/Faults the exit status and the line of each fault, specs/Hosts what `serve` does.
+//! specs/Heads says which log a file is of. What each form over a log does is in specs/Outcomes, specs/Memory, specs/Parts and specs/Checks.
+//! specs/Exits says what each command does and how it ends, specs/Faults the exit status and the line of each fault, specs/Hosts what `serve`
+//! does.
 #![tactic(auto)]
 
 mod by_file;

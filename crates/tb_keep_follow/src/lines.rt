@@ -11,7 +11,7 @@ use tb_keep_commands::{
 use tb_log::LogFault;
 use tb_records::Sink;
 
-/// The position of a fault of an entry; 0 where it has none.
+/// The position of a fault of an entry; 0 if it has none.
 fn place_of(fault: LogFault) -> u64
     ensures { result ≡ place_of fault }
 {
@@ -55,19 +55,19 @@ fn print_item<E: Sink>(fault: LogFault, faults: &mut E)
     }
 }
 
-/// What is reported of a file that has no positions, behind its path.
+/// What is reported of a file that has no positions, after its path.
 const PLAIN: &str = " is a ledger without positions; tbd run serves it";
 
-/// What is reported of a file of other rules, behind its path.
+/// What is reported of a file of other rules, after its path.
 const OTHER: &str = " was made with another profile or number of clients";
 
-/// What is to be done about damage.
+/// What to do about damage.
 const NEXT_STEP: &str = "; tbd salvage makes a new file of the entries before it";
 
-/// What is to be done about damage of a log's first entry.
+/// What to do about damage of a log's first entry.
 const RESTORE: &str = "; restore a backup: no entry is before it";
 
-/// What is to be done about damage of a log's file.
+/// What to do about damage of a log's file.
 fn next_of_log(damage: Damage) -> &'static str
     ensures { result.now ≡ next_of_log damage }
 {
@@ -105,7 +105,7 @@ fn print_kept<E: Sink>(fault: KeepCommandFault, path: &str, faults: &mut E)
     }
 }
 
-/// Reports that the record behind the entry of this position is that of no entry.
+/// Reports that the record after the entry of this position is not an entry's.
 fn print_no_entry<E: Sink>(last: u64, path: &str, faults: &mut E)
     ensures { SaysLine (no_entry_line last path.now) (E.output faults.old) (E.output faults.new) }
 {
@@ -131,7 +131,7 @@ fn print_entry<E: Sink>(fault: LogFault, path: &str, faults: &mut E)
     print_wrong(&wrong, path, NEXT_STEP, faults);
 }
 
-/// Reports that the record of the entry at this position has another position or other hashes than the entry leaves.
+/// Reports that the record of the entry at this position has another position or other hashes than follow from the entry.
 fn print_hashes<E: Sink>(position: u64, path: &str, faults: &mut E)
     ensures { SaysLine (hashes_line position path.now) (E.output faults.old) (E.output faults.new) }
 {
@@ -170,7 +170,7 @@ pub(crate) fn print_fault<E: Sink>(fault: CommandFault, path: &str, faults: &mut
     }
 }
 
-/// Reports the position of the last entry that a file has: the log is wanted behind it.
+/// Reports the position of the last entry that a file has: the log is wanted after it.
 pub(crate) fn print_wanted<E: Sink>(position: u64, faults: &mut E)
     ensures { SaysLine (wanted_line position) (E.output faults.old) (E.output faults.new) }
 {

@@ -11,7 +11,7 @@ use tb_keep_commands::{Failed, KeepCommandFault, Outlet, failed_pipe};
 use tb_log::{LogFault, follow};
 use tb_records::{Sink, Source};
 
-/// How a log ended, where this pipe failed if one did.
+/// How a log ended. If a pipe failed, it is this one.
 fn memory_outcome(followed: Result<u64, LogFault>, pipe: Failed) -> Result<(), FollowFault>
     ensures { result ≡ outcome_by (item_fault pipe) followed }
 {
@@ -21,7 +21,7 @@ fn memory_outcome(followed: Result<u64, LogFault>, pipe: Failed) -> Result<(), F
     }
 }
 
-/// Sends the replies before a fault, which are held back. Where they do not go out, that is the fault.
+/// Sends the replies before a fault, which are held back. If that fails, that is the fault.
 fn send_replies<W: Outlet>(
     followed: Result<(), FollowFault>,
     writer: &mut W,

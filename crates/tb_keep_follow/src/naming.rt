@@ -9,14 +9,14 @@ use tb_journal::Device;
 use tb_keep_commands::{Damage, KeepCommandFault, Kind, entry_at, kind_in};
 use tb_keep_log::LogStartFault;
 
-/// The position of the entry of a record behind so many others: a log's file has no head.
+/// The position of the entry of a record after this many others: a log's file has no head.
 fn position_of(count: Option<u64>) -> Option<u64>
     ensures { result ≡ position_of count }
 {
     Some(count?.saturating_add(1))
 }
 
-/// Says whether it is known that there are no records before one.
+/// Says whether it is known that no records are before one.
 fn is_first(count: Option<u64>) -> bool
     ensures { result ≡ is_first count }
 {

@@ -20,14 +20,14 @@ struct Wanted {
     above: Option<u64>,
 }
 
-/// How far a log was read: the machine behind the pairs of its records.
+/// How far a log was read: the machine after the pairs of its records.
 #[derive(Drop)]
 struct Reading {
     machine: Machine<Global>,
     scan: Scan,
 }
 
-/// The fault of an output that holds back what it does not take.
+/// The fault of standard output that does not take what it is sent.
 fn output_fault() -> FollowFault
     ensures { result ≡ FollowFault.Kept (KeepCommandFault.Device Failed.Output) }
 {
@@ -99,11 +99,11 @@ fn send_on<O: Opener, W: Outlet>(
             Err(fault) => return Err(fault),
         }
     }
-    // So many rounds do not come to an end on any machine.
+    // No machine comes to the end of so many rounds.
     Err(dumped_fault(DumpLogFault::NoMemory))
 }
 
-/// Writes the entries of a log of which nothing was read, and those that are committed meanwhile where more are waited for.
+/// Writes the entries of a log of which nothing was read, and, if more are waited for, those that are committed meanwhile.
 fn send_entries<O: Opener, W: Outlet>(
     global: Global,
     opener: &O,
@@ -128,7 +128,7 @@ fn send_entries<O: Opener, W: Outlet>(
     }
 }
 
-/// Writes the head of a dump of these rules, where all entries are written.
+/// Writes the head of a dump of these rules, if all entries are written.
 fn send_start<W: Sink>(writer: &mut W, rules: &Rules, after: Option<u64>) -> Result<(), FollowFault>
     ensures { HeadGoes (start_of after rules.now) result (W.output writer.old) (W.output writer.new) }
 {
