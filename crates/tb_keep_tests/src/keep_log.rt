@@ -1,8 +1,8 @@
-//! Kept logs over a file in memory, by public calls alone.
+//! Kept logs over a file in memory, only by public calls.
 //!
 //! Modules, each over those before it:
 //!
-//! - `logs`: a log, what it is answered, and what keeps it.
+//! - `logs`: a log, the replies to it, and what keeps it.
 //! - `keeping`: a log that is kept and dumped.
 //! - `crashing`: crashes at each moment, and each call that fails.
 mod crashing;

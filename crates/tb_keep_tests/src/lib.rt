@@ -1,5 +1,5 @@
-//! Tests of the libraries that keep a ledger in a file or follow a log, by their public calls alone: so none of them is proved a
-//! second time for its tests. What words and files do to `tbd` is tried over the program, by tests/files.
+//! Tests of the libraries that keep a ledger in a file or follow a log, only by their public calls: so none of them is proved a second time for
+//! its tests. What arguments and files do to `tbd` is tested over the program, by tests/files.
 //!
 //! Modules:
 //!

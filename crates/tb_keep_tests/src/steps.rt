@@ -15,12 +15,12 @@ pub(crate) fn expect(rt: &impl Abort, holds: bool)
     assert!(rt; holds);
 }
 
-/// What was found is what a test wants: compared here alone, since a comparison of answers is dear to prove.
+/// What was found is what a test wants. It is compared only here, because a comparison of results is expensive to prove.
 pub(crate) fn expect_same<T: PartialEq + Copy>(rt: &impl Abort, found: T, want: T) {
     expect(rt, found == want);
 }
 
-/// Says whether these bytes are those: compared here alone too.
+/// Says whether these bytes are those: compared only here too.
 pub(crate) fn same(found: &[u8], wanted: &[u8]) -> bool {
     found == wanted
 }
@@ -30,25 +30,25 @@ pub(crate) fn expect_bytes(rt: &impl Abort, found: &[u8], want: &[u8]) {
     expect(rt, same(found, want));
 }
 
-/// The bytes that a call gave are those that a test wants. They are freed here.
+/// The bytes that a call returned are those that a test wants. They are freed here.
 pub(crate) fn expect_given(rt: &impl Abort, given: Vec<u8>, want: &[u8]) {
     expect_bytes(rt, &given, want);
     drop(given);
 }
 
-/// The same of bytes that are wanted and freed too.
+/// The same for wanted bytes that are freed too.
 pub(crate) fn expect_equal(rt: &impl Abort, given: Vec<u8>, want: Vec<u8>) {
     expect_given(rt, given, &want);
     drop(want);
 }
 
-/// The bytes that a call gave are the first of these. They are freed here.
+/// The bytes that a call returned are the first of these. They are freed here.
 pub(crate) fn expect_begin(rt: &impl Abort, whole: &[u8], given: Vec<u8>) {
     expect(rt, whole.starts_with(&given));
     drop(given);
 }
 
-/// The bytes that a call gave are the last of these. They are freed here.
+/// The bytes that a call returned are the last of these. They are freed here.
 pub(crate) fn expect_end(rt: &impl Abort, whole: &[u8], given: Vec<u8>) {
     expect(rt, whole.ends_with(&given));
     drop(given);
@@ -61,7 +61,7 @@ pub(crate) fn sure<T: Drop, E: Drop>(rt: &impl Abort, answer: Result<T, E>) -> T
     answer.ok().expect(rt, "no fault")
 }
 
-/// Says whether a call succeeded. What it gave is dropped here alone.
+/// Says whether a call succeeded. What it returned is dropped only here.
 pub(crate) fn is_well<T: Drop, E: Drop>(answer: Result<T, E>) -> bool {
     let well = answer.is_ok();
     drop(answer);
@@ -80,7 +80,7 @@ pub(crate) fn file_of(rt: &impl Abort, alloc: Global, bytes: &[u8]) -> Memory
     file_from(rt, alloc, copy_of(rt, alloc, bytes))
 }
 
-/// A file in memory of bytes that a call gave.
+/// A file in memory of bytes that a call returned.
 pub(crate) fn file_from(rt: &impl Abort, alloc: Global, bytes: Vec<u8>) -> Memory
     ensures { (memory_disk result).sound ≡ true }
 {

@@ -1,5 +1,5 @@
-//! What a ledger's own calls show, by public calls alone. The worked examples of accounts and transfers are in `machine`, where
-//! requests are served by machines.
+//! What a ledger's own calls show, only by public calls. The worked examples of accounts and transfers are in `machine`, where requests are
+//! served by machines.
 //!
 //! Modules, each over those before it:
 //!

@@ -1,5 +1,5 @@
-//! Tests of tb_machine and of the libraries that it is built on, by their public calls alone, and each allocation of a map, a ledger
-//! and a machine refused in turn. What words, input and output do to `tbs` is tried over the program, by tests/programs.
+//! Tests of tb_machine and of the libraries that it is built on, only by their public calls; and each allocation of a map, a ledger and a machine
+//! is refused in turn. What arguments, input and output do to `tbs` is tested over the program, by tests/programs.
 //!
 //! Modules:
 //!

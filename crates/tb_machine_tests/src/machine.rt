@@ -1,11 +1,11 @@
-//! What machines, scripts and dumps do, by public calls alone: worked examples, value for value and byte for byte.
+//! What machines, scripts and dumps do, only by public calls: worked examples, value for value and byte for byte.
 //!
 //! Modules, each over those before it:
 //!
 //! - `scripts`: scripts and wanted replies, put together field by field.
 //! - `fixtures`: transfers that balance and that close, besides those of tb_fixtures.
 //! - `rows`: accounts and transfers as data.
-//! - `steps`: a script as data: each step with its answer.
+//! - `steps`: a script as data: each step with its reply.
 //! - `frames`: frames in hexadecimal.
 //! - `machines`: what machines are asked.
 //! - `records`: what the machine's own lookups find.
@@ -16,7 +16,7 @@
 //! - `pending`: posts, voids, closing and expiry.
 //! - `sessions`: registers, repeats, refusals and evictions, by scripts.
 //! - `forms`: `run`, `dump` and `replay` as one call.
-//! - `asking`: nothing is asked again, and what was read is answered.
+//! - `asking`: no call is repeated, and what was read gets its reply.
 //! - `faults`: scripts that end before their time.
 //! - `dumps`: scripts dumped, dumps replayed.
 mod accounts;

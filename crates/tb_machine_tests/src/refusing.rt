@@ -1,4 +1,4 @@
-//! What maps, ledgers and machines do where an allocation is refused: each in turn.
+//! What maps, ledgers and machines do if an allocation is refused: each in turn.
 //!
 //! Modules, each over those before it:
 //!

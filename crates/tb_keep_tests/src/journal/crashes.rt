@@ -22,7 +22,7 @@ pub(crate) fn left_after(rt: &impl Abort, file: &Memory, moment: usize, torn: &[
     sure(rt, file.after_crash(moment, torn))
 }
 
-/// Says whether the bytes are those of all three records. Any latch but a closed one is open, and stays as it was.
+/// Says whether the bytes are those of all three records. Any latch except a closed one is open, and stays as it was.
 fn is_whole(bytes: &[u8]) -> bool {
     let mut whole = THREE_RECORDS;
     for at in 21..25usize {
@@ -38,7 +38,7 @@ fn is_one_or_whole(bytes: &[u8]) -> bool {
     bytes == ONE_RECORD.as_slice() || is_whole(bytes)
 }
 
-/// Opens what a crash leaves, and says how many records it has: one, or the whole batch as well.
+/// Opens what a crash leaves, and returns how many records it has: one, or the whole batch as well.
 fn records_after(
     rt: &impl Abort,
     alloc: Global,
@@ -81,11 +81,11 @@ fn a_crash_leaves_the_whole_batch_or_none_of_it(rt: HostRuntime) {
     sure(&rt, commit_two(&mut journal));
     let file = journal.device();
     expect(&rt, file.moments() == begin + 4);
-    // Before the write of the blocks, behind it, and behind the sync.
+    // Before the write of the blocks, after it, and after the sync.
     expect_records(&rt, alloc, file, begin, 1, 1);
     expect_records(&rt, alloc, file, begin + 1, 1, 1);
     expect_records(&rt, alloc, file, begin + 2, 1, 1);
-    // Behind the write of the latch, and behind its sync.
+    // After the write of the latch, and after its sync.
     expect_records(&rt, alloc, file, begin + 3, 1, 3);
     expect_records(&rt, alloc, file, begin + 4, 3, 3);
     drop(journal);

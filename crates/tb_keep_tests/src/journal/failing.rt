@@ -25,7 +25,7 @@ impl End {
     }
 }
 
-/// How the opening of a journal ends that is not opened.
+/// How a run ends if its journal is not opened.
 fn opening(rt: &impl Abort, fault: OpenFault) -> End {
     match fault {
         OpenFault::Device(fault) => End::Opening(fault),
@@ -36,7 +36,7 @@ fn opening(rt: &impl Abort, fault: OpenFault) -> End {
     }
 }
 
-/// Opens a journal of one record and commits two more, over a device whose call of this number fails so.
+/// Opens a journal of one record and commits two more, over a device whose call of this number fails in this way.
 fn end_at(rt: &impl Abort, alloc: Global, number: u64, why: JournalFault) -> (End, Memory) {
     let mut file = file_of(rt, alloc, &ONE_RECORD);
     file.fail_with(number, why);
@@ -53,10 +53,10 @@ fn end_at(rt: &impl Abort, alloc: Global, number: u64, why: JournalFault) -> (En
     }
 }
 
-/// How the run ends whose call of this number fails.
+/// How the run ends if its call of this number fails in this way.
 fn want_at(number: u64, why: JournalFault) -> End {
     match number {
-        // To open a journal takes a sync, two looks, a cut and a sync.
+        // Opening a journal takes a sync, two looks, a cut and a sync.
         1 | 5 => End::Opening(JournalFault::SyncFailed),
         2..=4 => End::Opening(why),
         // A commit takes a write, a sync, a write and a sync.

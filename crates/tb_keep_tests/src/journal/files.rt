@@ -8,8 +8,7 @@ use tb_journal::{Device, JournalFault, Memory};
 /// A file `abcdef`.
 const SIX: [u8; 6] = [97, 98, 99, 100, 101, 102];
 
-/// The bytes of a file of so many moments, and what crashes leave: each at a moment, where these bytes are in the place
-/// of what was torn.
+/// The bytes of a file of this many moments, and what crashes leave: each at a moment, with these bytes in the place of what was torn.
 fn expect_left(
     rt: &impl Abort,
     file: &Memory,
@@ -32,12 +31,12 @@ enum Call {
     Cut(usize),
     Sync,
     Len,
-    /// The call of a number from here on fails, or fails so.
+    /// The call of this number from here on fails; or it fails with this fault.
     FailAt(u64),
     FailWith(u64, JournalFault),
 }
 
-/// An answer without a number, as 0.
+/// A result without a number, as 0.
 fn numbered(answer: Result<(), JournalFault>) -> Result<usize, JournalFault> {
     match answer {
         Ok(()) => Ok(0),
@@ -45,7 +44,7 @@ fn numbered(answer: Result<(), JournalFault>) -> Result<usize, JournalFault> {
     }
 }
 
-/// What a call answers.
+/// What a call returns.
 fn answer(rt: &impl Abort, file: &mut Memory, call: Call) -> Result<usize, JournalFault> {
     match call {
         Call::Write(at, bytes) => {
@@ -69,7 +68,7 @@ fn answer(rt: &impl Abort, file: &mut Memory, call: Call) -> Result<usize, Journ
     }
 }
 
-/// The file `abcdef` behind these calls, each of which gives this answer.
+/// The file `abcdef` after these calls, each of which returns this result.
 fn after_calls(
     rt: &impl Abort,
     alloc: Global,
@@ -82,7 +81,7 @@ fn after_calls(
     file
 }
 
-/// Calls on the file `abcdef`, and what they leave: so many moments, these bytes, and rows of what crashes leave.
+/// Calls on the file `abcdef`, and what they leave: this many moments, these bytes, and rows of what crashes leave.
 struct Case {
     calls: &'static [(Call, Result<usize, JournalFault>)],
     moments: usize,

@@ -17,14 +17,14 @@ pub(crate) enum Call {
 #[derive(Drop)]
 pub(crate) struct Odd {
     pub(crate) bytes: Vec<u8>,
-    /// A read and a write take so many bytes at most.
+    /// A read and a write take this many bytes at most.
     pub(crate) part: usize,
     /// No write makes the file longer than this.
     pub(crate) space: usize,
-    /// So many signals interrupt each call before it is done.
+    /// This many signals interrupt each call before it is done.
     pub(crate) signals: u64,
     waited: u64,
-    /// Each call of this kind fails so.
+    /// Each call of this kind fails in this way.
     pub(crate) fails: Option<(Call, ErrorKind)>,
 }
 
@@ -61,7 +61,7 @@ impl Odd {
     }
 }
 
-// Writes one byte at an offset, or behind all.
+// Writes one byte at an offset, or after all others.
 fn put(bytes: &mut Vec<u8>, at: usize, byte: u8) -> Result<(), ErrorKind> {
     match bytes.get_mut(at) {
         Some(place) => {

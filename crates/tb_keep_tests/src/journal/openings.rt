@@ -13,7 +13,7 @@ const EMPTY_RECORD: [u8; 23] = [
     90, 195, 150, 105,
 ];
 
-/// The same, and three bytes behind its closed latch.
+/// The same, and three bytes after its closed latch.
 const MORE_BEHIND: [u8; 26] = [
     84, 66, 74, 82, 78, 76, 48, 50, //
     255, 255, 255, 255, 0, 0, 0, 122, 163, 100, 96, //
@@ -33,7 +33,7 @@ fn what_stands_behind_the_records_is_cut_off(rt: HostRuntime) {
     expect_last(&rt, journal, &EMPTY_RECORD, 1, 4);
 }
 
-/// A file of these bytes is refused so, and is as it was. It is given back.
+/// A file of these bytes is refused for this reason, and is as it was. It is returned.
 fn refused(rt: &impl Abort, alloc: Global, bytes: &[u8], why: Refusal) -> Memory {
     let file = file_of(rt, alloc, bytes);
     let failed = recover(alloc, file).err().expect(rt, "a fault");

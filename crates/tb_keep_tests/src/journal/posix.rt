@@ -43,7 +43,7 @@ fn calls_that_are_interrupted(rt: HostRuntime) {
     }
 }
 
-/// The answers of a write, a cut, a sync, a read and a look at the length.
+/// The results of a write, a cut, a sync, a read and a look at the length.
 fn answers(odd: Odd) -> [Result<(), JournalFault>; 5] {
     let mut device = Posix::new(odd);
     let mut into = [0u8; 3];
@@ -58,7 +58,7 @@ fn answers(odd: Odd) -> [Result<(), JournalFault>; 5] {
     answers
 }
 
-/// A kind of call fails so: it alone answers with this fault.
+/// All calls of one kind fail in this way: they return this fault, and only they fail.
 fn expect_fault(rt: &impl Abort, alloc: Global, place: usize, kind: ErrorKind, want: JournalFault) {
     let calls = [Call::Write, Call::Cut, Call::Sync, Call::Read, Call::Length];
     let call = calls.get(place).copied().expect(rt, "a call");
@@ -70,7 +70,7 @@ fn expect_fault(rt: &impl Abort, alloc: Global, place: usize, kind: ErrorKind, w
     }
 }
 
-/// What a call other than a sync answers where it fails in each way.
+/// What a call other than a sync returns if it fails in each way.
 const FAULTS: [(ErrorKind, JournalFault); 6] = [
     (ErrorKind::OutOfMemory, JournalFault::Memory),
     (ErrorKind::StorageFull, JournalFault::Full),
@@ -101,7 +101,7 @@ fn syncs_that_fail(rt: HostRuntime) {
     }
 }
 
-/// How a call failed. What it gave is dropped here alone.
+/// How a call failed. What it returned is dropped only here.
 fn fault_of<T: Drop>(answer: Result<T, JournalFault>) -> Option<JournalFault> {
     answer.err()
 }
@@ -170,7 +170,7 @@ fn add(journal: &mut Journal<Posix<Odd>>) -> Result<(), JournalFault>
     journal.commit()
 }
 
-/// A file of these bytes, of which a call takes a part, behind so many signals.
+/// A file of these bytes, whose calls take a part at a time, each after this many signals.
 fn odd_of(rt: &impl Abort, alloc: Global, bytes: &[u8], part: usize, signals: u64) -> Odd {
     let mut odd = Odd::new(sure(rt, Vec::from_slice(alloc, bytes)));
     odd.part = part;
@@ -200,7 +200,7 @@ fn journals_by_parts(rt: HostRuntime) {
     }
 }
 
-/// How many records are in a journal's file after the disk was full at so many bytes; none where there is no journal.
+/// How many records are in a journal's file after the disk was full at this many bytes; None if there is no journal.
 fn left_on(rt: &impl Abort, alloc: Global, space: usize) -> Option<usize> {
     let mut odd = Odd::empty(alloc);
     odd.space = space;

@@ -7,7 +7,7 @@ use crate::steps::{expect, sure};
 use std::alloc::AllocError;
 use tb_journal::{JournalFault, RECORD_BYTES_MAX, Written};
 
-/// Bytes that are written where they wait.
+/// Bytes that are written straight to where they wait.
 #[derive(Clone, Copy)]
 struct Bytes<'a> {
     bytes: &'a [u8],
@@ -27,7 +27,7 @@ fn a_record_counts_when_it_is_committed(rt: HostRuntime) {
     expect_journal(&rt, &journal, &NO_RECORDS, 0, 4);
     expect(&rt, journal.waiting() == 0);
     sure(&rt, journal.append(&[97, 98]));
-    // A latch, a length, a checksum, two bytes, and the latch behind them.
+    // A latch, a length, a checksum, two bytes, and the latch after them.
     expect_journal(&rt, &journal, &NO_RECORDS, 0, 17);
     expect(&rt, journal.waiting() == 1);
     sure(&rt, journal.commit());

@@ -13,7 +13,7 @@ use tb_journal::{
     Device, Extent, Journal, JournalFault, Memory, OpenFault, Refusal, Scan, create, read_journal,
 };
 
-/// A file is read in pieces of so many bytes.
+/// A file is read in pieces of this many bytes.
 const PIECE_BYTES: usize = 65_536;
 
 /// The last block of the three records is not whole.
@@ -30,7 +30,7 @@ pub(crate) fn expect_next<D: Device>(
     expect_bytes(rt, scan.record(), want);
 }
 
-/// Reads these records from a file, one by one, and then what follows them. Says where they end.
+/// Reads these records from a file, one by one, and then what follows them. Returns where they end.
 fn expect_scan(
     rt: &impl Abort,
     alloc: Global,
@@ -51,7 +51,7 @@ fn expect_scan(
     extent
 }
 
-/// The same of a file of these bytes.
+/// The same for a file of these bytes.
 pub(crate) fn expect_records(
     rt: &impl Abort,
     alloc: Global,
@@ -62,13 +62,13 @@ pub(crate) fn expect_records(
     expect_scan(rt, alloc, file_of(rt, alloc, bytes), records, behind)
 }
 
-/// The same of a journal of two records.
+/// The same for a journal of two records.
 fn expect_two(rt: &impl Abort, alloc: Global, first: &[u8], second: &[u8]) {
     let file = file_of_two(rt, alloc, first, second);
     let _extent = expect_scan(rt, alloc, file, &[first, second], Ok(false));
 }
 
-/// What the reading of a file from end to end answers: the number of its records, or a fault.
+/// What reading a file from end to end returns: the number of its records, or a fault.
 fn count_of(alloc: Global, file: &mut Memory) -> Result<usize, OpenFault> {
     Ok(read_journal(alloc, file)?.count)
 }
@@ -93,7 +93,7 @@ fn a_record_is_larger_than_a_piece(rt: HostRuntime) {
     drop(long);
 }
 
-/// The second block begins at each of the last places of a piece, and behind it.
+/// The second block begins at each of the last places of a piece, and after it.
 #[test]
 fn a_record_stands_in_two_pieces(rt: HostRuntime) {
     let alloc = rt.alloc();
@@ -131,7 +131,7 @@ fn damage_is_told_behind_good_records(rt: HostRuntime) {
 /// The calls of a count: a start takes a sync and a look; each piece more takes a look, as does the end.
 const CALLS: u64 = 4;
 
-/// What a count answers whose call of this number fails.
+/// What a count returns if its call of this number fails.
 fn want_at(number: u64) -> Result<usize, OpenFault> {
     match number {
         1 => Err(OpenFault::Device(JournalFault::SyncFailed)),
@@ -153,7 +153,7 @@ fn each_call_fails_in_turn(rt: HostRuntime) {
     drop(file);
 }
 
-/// A journal without records, where there is memory for it.
+/// A journal without records, if there is memory for it.
 fn some_journal(alloc: Global) -> Option<Journal<Memory>>
     ensures ready { IfSome result (IsReady memory_disk) }
     ensures usable { IfSome result (λ journal. journal.usable ≡ true) }
@@ -167,7 +167,7 @@ fn some_journal(alloc: Global) -> Option<Journal<Memory>>
     }
 }
 
-/// The file of a journal of this record and another, where there is memory for it.
+/// The file of a journal of this record and another, if there is memory for it.
 fn some_file(alloc: Global, record: &[u8]) -> Option<Memory> {
     match some_journal(alloc) {
         Some(journal) => {
@@ -184,7 +184,7 @@ fn some_file(alloc: Global, record: &[u8]) -> Option<Memory> {
     }
 }
 
-/// Reads a file of a long record to its end, where there is memory for it.
+/// Reads a file of a long record to its end, if there is memory for it.
 fn count_long(alloc: Global) -> Option<Result<usize, OpenFault>> {
     let long = vec![in alloc; 7u8; 2 * PIECE_BYTES].ok()?;
     let given = some_file(alloc, &long);
@@ -200,8 +200,8 @@ fn count_long(alloc: Global) -> Option<Result<usize, OpenFault>> {
     }
 }
 
-/// Where no memory is left the fault says so: `rt try --test --fail-alloc n` refuses the nth allocation of each test,
-/// that of the window and its growth among them.
+/// If no memory is left, the fault says so: `rt try --test --fail-alloc n` refuses the nth allocation of each test, including that of the window
+/// and its growth.
 #[test]
 fn a_growth_may_be_refused(rt: HostRuntime) {
     match count_long(rt.alloc()) {

@@ -11,10 +11,10 @@ use std::cell::Cell;
 use std::process::Abort;
 use tb_journal::{Device, Growing, JournalFault, OpenFault, Refusal, Scan, Snapshot};
 
-/// A file is read in pieces of so many bytes.
+/// A file is read in pieces of this many bytes.
 const PIECE_BYTES: usize = 65_536;
 
-/// The first record written in part behind its closed latch.
+/// The first record written in part after its closed latch.
 const PART: [u8; 16] = [
     84, 66, 74, 82, 78, 76, 48, 50, 90, 195, 150, 105, 2, 0, 0, 0x89,
 ];
@@ -26,7 +26,7 @@ const WRITTEN: [u8; 25] = [
     90, 195, 150, 105,
 ];
 
-/// The second batch written behind the first, its latch closed still.
+/// The second batch written after the first, with its latch still closed.
 const WRITTEN_TWO: [u8; 53] = [
     84, 66, 74, 82, 78, 76, 48, 50, //
     255, 255, 255, 255, 2, 0, 0, 0x89, 0xf7, 0x93, 0x26, 97, 98, //
@@ -56,7 +56,7 @@ fn is_record(number: usize, found: &[u8]) -> bool {
     }
 }
 
-/// Reads on to the end of what a snapshot holds: each record is the next one. Says how many were read.
+/// Reads on to the end of what a snapshot holds: each record is the next one. Returns how many were read.
 fn read_on<G: Growing>(rt: &impl Abort, scan: &mut Scan, snapshot: &mut Snapshot<G>) -> usize {
     for _ in 0..4 {
         let number = scan.extent().count;
@@ -97,7 +97,7 @@ fn commits_between_any_two_reads(rt: HostRuntime) {
     }
 }
 
-/// Compares the records of a snapshot of these bytes, what comes behind them, and its length, which is that of the file.
+/// Compares the records of a snapshot of these bytes, what comes after them, and its length, which is that of the file.
 fn expect_snapshot(
     rt: &impl Abort,
     alloc: Global,
@@ -118,7 +118,7 @@ fn expect_snapshot(
     drop(snapshot);
 }
 
-/// The last block and the latch behind it are cut at each byte: a scan of the snapshot says what one of the file says.
+/// The last block and the latch after it are cut at each byte: a scan of the snapshot returns what a scan of the file does.
 #[test]
 fn torn_and_damaged_files(rt: HostRuntime) {
     let alloc = rt.alloc();
@@ -133,7 +133,7 @@ fn torn_and_damaged_files(rt: HostRuntime) {
         let damaged = Err(OpenFault::Refused(Refusal::Damaged { at: 49 }));
         expect_snapshot(&rt, alloc, bytes, &[b"ab", &[], b"second"], damaged);
     }
-    // Damage with whole blocks behind it.
+    // Damage with whole blocks after it.
     let mut bytes = THREE_RECORDS;
     bytes[20] = 99;
     let damaged = Err(OpenFault::Refused(Refusal::Damaged { at: 8 }));
@@ -164,7 +164,7 @@ fn files_that_are_no_journal(rt: HostRuntime) {
     }
 }
 
-/// The second block begins at each of the last places of a piece, and behind it.
+/// The second block begins at each of the last places of a piece, and after it.
 #[test]
 fn blocks_in_two_pieces(rt: HostRuntime) {
     let alloc = rt.alloc();

@@ -1,4 +1,4 @@
-//! A file of more than 5 GiB: what is behind 4 GiB is written and read where it belongs.
+//! A file of more than 5 GiB: what is beyond 4 GiB is written and read where it belongs.
 ghost use Rattle.tb_journal.specs.Real.{untold};
 
 use crate::journal::steps::{ONE_RECORD, expect_number, expect_read};
@@ -8,7 +8,7 @@ use std::fs::{File, Files};
 use std::process::Abort;
 use tb_journal::{Device, JournalFault, Real, create, recover};
 
-/// Where the file goes on behind a hole.
+/// Where the file goes on after a hole.
 const FAR_BYTES: usize = 5 << 30;
 
 #[test]
@@ -30,7 +30,7 @@ fn bytes_behind_four_gigabytes(rt: HostRuntime) {
     sure(&rt, fs::remove_file(&rt, path));
 }
 
-/// The part of a file behind the hole, as a device: so a journal there is not read from the file's beginning on.
+/// The part of a file after the hole, as a device: so a journal there is not read from the file's beginning on.
 #[derive(Drop)]
 struct Behind {
     real: Real,
@@ -73,7 +73,7 @@ impl Device for Behind {
     }
 }
 
-/// Makes a file with a hole, and a journal of one record behind it.
+/// Makes a file with a hole, and a journal of one record after it.
 fn far_journal<R: Abort + Files<File = File> + AllocGlobal>(rt: &R, path: &str) {
     let mut real = sure(rt, Real::make(rt, path));
     sure(rt, real.write_at(0, b"head"));

@@ -27,19 +27,19 @@ pub(crate) const THREE_RECORDS: [u8; 53] = [
     90, 195, 150, 105,
 ];
 
-/// What a test wants to hold of a number, which is reported where it does not.
+/// What a test wants to hold of a number, which is reported if it does not.
 pub(crate) fn expect_at(rt: &impl Abort, number: u64, holds: bool) {
     assert!(rt; holds, "at {number}");
 }
 
-/// So many bytes, each of them 7.
+/// This many bytes, each of them 7.
 pub(crate) fn sevens(rt: &impl Abort, alloc: Global, len: usize) -> Vec<u8>
     ensures { vec_len result ≡ len }
 {
     sure(rt, vec![in alloc; 7u8; len])
 }
 
-/// Says that a read of a device at an offset, into so much space, gives these bytes.
+/// A read of a device at an offset, into so much space, returns these bytes.
 pub(crate) fn expect_read<D: Device>(
     rt: &(impl Abort + AllocGlobal),
     device: &mut D,
@@ -71,8 +71,8 @@ pub(crate) fn opened(rt: &impl Abort, alloc: Global, bytes: &[u8]) -> Journal<Me
     sure(rt, recover(alloc, file))
 }
 
-/// Compares the bytes of a journal's file, the number of the records in it, and of the bytes that wait: one closed latch
-/// where no record does.
+/// Compares the bytes of a journal's file, the number of the records in it, and the number of the bytes that wait: one closed latch if no record
+/// waits.
 pub(crate) fn expect_journal(
     rt: &impl Abort,
     journal: &Journal<Memory>,
@@ -85,7 +85,7 @@ pub(crate) fn expect_journal(
     expect(rt, journal.waiting_bytes() == waiting_bytes);
 }
 
-/// The same of a journal that is freed then.
+/// The same for a journal that is then freed.
 pub(crate) fn expect_last(
     rt: &impl Abort,
     journal: Journal<Memory>,
@@ -97,12 +97,12 @@ pub(crate) fn expect_last(
     drop(journal);
 }
 
-/// The number that a call gave.
+/// The number that a call returned.
 pub(crate) fn expect_number(rt: &impl Abort, answer: Result<usize, JournalFault>, want: usize) {
     expect_same(rt, answer, Ok(want));
 }
 
-/// A call failed so.
+/// A call failed with this fault.
 pub(crate) fn expect_failed(rt: &impl Abort, answer: Result<(), JournalFault>, want: JournalFault) {
     expect_same(rt, answer, Err(want));
 }

@@ -15,7 +15,7 @@ use tb_keep::{KeepFault, Keeper, StartFault, create};
 /// What a torn write leaves in its range.
 const TORN: &[&[u8]] = &[&[], &[0; 40], &[255; 40], &[255]];
 
-/// The pair from which on a client sends again where so many entries are in the file: that of the last one.
+/// The pair from which on a client sends again if this many entries are in the file: that of the last one.
 const AGAIN: &[usize] = &[0, 0, 1, 2, 5];
 
 /// The ledger of a file with these bytes.
@@ -35,7 +35,7 @@ fn entries_in(rt: &impl Abort, alloc: Global, left: &[u8]) -> u64 {
     entries
 }
 
-/// What serving a script over such a file answers, the replies, and the entries then.
+/// Whether serving a script over such a file ends well, the replies, and the entries then.
 fn served_again(
     rt: &impl Abort,
     alloc: Global,
@@ -86,7 +86,7 @@ fn expect_crashes(rt: &impl Abort, alloc: Global, file: &Memory, told: &[u8]) {
     let begin = file.moments().saturating_sub(16);
     for k in 0..=16usize {
         let whole = (k / 4) as u64;
-        // The latch of the next entry is open behind the third call of its commit, if that is not torn.
+        // The latch of the next entry is open after the third call of its commit, if that is not torn.
         let most = if k % 4 == 3 { whole + 1 } else { whole };
         expect_crash(
             rt,
@@ -112,7 +112,7 @@ fn a_crash_at_each_moment(rt: HostRuntime) {
     drop(told);
 }
 
-/// Says whether so many bytes have the replies to the first so many pairs.
+/// Says whether `length` bytes have the replies to the first `count` pairs.
 fn is_answered(rt: &impl Abort, alloc: Global, length: usize, count: usize) -> bool {
     let replies = replies_to(rt, alloc, count);
     let is_answered = replies.len() <= length;
@@ -123,7 +123,7 @@ fn is_answered(rt: &impl Abort, alloc: Global, length: usize, count: usize) -> b
 /// The pairs of which the last rests on one entry, on two, on three and on four.
 const RESTING: &[usize] = &[1, 2, 3, 6];
 
-/// The entries that so many bytes of replies rest on.
+/// The entries that this many bytes of replies rest on.
 fn entries_answered(rt: &impl Abort, alloc: Global, length: usize) -> u64 {
     let mut entries = 0u64;
     for count in RESTING {
@@ -134,7 +134,7 @@ fn entries_answered(rt: &impl Abort, alloc: Global, length: usize) -> u64 {
     entries
 }
 
-/// Serves the script over a keeper; gives the file as it reads, and the replies.
+/// Serves the script over a keeper; returns the file as it reads, and the replies.
 fn served_by(rt: &impl Abort, alloc: Global, keeper: Keeper<Memory>) -> (Vec<u8>, Vec<u8>)
     requires fresh { IsFresh memory_disk keeper }
     requires usable { IsUsable keeper }
@@ -146,7 +146,7 @@ fn served_by(rt: &impl Abort, alloc: Global, keeper: Keeper<Memory>) -> (Vec<u8>
     (bytes_of(rt, alloc, keeper), told)
 }
 
-/// Serves the script over a new file whose call of a number fails; gives the file as it reads, and the replies.
+/// Serves the script over a new file whose call of this number fails; returns the file as it reads, and the replies.
 fn served_failing(rt: &impl Abort, alloc: Global, number: u64) -> (Vec<u8>, Vec<u8>) {
     let mut file = file_of(rt, alloc, &[]);
     file.fail_at(number);
@@ -156,7 +156,7 @@ fn served_failing(rt: &impl Abort, alloc: Global, number: u64) -> (Vec<u8>, Vec<
     }
 }
 
-/// The call of a number fails: nothing was acknowledged that is not in the file, and an opening goes on.
+/// The call of this number fails: nothing was acknowledged that is not in the file, and an opening goes on.
 fn expect_failing(rt: &impl Abort, alloc: Global, number: u64, whole: &[u8]) {
     let (left, told) = served_failing(rt, alloc, number);
     expect(rt, whole.starts_with(&told));
@@ -170,15 +170,14 @@ fn expect_failing(rt: &impl Abort, alloc: Global, number: u64, whole: &[u8]) {
 fn each_call_fails_once(rt: HostRuntime) {
     let alloc = rt.alloc();
     let whole = replies_to(&rt, alloc, 6);
-    // Creating takes 10 calls, and serving 16.
+    // Creating takes 9 calls, and serving 16.
     for number in 1..=28u64 {
         expect_failing(&rt, alloc, number, &whole);
     }
     drop(whole);
 }
 
-/// What is reported where each call of an opening fails, one after another: a sync, the file and its end, its length, and a cut
-/// and its sync.
+/// What is reported if each call of an opening fails in turn: a sync, the file and its end, its length, and a cut and its sync.
 const OPENING: &[JournalFault] = &[
     JournalFault::SyncFailed,
     JournalFault::Failed,
@@ -188,7 +187,7 @@ const OPENING: &[JournalFault] = &[
     JournalFault::SyncFailed,
 ];
 
-/// A call of a number fails: that is reported, and the next opening finds all entries.
+/// A call of this number fails: that is reported, and the next opening finds all entries.
 fn expect_opening(
     rt: &impl Abort,
     alloc: Global,
@@ -221,11 +220,11 @@ fn each_call_of_an_opening_fails_once(rt: HostRuntime) {
 /// The calls that create a ledger.
 const CREATING: u64 = 9;
 
-/// The calls of serving by turns that are syncs, of the first entry and of the second: each ends it, with the replies to so many
-/// bytes sent before.
+/// The calls of serving that are syncs, of the first entry and of the second. If one fails, serving ends, with this many bytes of replies sent
+/// before.
 const SYNCS: &[(u64, usize)] = &[(2, 0), (4, 0), (6, 48), (8, 48)];
 
-/// What serving the script over a new file answers whose call of a number fails, and how many bytes of replies it sent.
+/// What serving the script over a new file returns if its call of this number fails, and how many bytes of replies it sent.
 fn ended_by(rt: &impl Abort, alloc: Global, number: u64) -> (Result<u64, KeepFault>, usize) {
     let mut file = file_of(rt, alloc, &[]);
     file.fail_at(number);
@@ -239,7 +238,7 @@ fn ended_by(rt: &impl Abort, alloc: Global, number: u64) -> (Result<u64, KeepFau
     (result, count)
 }
 
-/// A sync fails, and then the device works again: serving goes on with nothing.
+/// A sync fails, and then the device works again: serving ends all the same.
 #[test]
 fn a_failed_sync_ends_serving(rt: HostRuntime) {
     let alloc = rt.alloc();

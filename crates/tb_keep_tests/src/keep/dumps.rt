@@ -16,7 +16,7 @@ pub fn kept_file(rt: &impl Abort, alloc: Global) -> Memory {
     file
 }
 
-/// The dump that a server without a file writes of the first so many pairs of the script.
+/// The dump that a server without a file writes of the first `count` pairs of the script.
 pub fn dump_of(rt: &impl Abort, alloc: Global, count: usize) -> Vec<u8> {
     let script = script(rt, alloc, count);
     let mut reader = Counting::new(script.as_slice());
@@ -27,7 +27,7 @@ pub fn dump_of(rt: &impl Abort, alloc: Global, count: usize) -> Vec<u8> {
     writer.into_inner()
 }
 
-/// What a dump of a file answers, and what went out.
+/// What a dump of a file returns, and what it wrote.
 fn dumped(rt: &impl Abort, alloc: Global, file: &mut Memory) -> (Result<(), DumpFault>, Vec<u8>) {
     let mut writer = Counting::new(Vec::new(alloc));
     let result = write_dump(alloc, file, rules(rt), &mut writer);
@@ -48,7 +48,7 @@ fn a_dump_is_that_of_the_script(rt: HostRuntime) {
 /// The calls of a dump: a sync, and the file with its end.
 const CALLS: u64 = 3;
 
-/// The dump of a file whose call of a number fails is a prefix of the whole one, and the fault is reported.
+/// The dump of a file whose call of this number fails is a prefix of the whole one, and the fault is reported.
 fn expect_failing(rt: &impl Abort, alloc: Global, file: &mut Memory, number: u64, want: &[u8]) {
     file.fail_at(number);
     let (result, written) = dumped(rt, alloc, file);

@@ -6,7 +6,7 @@ use std::alloc::Global;
 use std::process::Abort;
 use tb_keep::{BATCH_BYTES_MAX, HELD_BYTES_MAX, Keeper};
 
-/// The last request alone.
+/// Only the last request.
 fn look_up(rt: &impl Abort, alloc: Global) -> Vec<u8> {
     let mut last = Vec::new(alloc);
     put_pair(rt, &mut last, &[&LOOK_UP]);

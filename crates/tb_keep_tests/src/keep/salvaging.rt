@@ -33,14 +33,14 @@ fn a_backup_is_the_same_file(rt: HostRuntime) {
     expect_equal(&rt, bytes_of(&rt, alloc, keeper), kept_bytes(&rt, alloc));
 }
 
-/// The calls of a salvage of the script's file: of the old file a sync, the file with its end, and its length; of the new one those of
-/// its creation, its head and one commit.
+/// The calls of a salvage of the script's file. On the old file: a sync, the file with its end, and its length. On the new one there are fewer
+/// than `NEW_CALLS`: those of its creation, its head and one commit.
 const OLD_CALLS: u64 = 4;
 
 const NEW_CALLS: u64 = 20;
 
-/// A salvage where a call of a number fails, of the old file or of the new one: what the new file has then is the first bytes of the
-/// whole one, a latch behind them, or it is blank.
+/// Whether a salvage ends well whose call of this number fails, of the old file or of the new one; 0 is no call. Its fault is of the file whose
+/// call failed.
 fn salvage_failing(rt: &impl Abort, alloc: Global, old: u64, new: u64) -> bool {
     let mut from = kept_file(rt, alloc);
     let mut into = file_of(rt, alloc, &[]);

@@ -100,7 +100,7 @@ pub fn put_pair(rt: &impl Abort, out: &mut Vec<u8>, parts: &[&[Line]]) {
     put_parts(rt, out, parts);
 }
 
-/// The first so many pairs of the script, from one on.
+/// The pairs of the script from `first` to before `end`.
 fn pairs(rt: &impl Abort, alloc: Global, first: usize, end: usize) -> Vec<u8> {
     let mut bytes = Vec::new(alloc);
     for parts in SCRIPT.get(first..end).unwrap_or_default() {
@@ -109,12 +109,12 @@ fn pairs(rt: &impl Abort, alloc: Global, first: usize, end: usize) -> Vec<u8> {
     bytes
 }
 
-/// The first so many pairs of the script.
+/// The first `count` pairs of the script.
 pub fn script(rt: &impl Abort, alloc: Global, count: usize) -> Vec<u8> {
     pairs(rt, alloc, 0, count)
 }
 
-/// The pairs of the script from one on.
+/// The pairs of the script from `first` on.
 pub fn script_from(rt: &impl Abort, alloc: Global, first: usize) -> Vec<u8> {
     pairs(rt, alloc, first, SCRIPT.len())
 }
@@ -139,14 +139,14 @@ pub fn bytes_of<A: Allocator + Clone>(
     bytes
 }
 
-/// The bytes of the file that is given back where no ledger is opened.
+/// The bytes of the file that is returned if no ledger is opened.
 pub fn bytes_left(rt: &impl Abort, alloc: Global, failed: NotKept<Memory>) -> Vec<u8> {
     let bytes = copy_of(rt, alloc, failed.device.bytes());
     drop(failed);
     bytes
 }
 
-/// Why a call gives no ledger, and the bytes of the file behind it.
+/// Why a call returns no ledger, and the bytes of the file after it.
 pub fn outcome(
     rt: &impl Abort,
     alloc: Global,
@@ -161,7 +161,7 @@ pub fn outcome(
     }
 }
 
-/// What serving over a keeper answers, and the replies.
+/// What serving over a keeper returns, and the replies.
 pub fn answered<A: Allocator + Clone>(
     alloc: Global,
     keeper: &mut Keeper<Memory, A>,
@@ -197,7 +197,7 @@ fn kept(rt: &impl Abort, alloc: Global, script: &[u8]) -> (Vec<u8>, Vec<u8>) {
     (told, bytes_of(rt, alloc, keeper))
 }
 
-/// The same of the script.
+/// The same for the script.
 pub fn kept_six(rt: &impl Abort, alloc: Global) -> (Vec<u8>, Vec<u8>) {
     let script = script(rt, alloc, 6);
     let kept = kept(rt, alloc, &script);
@@ -221,7 +221,7 @@ pub fn kept_bytes(rt: &impl Abort, alloc: Global) -> Vec<u8> {
     bytes
 }
 
-/// The replies that a server without a file gives to the first so many pairs.
+/// The replies that a server without a file gives to the first `count` pairs.
 pub fn replies_to(rt: &impl Abort, alloc: Global, count: usize) -> Vec<u8> {
     let script = script(rt, alloc, count);
     let replies = replies(rt, alloc, &script);

@@ -11,7 +11,7 @@ fn opening_of(fault: FileFault) -> OpeningFault {
     found
 }
 
-/// What is reported of words that the system gave this error for.
+/// What is reported of arguments that the system gave this error for.
 fn words_fault_of(kind: ErrorKind) -> KeepCommandFault {
     let error = io::Error::from(kind);
     let found = words_fault(&error);

@@ -12,8 +12,8 @@ use tb_keep_commands::{
 };
 use tb_records::Counting;
 
-/// A file that has one commit more at each fifth time that its length is asked for: an opening asks four times, for the block of the
-/// head and the latch after it, and so does a look at a file that has an entry more, after it has asked once.
+/// A file that has one commit more at each fifth time that its length is asked for. An opening asks four times, for the block of the head and the
+/// latch after it. So does a look at a file that has an entry more, after it has asked once.
 #[derive(Drop)]
 pub struct Growth<G> {
     shown: G,
@@ -66,7 +66,7 @@ fn growing_ledger(rt: &impl Abort, alloc: Global) -> Growth<Memory> {
     }
 }
 
-/// A folder with that file alone, for whose commits is waited so often.
+/// A folder with only that file, for whose commits a dump waits this many times.
 #[derive(Drop)]
 struct Growths {
     alloc: Global,
@@ -109,7 +109,7 @@ impl Opener for Growths {
     }
 }
 
-/// A folder with the growing ledger, for whose commits is waited so often.
+/// A folder with the growing ledger, for whose commits a dump waits this many times.
 fn folder(rt: &impl Abort, alloc: Global, pauses: u32) -> Growths {
     Growths {
         alloc,
@@ -118,7 +118,7 @@ fn folder(rt: &impl Abort, alloc: Global, pauses: u32) -> Growths {
     }
 }
 
-/// What is written of that file as a dump, for whose commits is waited so often.
+/// What is written of that file as a dump that waits this many times for its commits.
 fn dumped(rt: &impl Abort, alloc: Global, part: Part, pauses: u32) -> Vec<u8> {
     let mut folder = folder(rt, alloc, pauses);
     let mut out = Vec::new(alloc);
@@ -140,7 +140,7 @@ fn checked(rt: &impl Abort, alloc: Global) -> Vec<u8> {
     out.into_inner()
 }
 
-/// All entries, behind a head.
+/// All entries, after a head.
 const ALL: Part = Part {
     after: None,
     follows: false,
@@ -152,10 +152,10 @@ const FOLLOWED: Part = Part {
     follows: true,
 };
 
-/// How many bytes of the dump went out where was waited so often: the head has 16, the entries 64 and 320.
+/// How many bytes of the dump are written after this many waits: the head has 16, the entries 64 and 320.
 const LENGTHS: &[(u32, usize)] = &[(0, 16), (1, 80), (2, 400), (3, 400)];
 
-/// Each entry is written once, in the order of commits, behind the head or without one.
+/// Each entry is written once, in the order of commits, after the head or without one.
 #[test]
 fn a_followed_dump_goes_on(rt: HostRuntime) {
     let alloc = rt.alloc();

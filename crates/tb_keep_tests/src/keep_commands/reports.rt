@@ -20,7 +20,7 @@ fn read_far(rt: &impl Abort, alloc: Global, told: &mut Vec<u8>, reports: bool) {
     drop(file);
 }
 
-/// Reads at these offsets are reported each 64 MB, and no others; none where nobody asked.
+/// Reads at these offsets are reported each 64 MB, and no others; nothing is reported if nobody asked.
 #[test]
 fn a_long_read_is_reported(rt: HostRuntime) {
     let alloc = rt.alloc();

@@ -14,10 +14,10 @@ use tb_keep_log::{LogKeeper, NotStarted};
 /// What a torn write leaves in its range.
 const TORN: &[&[u8]] = &[&[], &[0; 40], &[255; 40], &[255]];
 
-/// Where the entry behind each position begins in the log.
+/// Where the entry after each position begins in the log.
 const BEGINS: &[usize] = &[0, 386, 587, 861];
 
-/// The position of a file, and what is answered to the log from there on.
+/// The position of a file, and the replies to the log from there on.
 fn goes_on(rt: &impl Abort, alloc: Global, left: &[u8], log: &[u8]) -> (u64, Vec<u8>) {
     let mut keeper = started(rt, alloc, left);
     let position = keeper.position();
@@ -30,7 +30,7 @@ fn goes_on(rt: &impl Abort, alloc: Global, left: &[u8], log: &[u8]) -> (u64, Vec
     (position, told)
 }
 
-/// A file has so many entries at least, and one more at most, and the log goes on behind them with the last answers.
+/// A file has so many entries at least, and so many at most, and the log goes on after them with the last replies.
 fn expect_crash(rt: &impl Abort, alloc: Global, left: &[u8], least: u64, most: u64) {
     let log = log(rt, alloc);
     let (position, told) = goes_on(rt, alloc, left, &log);
@@ -79,7 +79,7 @@ fn a_crash_at_each_moment(rt: HostRuntime) {
     drop(keeper);
 }
 
-/// The entries that so many bytes of answers rest on.
+/// The entries that this many bytes of replies rest on.
 fn entries_answered(told: usize) -> u64 {
     match told {
         0 => 0,
@@ -101,7 +101,7 @@ fn kept_by(rt: &impl Abort, alloc: Global, keeper: LogKeeper<Memory>) -> (Vec<u8
     (bytes_of(rt, alloc, keeper), told)
 }
 
-/// The same over a new file whose call of a number fails.
+/// The same over a new file whose call of this number fails.
 fn kept_failing(rt: &impl Abort, alloc: Global, number: u64) -> (Vec<u8>, Vec<u8>) {
     let mut file = file_of(rt, alloc, &[]);
     file.fail_at(number);
@@ -121,7 +121,7 @@ fn kept_failing(rt: &impl Abort, alloc: Global, number: u64) -> (Vec<u8>, Vec<u8
     }
 }
 
-/// The call of a number fails: nothing was acknowledged that is not in the file, and the log goes on with the last answers.
+/// The call of this number fails: nothing was acknowledged that is not in the file, and the log goes on with the last replies.
 fn expect_failing(rt: &impl Abort, alloc: Global, number: u64, log: &[u8], whole: &[u8]) {
     let (left, told) = kept_failing(rt, alloc, number);
     let (position, more) = goes_on(rt, alloc, &left, log);

@@ -1,4 +1,4 @@
-//! A log, what it is answered, and what keeps it. The log is examples/first.log, its checksums by Python.
+//! A log, the replies to it, and what keeps it. The log is examples/first.log, with checksums by Python.
 ghost use Rattle.std.specs.Prelude.{◌≡◌, true, Ok};
 ghost use Rattle.tb_journal.specs.Memory.{memory_disk};
 ghost use Rattle.tb_journal.specs.Ready.{IsReady};
@@ -89,7 +89,7 @@ pub fn part(bytes: &[u8], begin: usize, end: usize) -> &[u8] {
     bytes.get(begin..end).unwrap_or_default()
 }
 
-/// What a follower without a file answers a log.
+/// What a follower without a file replies to a log.
 pub fn answers(rt: &impl Abort, alloc: Global, log: &[u8]) -> Vec<u8> {
     let rules = rules(rt);
     let mut reader = Counting::new(log);
@@ -129,7 +129,7 @@ pub fn bytes_of(rt: &impl Abort, alloc: Global, keeper: LogKeeper<Memory>) -> Ve
     sure(rt, bytes)
 }
 
-/// What keeping a log over a keeper answers, and the bytes that it writes.
+/// What keeping a log over a keeper returns, and the bytes that it writes.
 pub fn kept(
     alloc: Global,
     keeper: &mut LogKeeper<Memory>,

@@ -63,7 +63,7 @@ fn posts() -> [Transfer; 6] {
     ]
 }
 
-/// Each in a request of its own: the sums of both accounts then, and the records of a whole post, a part and none.
+/// Each in a request of its own: the sums of both accounts then, and the records of posts of the whole, a part and nothing.
 #[test]
 fn posts_whole_part_and_none(rt: HostRuntime) {
     for profile in &BOTH {

@@ -6,7 +6,7 @@ use tb_records::{
     AccountFlag, CreateAccountResult as AccountOutcome, CreateTransferResult as Outcome, Operation,
 };
 
-/// A balancing debit of 80 where 50 is left, and its repeats.
+/// A balancing debit of 80 from an account that has 50 left, and its repeats.
 const DEBIT_LOWERED: [Step; 11] = [
     Step::Single(Row::Plain(1, 2, 1, 100), Outcome::Ok),
     Step::Single(Row::Plain(2, 1, 2, 20), Outcome::Ok),
@@ -29,7 +29,7 @@ fn balancing_debit_lowers(rt: HostRuntime) {
     serve(&rt, rt.alloc(), &PROFILES, &[&BEGIN, &DEBIT_LOWERED]);
 }
 
-/// One more, where nothing is left.
+/// One more, when nothing is left.
 const DEBIT_TO_ZERO: [Step; 5] = [
     Step::Single(Row::DebitBalanced(5, 1, 2, 10), Outcome::Ok),
     Step::Id(5),

@@ -1,5 +1,5 @@
-//! Nothing is asked again: a reader or a writer of which one call alone goes wrong. The calls behind it are counted, and what
-//! was written is the answer to what was read.
+//! No call is repeated: exactly one call of a reader or a writer goes wrong. The calls after it are counted, and what was written is the reply to
+//! what was read.
 use crate::comparing::holds_at;
 use crate::machine::forms::{Form, Outcome, serve};
 use crate::machine::scripts::Script;
@@ -9,16 +9,16 @@ use std::io::{self, Error, ErrorKind, Read, Write};
 use std::process::Abort;
 use tb_records::{Counting, Sink, Source};
 
-/// Reads and writes move at most so many bytes.
+/// Reads and writes move at most this many bytes.
 const CALL_BYTES_MAX: usize = 40;
 
-/// A reader of which the call behind so many good ones fails, and no other.
+/// A reader of which only the call after this many good ones fails.
 #[derive(Drop)]
 struct Slipping<'a> {
     rest: &'a [u8],
     good: u32,
     calls: u32,
-    // The calls behind the one that found nothing left.
+    // The calls after the one that found nothing left.
     late: u32,
     ended: bool,
 }
@@ -37,14 +37,14 @@ impl Read for Slipping<'_> {
     }
 }
 
-/// A writer of which the write behind so many good ones fails, or takes nothing, and no other.
+/// A writer of which only the write after this many good ones fails, or takes nothing.
 #[derive(Drop)]
 struct Stumbling {
     taken: Vec<u8>,
     good: u32,
     fails: bool,
     writes: u32,
-    // The calls behind that write, flushes among them.
+    // The calls after that write, flushes among them.
     late: u32,
 }
 
@@ -88,7 +88,7 @@ struct Input {
 }
 
 impl Input {
-    /// The pairs or entries that lie in so many bytes.
+    /// The pairs or entries that lie in this many bytes.
     fn pairs_within(&self, count: usize) -> &[u8] {
         let mut within = 0;
         for end in self.ends {
@@ -100,7 +100,7 @@ impl Input {
     }
 }
 
-/// What is written where nothing fails.
+/// What is written if nothing fails.
 fn whole(rt: &impl Abort, alloc: Global, form: Form, input: &[u8]) -> Vec<u8> {
     let mut reader = Counting::new(input);
     let mut writer = Counting::new(Vec::new(alloc));
@@ -109,7 +109,7 @@ fn whole(rt: &impl Abort, alloc: Global, form: Form, input: &[u8]) -> Vec<u8> {
     writer.into_inner()
 }
 
-/// What was written is what the pairs give that lie in so many bytes of the input. Of a dump without its head nothing is.
+/// What was written is what the pairs that lie in this many bytes of the input give. Nothing is written for a dump without its head.
 fn expect_written(rt: &impl Abort, alloc: Global, input: &Input, read: usize, written: &[u8]) {
     let pairs = input.pairs_within(read);
     if pairs.is_empty() && input.form == Form::Replay {
@@ -121,7 +121,7 @@ fn expect_written(rt: &impl Abort, alloc: Global, input: &Input, read: usize, wr
     }
 }
 
-/// A reader of an input that fails behind so many good reads.
+/// A reader of an input that fails after this many good reads.
 fn failing_reader(input: &[u8], good: u32) -> Counting<Slipping<'_>> {
     Counting::new(Slipping {
         rest: input,
@@ -132,7 +132,7 @@ fn failing_reader(input: &[u8], good: u32) -> Counting<Slipping<'_>> {
     })
 }
 
-/// How a call is to end, and how many failures are counted: well where the calls were no more than the good ones.
+/// How a call is to end, and how many failures are counted: well if there were no more calls than good ones.
 fn ending(calls: u32, good: u32, failures: u64) -> (Outcome, u64) {
     if calls <= good {
         (Outcome::Done, 0)
@@ -141,7 +141,7 @@ fn ending(calls: u32, good: u32, failures: u64) -> (Outcome, u64) {
     }
 }
 
-/// Serves an input with the read behind so many failing; says whether one did. What was read before is answered.
+/// Serves an input, and the read after this many fails; returns whether one did. What was read before gets its reply.
 fn slip(rt: &impl Abort, alloc: Global, input: &Input, good: u32) -> bool {
     let mut reader = failing_reader(input.bytes.as_slice(), good);
     let mut writer = Counting::new(Vec::new(alloc));
@@ -163,7 +163,7 @@ fn slip(rt: &impl Abort, alloc: Global, input: &Input, good: u32) -> bool {
     calls > good
 }
 
-/// A writer that fails, or takes nothing, behind so many good writes.
+/// A writer that fails, or takes nothing, after this many good writes.
 fn failing_writer(alloc: Global, good: u32, fails: bool) -> Counting<Stumbling> {
     Counting::new(Stumbling {
         taken: Vec::new(alloc),
@@ -174,8 +174,8 @@ fn failing_writer(alloc: Global, good: u32, fails: bool) -> Counting<Stumbling> 
     })
 }
 
-/// Serves an input with the write behind so many failing, or taking nothing; says whether one did. What was taken is a prefix
-/// of what is wanted, and all of it where none did.
+/// Serves an input, and the write after this many fails, or takes nothing; returns whether one did. What was taken is a prefix of what is wanted,
+/// and all of it if none did.
 fn stumble(
     rt: &impl Abort,
     alloc: Global,
@@ -204,7 +204,7 @@ fn stumble(
     writes > good
 }
 
-/// How many reads go well before one fails that nothing comes after: where there is no such read, 100.
+/// How many reads an input takes: the least number of good ones after which none fails. It is 100 if none below that is.
 fn reads(rt: &impl Abort, alloc: Global, input: &Input) -> u32 {
     for good in 0..100 {
         if !slip(rt, alloc, input, good) {
@@ -214,7 +214,7 @@ fn reads(rt: &impl Abort, alloc: Global, input: &Input) -> u32 {
     100
 }
 
-/// The same of writes, which fail or take nothing.
+/// The same for writes, which fail or take nothing.
 fn writes(rt: &impl Abort, alloc: Global, input: &Input, wanted: &[u8], fails: bool) -> u32 {
     for good in 0..100 {
         if !stumble(rt, alloc, input, wanted, good, fails) {
@@ -237,7 +237,7 @@ fn expect_no_second_try(rt: &impl Abort, alloc: Global, input: &Input) {
     holds_at(rt, failing == full, &full);
 }
 
-/// An input that is at its end where a read finds nothing: no other read follows.
+/// An input ends when a read finds nothing: no other read follows.
 fn expect_end(rt: &impl Abort, alloc: Global, form: Form, input: &[u8]) {
     let mut reader = failing_reader(input, u32::MAX);
     let mut writer = Counting::new(Vec::new(alloc));
@@ -250,14 +250,14 @@ fn expect_end(rt: &impl Abort, alloc: Global, form: Form, input: &[u8]) {
     holds_at(rt, late == 0, &length);
 }
 
-/// The same of an input that is cut anywhere.
+/// The same for an input that is cut anywhere.
 fn expect_one_end(rt: &impl Abort, alloc: Global, input: &Input) {
     for length in 0..=input.bytes.len() {
         expect_end(rt, alloc, input.form, &input.bytes[..length]);
     }
 }
 
-/// Nothing is asked again, whatever fails, and wherever the input ends.
+/// No call is repeated, whatever fails, and wherever the input ends.
 fn expect_asked_once(rt: &impl Abort, alloc: Global, input: Input) {
     expect_no_second_try(rt, alloc, &input);
     expect_one_end(rt, alloc, &input);

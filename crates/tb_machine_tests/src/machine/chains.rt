@@ -66,7 +66,7 @@ fn broken_chain_frees_its_post(rt: HostRuntime) {
     serve(&rt, rt.alloc(), &PROFILES, &[&BEGIN, &BROKEN_POST]);
 }
 
-/// A transfer from an account that is not there.
+/// A transfer from an account that does not exist.
 const FAILED_ALONE: [Step; 1] = [Step::Single(
     Row::Plain(70, 99, 2, 1),
     Outcome::DebitAccountNotFound,
@@ -80,7 +80,7 @@ const FAILED_IN_A_CHAIN: [Step; 4] = [
     Step::Single(Row::Plain(71, 1, 2, 1), Outcome::Ok),
 ];
 
-/// The ids that failed come again, with an account that is there: by profile 1 they are free.
+/// The ids that failed come again, with an account that exists: by profile 1 they are free.
 const FREE_AGAIN: [Step; 1] = [Step::Single(Row::Plain(70, 1, 2, 1), Outcome::Ok)];
 
 const FREE_AT_LAST: [Step; 9] = [
@@ -130,8 +130,8 @@ fn failed_id_is_refused_again(rt: HostRuntime) {
     serve(&rt, rt.alloc(), &[Profile::Two], &FAILED);
 }
 
-/// A failed id fails again in its own batch already, and ever after. An event that is there with other flags fails no id:
-/// once its chain is undone, 75 is free.
+/// A failed id fails again in its own batch already, and ever after. An event that exists with other flags fails no id: once its chain is undone,
+/// 75 is free.
 const OUTLIVING: [Step; 9] = [
     Step::Transfer(Row::Plain(74, 99, 2, 1), Outcome::DebitAccountNotFound),
     Step::Transfer(Row::Plain(74, 1, 2, 1), Outcome::IdAlreadyFailed),

@@ -63,7 +63,7 @@ fn put_transfer(rt: &impl Abort, out: &mut Vec<u8>, number: u8, id: u8, debit: u
     put_lines(rt, out, &[1 << 120, 0, 0, 0, END]);
 }
 
-/// A register, accounts 1 and 2, a transfer 77 from an account that is not there, and transfer 77 from account 1.
+/// A register, accounts 1 and 2, a transfer 77 from an account that does not exist, and transfer 77 from account 1.
 fn put_failed_and_again(rt: &impl Abort, out: &mut Vec<u8>) {
     put_register(rt, out, 10, 7);
     put_accounts(rt, out);
@@ -71,7 +71,7 @@ fn put_failed_and_again(rt: &impl Abort, out: &mut Vec<u8>) {
     put_transfer(rt, out, 3, 77, 1);
 }
 
-/// Dumps a script for two clients, and compares the answer; gives what was written.
+/// Dumps a script for two clients, and compares the result; returns what was written.
 fn dumped(
     rt: &impl Abort,
     alloc: Global,
@@ -87,7 +87,7 @@ fn dumped(
     writer.into_inner()
 }
 
-/// Replays a dump, and compares the answer; gives the replies.
+/// Replays a dump, and compares the result; returns the replies.
 fn replayed(
     rt: &impl Abort,
     alloc: Global,
@@ -126,7 +126,7 @@ fn dump_and_replay(rt: HostRuntime) {
     drop(script);
 }
 
-/// A dump has the mark at this place, where one is named.
+/// A dump has the mark at this place, if one is named.
 fn has_mark(dump: &[u8], mark: Option<usize>) -> bool {
     match mark {
         Some(place) => {
@@ -137,8 +137,7 @@ fn has_mark(dump: &[u8], mark: Option<usize>) -> bool {
     }
 }
 
-/// Replies have the code 21 of the first transfer 77, and this code of the second one, or no result of it where that is
-/// 0.
+/// Replies have the code 21 for the first transfer 77, and this code for the second one, or no result for it if that is 0.
 fn has_codes(replies: &[u8], code: u8) -> bool {
     let first = replies.get(148..152) == Some([21, 0, 0, 0].as_slice());
     if code == 0 {
@@ -162,7 +161,7 @@ fn expect_mark(rt: &impl Abort, alloc: Global, script: &[u8], at: Option<u64>, w
     drop(dump);
 }
 
-/// Marks behind no entry, behind the last, and before the fourth and the third.
+/// No mark, one that would be after the last entry, and marks before the fourth and the third.
 const MARKS: [(Option<u64>, Marked); 4] = [
     (None, (784, None, 0)),
     (Some(4), (784, None, 0)),
@@ -180,14 +179,13 @@ fn mark_in_a_dump(rt: HostRuntime) {
     drop(script);
 }
 
-/// A dump by its lines, of which so many bytes are there; what its replay answers; and how many bytes of replies it writes.
+/// A dump by its lines, of which this many bytes are there; what its replay returns; and how many bytes of replies it writes.
 type Row = (&'static [Line], usize, Result<u64, DumpFault>, usize);
 
 const SHORT: Result<u64, DumpFault> = Err(DumpFault::Frame(FrameFault::Short));
 
-/// Heads that are none, marks that may not be where they are, a history that begins with commit number 2, one whose entry
-/// comes again, and inputs that are cut. A mark may be at the end; where an input ends in one that may not be there, it
-/// is short.
+/// Wrong heads, marks that may not be where they are, a history that begins with commit number 2, one whose entry comes again, and inputs that
+/// are cut. A mark may be at the end; if an input ends in one that may not be there, it is short.
 const ROWS: [Row; 15] = [
     (&[HEAD], 16, Ok(0), 0),
     (

@@ -9,7 +9,7 @@ use std::process::Abort;
 use tb_machine::RunFault;
 use tb_records::{ClientsMax, FrameFault, Profile};
 
-/// Serves a script by each profile as far as its fault, for two clients at most, and lets it go.
+/// Serves a script by each profile as far as its fault, for two clients at most, and drops it.
 pub fn expect_fault(rt: &impl Abort, script: Script, fault: RunFault) {
     let clients_max = clients_max(rt, 2);
     for profile in &PROFILES {
@@ -30,21 +30,21 @@ const EXHAUSTED: [Step; 5] = [
     Step::Moment(0),
 ];
 
-/// There is no time for client 8's register behind these steps.
+/// There is no time for client 8's register after these steps.
 fn expect_exhausted(rt: &impl Abort, alloc: Global, steps: &[Step]) {
     let mut script = script_of(rt, alloc, &[steps]);
     script.ask(rt, Head::register(8, 0));
     expect_fault(rt, script, RunFault::TimeExhausted);
 }
 
-/// Behind an entry at the last moment, and for the first entry behind it.
+/// After an entry at the last moment, and for a first entry after that moment.
 #[test]
 fn time_runs_out(rt: HostRuntime) {
     expect_exhausted(&rt, rt.alloc(), &EXHAUSTED);
     expect_exhausted(&rt, rt.alloc(), &[Step::Moment(LAST + 1)]);
 }
 
-/// The answer to the three requests cut at a length, and how many bytes are written: the replies to all whole pairs.
+/// What serving the three requests cut at a length returns, and how many bytes are written: the replies to all whole pairs.
 fn answer_at(len: usize) -> (Result<u64, RunFault>, usize) {
     let short = Err(RunFault::Frame(FrameFault::Short));
     match len {
@@ -58,7 +58,7 @@ fn answer_at(len: usize) -> (Result<u64, RunFault>, usize) {
     }
 }
 
-/// Serves the beginning of a script by a profile, and compares what is answered and written.
+/// Serves a prefix of a script by a profile, and compares what is returned and written.
 fn expect_cut(
     rt: &impl Abort,
     script: &Script,

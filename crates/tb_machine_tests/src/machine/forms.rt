@@ -9,7 +9,7 @@ use tb_records::{DumpFault, FrameFault, Profile, Sink, Source};
 #[derive(Clone, Copy, PartialEq, Eq)]
 pub enum Form {
     Run,
-    /// With a mark behind the first entry.
+    /// With a mark after the first entry.
     Dump,
     Replay,
 }

@@ -28,7 +28,7 @@ pub const ACCOUNTS: [&[u128]; 7] = [
     &[NEW],
 ];
 
-/// The frames of the three requests, 16 bytes a line: a register, two accounts, a lookup. Each is behind the moment 10, in 8 bytes.
+/// The frames of the three requests, 16 bytes a line: a register, two accounts, a lookup. Each is after the moment 10, in 8 bytes.
 const REQUESTS: [&[&[u128]]; 3] = [
     &[&[SEVEN, 0x00000000000000000000000002000000, 0]],
     &ACCOUNTS,
@@ -69,7 +69,7 @@ pub fn put_parts(rt: &impl Abort, out: &mut Vec<u8>, parts: &[&[u128]]) {
     }
 }
 
-/// Appends the frames of the three requests, each behind the moment 10.
+/// Appends the frames of the three requests, each after the moment 10.
 fn put_requests(rt: &impl Abort, out: &mut Vec<u8>) {
     for parts in &REQUESTS {
         put_bytes(rt, out, &10u64.to_le_bytes());

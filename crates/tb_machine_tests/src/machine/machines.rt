@@ -34,12 +34,12 @@ fn request_of(rt: &impl Abort, alloc: Global, numbers: Numbers, ask: Ask) -> Req
     Request::new(client, session, number, body).expect(rt, "a request")
 }
 
-/// So many clients at most.
+/// This many clients at most.
 pub fn clients_max(rt: &impl Abort, number: u32) -> ClientsMax {
     ClientsMax::new(number).expect(rt, "clients_max")
 }
 
-/// A machine by profile 1 for so many clients at most.
+/// A machine by profile 1 for this many clients at most.
 pub fn machine(rt: &impl Abort, alloc: Global, clients: u32) -> Machine<Global> {
     let made = Machine::new_in(alloc, alloc, Profile::One, clients_max(rt, clients));
     made.expect(rt, "a machine")

@@ -78,7 +78,7 @@ const OPEN_BY_ONE: [Step; 2] = [
     Step::First([0, 1, 0, 0]),
 ];
 
-/// By profile 2 it has failed for good.
+/// By profile 2 it has failed permanently.
 const FAILED_BY_TWO: [Step; 2] = [
     Step::Single(Row::Plain(41, 1, 2, 1), Outcome::IdAlreadyFailed),
     Step::First([0, 0, 0, 0]),
@@ -136,7 +136,7 @@ const AGAIN_BY_ONE: [Step; 1] = [Step::Single(Row::Plain(63, 1, 2, 1), Outcome::
 
 const POSTED_BY_ONE: [Step; 1] = [Step::First([1, 1, 0, 0])];
 
-/// By profile 2 it has failed for good.
+/// By profile 2 it has failed permanently.
 const AGAIN_BY_TWO: [Step; 1] = [Step::Single(Row::Plain(63, 1, 2, 1), Outcome::IdAlreadyFailed)];
 
 const POSTED_BY_TWO: [Step; 1] = [Step::First([1, 0, 0, 0])];

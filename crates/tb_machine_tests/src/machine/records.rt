@@ -42,7 +42,7 @@ fn posts() -> [Transfer; 3] {
     ]
 }
 
-/// Accounts in the order of ids, and none where there is none.
+/// Accounts in the order of ids, without those that do not exist.
 fn expect_accounts(rt: &impl Abort, machine: &Machine<Global>, want: &[Account; 2]) {
     let found = machine.lookup_accounts(&[2, 9, 1]).expect(rt, "memory");
     holds(rt, found.as_slice() == want.as_slice(), "accounts");
@@ -53,7 +53,7 @@ fn expect_accounts(rt: &impl Abort, machine: &Machine<Global>, want: &[Account; 
     holds(rt, machine.account(9).is_none(), "account 9");
 }
 
-/// Transfers in the order of ids, and none where there is none.
+/// Transfers in the order of ids, without those that do not exist.
 fn expect_transfers(rt: &impl Abort, machine: &Machine<Global>, want: &[Transfer; 3]) {
     let ids = [21, 23, 26, 25];
     let found = machine.lookup_transfers(&ids).expect(rt, "memory");

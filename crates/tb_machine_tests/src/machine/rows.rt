@@ -13,7 +13,7 @@ pub enum AccountRow {
     Limited(u128),
     /// In another ledger.
     InLedger(u32, u128),
-    /// Of another code.
+    /// With another code.
     OfCode(u16, u128),
 }
 

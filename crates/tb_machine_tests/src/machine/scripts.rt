@@ -34,7 +34,7 @@ impl Head {
     }
 }
 
-/// Appends a number, little-endian, in so many bytes, 16 at most.
+/// Appends a number, little-endian, in this many bytes, 16 at most.
 pub fn put(rt: &impl Abort, out: &mut Vec<u8>, number: u128, width: usize) {
     for byte in number.to_le_bytes().iter().take(width) {
         out.push(*byte).expect(rt, "memory");
@@ -46,14 +46,14 @@ pub fn put_bytes(rt: &impl Abort, out: &mut Vec<u8>, bytes: &[u8]) {
     out.extend_from_slice(bytes).expect(rt, "memory");
 }
 
-/// Appends numbers, each in so many bytes.
+/// Appends numbers, each in this many bytes.
 fn put_all(rt: &impl Abort, out: &mut Vec<u8>, numbers: &[(u128, usize)]) {
     for (number, width) in numbers {
         put(rt, out, *number, *width);
     }
 }
 
-/// Appends the first 32 bytes of a header, which requests and replies share but for the status.
+/// Appends the first 32 bytes of a header, which requests and replies share except for the status.
 fn put_head(rt: &impl Abort, out: &mut Vec<u8>, head: Head, status: u8) {
     put_all(
         rt,
@@ -149,7 +149,7 @@ impl Script {
         }
     }
 
-    /// A request's moment and header, of which the body has so many bytes.
+    /// The moment and header of a request whose body has this many bytes.
     pub fn ask_header(&mut self, rt: &impl Abort, head: Head, length: usize) {
         put(rt, &mut self.bytes, self.moment as u128, 8);
         put_head(rt, &mut self.bytes, head, 0);
@@ -162,7 +162,7 @@ impl Script {
         self.ask_header(rt, head, 0);
     }
 
-    /// The header of a reply that is wanted, of which the body has so many bytes.
+    /// The header of a wanted reply whose body has this many bytes.
     fn want(&mut self, rt: &impl Abort, head: Head, status: Status, commit: u64, length: usize) {
         put_head(rt, &mut self.replies, head, status.code());
         put_all(
@@ -230,7 +230,7 @@ impl Script {
         self.want(rt, head, status, 0, 0);
     }
 
-    /// Counts an event of client 7's next request, and puts its result's code into the answer where that is not 0.
+    /// Counts an event of client 7's next request, and puts its result's code into the reply if that is not 0.
     fn put_event(&mut self, rt: &impl Abort, code: u32) {
         let index = self.events;
         self.events = index.wrapping_add(1);
@@ -278,7 +278,7 @@ impl Script {
         self.events = 0;
     }
 
-    /// Client 7's next request, which is entered: its body and the answer are those that were put.
+    /// Client 7's next request, which is entered: its body and its reply's are those that were put.
     pub fn send(&mut self, rt: &impl Abort, operation: Operation) {
         self.count();
         let head = Head::of_seven(self.number, operation);

@@ -8,7 +8,7 @@ use std::process::Abort;
 use tb_machine::{RunFault, run};
 use tb_records::{ClientsMax, Counting, Profile};
 
-/// What `run` answers to a script, and what it writes.
+/// What `run` returns for a script, and what it writes.
 fn run_over(
     alloc: Global,
     clients_max: ClientsMax,
@@ -21,7 +21,7 @@ fn run_over(
     (result, writer.into_inner())
 }
 
-/// Serves the bytes of a script, and compares the answer and the replies with those that are wanted.
+/// Serves the bytes of a script, and compares the result and the replies with those that are wanted.
 pub fn expect_bytes(
     rt: &impl Abort,
     alloc: Global,
@@ -37,7 +37,7 @@ pub fn expect_bytes(
     drop(replies);
 }
 
-/// Serves a script, and compares the answer and the replies with those that are wanted.
+/// Serves a script, and compares the result and the replies with those that are wanted.
 pub fn expect(
     rt: &impl Abort,
     script: &Script,
@@ -57,7 +57,7 @@ pub fn expect(
     );
 }
 
-/// Serves a script to its end, for so many clients at most.
+/// Serves a script to its end, for this many clients at most.
 pub fn expect_whole(rt: &impl Abort, script: &Script, clients_max: ClientsMax, profile: Profile) {
     expect(rt, script, clients_max, profile, Ok(script.requests));
 }
@@ -65,7 +65,7 @@ pub fn expect_whole(rt: &impl Abort, script: &Script, clients_max: ClientsMax, p
 /// The profiles: what a script says of both is served by each.
 pub const PROFILES: [Profile; 2] = [Profile::One, Profile::Two];
 
-/// Serves a script to its end by profiles, for two clients at most, and lets it go.
+/// Serves a script to its end by profiles, for two clients at most, and drops it.
 pub fn expect_all(rt: &impl Abort, script: Script, profiles: &[Profile]) {
     let clients_max = clients_max(rt, 2);
     for profile in profiles {

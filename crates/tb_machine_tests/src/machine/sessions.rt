@@ -109,7 +109,7 @@ fn put_hundred(rt: &impl Abort, script: &mut Script) {
     }
 }
 
-/// What comes behind the hundred: the last of them has the place, and gives it to the first, who comes again.
+/// What comes after the hundred: the last of them has the place, and gives it to the first, who comes again.
 const LAST: [Step; 4] = [
     Step::Look(100, 100, 1, Status::Reply, 101),
     Step::Register(1, 102),

@@ -1,4 +1,4 @@
-//! A script as data: one step after another, with what each is to be answered.
+//! A script as data: one step after another, with the reply that each is to get.
 use crate::machine::fixtures::resolved;
 use crate::machine::rows::{AccountRow, TransferRow, account_of, transfer_of};
 use crate::machine::scripts::Script;
@@ -7,7 +7,7 @@ use std::process::Abort;
 use tb_fixtures::{account, at, found};
 use tb_records::{CreateAccountResult, CreateTransferResult, Operation, Status, Transfer};
 
-/// What a script asks next, and what it is to be answered.
+/// What a script asks next, and the reply that it is to get.
 #[derive(Clone, Copy)]
 pub enum Step {
     /// The moment of what follows.

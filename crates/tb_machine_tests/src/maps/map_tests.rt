@@ -4,7 +4,7 @@ use avl_tree::AvlMap;
 use std::alloc::Global;
 use std::process::Abort;
 
-/// Inserts a pair, where there is a spare node and the key is absent.
+/// Inserts a pair, if there is a spare node and the key is absent.
 fn put<K: Ord + Copy + Default, V: Default + Drop>(
     rt: &impl Abort,
     map: &mut AvlMap<K, V, Global>,
@@ -17,7 +17,7 @@ fn put<K: Ord + Copy + Default, V: Default + Drop>(
     map.insert_reserved(key, value);
 }
 
-/// Spare nodes for so many keys.
+/// Spare nodes for this many keys.
 fn reserve<K: Ord + Copy + Default, V: Default + Drop>(
     rt: &impl Abort,
     map: &mut AvlMap<K, V, Global>,
@@ -45,7 +45,7 @@ fn longest_path(rt: &impl Abort, map: &AvlMap<u32, u64, Global>, last: u32) -> u
     longest
 }
 
-/// Of the keys from 1 to `last` none is searched for by more visits, and none is found behind them.
+/// No search for a key from 1 to `last` visits more than `most` nodes, and no key after them is found.
 fn expect_short(rt: &impl Abort, alloc: Global, last: u32, most: u32) {
     let mut map = AvlMap::new_in(alloc);
     put_rising(rt, &mut map, last);
@@ -63,20 +63,20 @@ fn probes_stay_short(rt: HostRuntime) {
 
 type Map = AvlMap<u64, u128, Global>;
 
-/// What a map is asked, and what it answers.
+/// A call on a map, and what it returns.
 #[derive(Clone, Copy)]
 enum Step {
     /// A new key takes a spare node.
     Insert(u64, u128),
     /// A key leaves: the value that it had.
     Remove(u64, Option<u128>),
-    /// A key gets a value: the one that it had, or the one given where the key is absent.
+    /// A key gets a value: the one that it had, or the one given if the key is absent.
     Set(u64, u128, Result<u128, u128>),
     Get(u64, Option<u128>),
     First(Option<u64>),
     /// The keys of a range, below 10, as the digits of a number.
     Range(u64, u64, u64),
-    /// So many pairs, and so many spare nodes less than at first.
+    /// This many pairs, and this many spare nodes less than at first.
     Pairs(usize, usize),
 }
 
@@ -97,7 +97,7 @@ fn first_key(map: &Map) -> Option<u64> {
     Some(*key)
 }
 
-/// The answer of a map that had so many spare nodes at first is the one that is wanted.
+/// The result of a map that had this many spare nodes at first is the one that is wanted.
 fn is_so(rt: &impl Abort, map: &mut Map, reserved: usize, step: Step) -> bool {
     match step {
         Step::Insert(key, value) => {

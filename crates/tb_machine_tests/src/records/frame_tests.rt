@@ -1,4 +1,4 @@
-//! The faults of requests, and a stream that stays at its fault. Frames of each kind are tried over `tbs`, by tests/programs.
+//! The faults of requests, and a stream that stays at its fault. Frames of each kind are tested over `tbs`, by tests/programs.
 use crate::comparing::{holds, holds_at};
 use crate::records::vectors::{CREATION, REGISTER, creation, lookup, with};
 use std::alloc::Global;
@@ -92,7 +92,7 @@ fn request_faults_in_order(rt: HostRuntime) {
     );
 }
 
-/// A creation with a reserved byte that is not 0, and a register behind it.
+/// A creation with a reserved byte that is not 0, and a register after it.
 fn damaged() -> [u8; 352] {
     let mut bytes = [0; 352];
     bytes[..304].copy_from_slice(&creation(&with(&CREATION, 29, 1)));

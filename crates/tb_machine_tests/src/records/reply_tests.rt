@@ -1,5 +1,4 @@
-//! The faults of replies, and requests and replies as they are written and read. Frames of each kind are tried over `tbs`, by
-//! tests/programs.
+//! The faults of replies, and requests and replies as they are written and read. Frames of each kind are tested over `tbs`, by tests/programs.
 ghost use Rattle.std.specs.Prelude.{◌≡◌, MatchResult};
 
 use crate::comparing::{holds, holds_at};
@@ -78,19 +77,19 @@ fn looking_up(alloc: Global) -> Result<Request, FrameFault> {
     ask(2, Body::LookupAccounts(ids))
 }
 
-/// Says that the reply is appended as these bytes.
+/// Says whether the reply is appended as these bytes.
 fn is_written(alloc: Global, reply: &Reply, bytes: &[u8]) -> bool {
     let mut out = Vec::new(alloc);
     write_reply(reply, &mut out).is_ok() && out.as_slice() == bytes
 }
 
-/// Says that the reply is sent as these bytes.
+/// Says whether the reply is sent as these bytes.
 fn is_sent(alloc: Global, reply: &Reply, bytes: &[u8]) -> bool {
     let mut sink = Counting::new(Vec::new(alloc));
     send_reply(&mut sink, reply).is_ok() && sink.into_inner().as_slice() == bytes
 }
 
-/// Says that a reply is read from these bytes, which is written as the same bytes.
+/// Says whether a reply is read from these bytes, which is written as the same bytes.
 fn is_read(alloc: Global, bytes: &[u8]) -> bool {
     match read_reply(alloc, bytes) {
         Ok((read, n)) => {
@@ -102,7 +101,7 @@ fn is_read(alloc: Global, bytes: &[u8]) -> bool {
     }
 }
 
-/// Says that the reply is written and sent as these bytes and read from them.
+/// Says whether the reply is written and sent as these bytes and read from them.
 fn is_both_ways(alloc: Global, reply: &Reply, bytes: &[u8]) -> bool {
     is_written(alloc, reply, bytes) && is_sent(alloc, reply, bytes) && is_read(alloc, bytes)
 }
@@ -125,7 +124,7 @@ fn replies_both_ways(rt: HostRuntime) {
     expect_both(&rt, alloc, found(alloc), &found_bytes());
 }
 
-/// Says that the request is appended to other bytes as these.
+/// Says whether the request is appended to other bytes as these.
 fn is_appended(alloc: Global, request: &Request, bytes: &[u8]) -> bool {
     let Ok(mut out) = REGISTER.to_vec(alloc) else {
         return false;
@@ -229,8 +228,8 @@ fn copies_are_equal(rt: HostRuntime) {
     expect_appended(&rt, alloc, sharing_copy(alloc), &creation(&CREATION));
 }
 
-/// Writes a reply and reads it back. That no other one is read follows of the contracts alone: what was written is the
-/// reply's own encoding, of which there is one reading.
+/// Writes a reply and reads it back. Only the contracts are needed to prove that no other one is read: what was written is the reply's own
+/// encoding, which has one reading.
 fn read_back(alloc: Global, reply: &Reply) -> Result<Reply, FrameFault>
     ensures { MatchResult result (λ read. read ≡ reply.now) (λ fault. fault ≡ FrameFault.NoMemory) }
 {

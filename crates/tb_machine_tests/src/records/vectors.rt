@@ -67,7 +67,7 @@ pub(crate) fn account(id: u128, timestamp: u64) -> Account {
     }
 }
 
-/// A header, and two records behind it.
+/// A header, and two records after it.
 fn two_behind(header: &[u8; 48], one: &[u8; 128], other: &[u8; 128]) -> [u8; 304] {
     let mut bytes = [0; 304];
     let (front, records) = bytes.split_at_mut(48);

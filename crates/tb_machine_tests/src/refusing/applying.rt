@@ -1,4 +1,4 @@
-//! Rows' requests, each applied as an entry: where an allocation is refused the entry is applied again.
+//! Rows' requests, each applied as an entry: if an allocation is refused, the entry is applied again.
 use crate::refusing::comparing::holds;
 use crate::refusing::shown::{Shown, expect_same, look};
 use crate::refusing::turns::Turn;
@@ -6,7 +6,7 @@ use std::alloc::{Allocator, Global};
 use std::process::Abort;
 use tb_machine::{Entry, Machine};
 
-/// Applies an entry that may come next, twice at the most; says whether it was refused once.
+/// Applies an entry that may come next, twice at the most; returns whether it was refused once.
 fn apply_twice<A: Allocator + Clone>(
     rt: &impl Abort,
     machine: &mut Machine<A>,
@@ -23,8 +23,7 @@ fn apply_twice<A: Allocator + Clone>(
     true
 }
 
-/// Applies an entry that may come next; where that is refused nothing has changed, and it is applied again. Says whether
-/// it was refused.
+/// Applies an entry that may come next. If that is refused, nothing has changed, and it is applied again. Returns whether it was refused.
 fn apply<A: Allocator + Clone>(rt: &impl Abort, machine: &mut Machine<A>, entry: &Entry) -> bool {
     let before = look(rt, machine);
     let refused = apply_twice(rt, machine, entry, &before);
@@ -32,7 +31,7 @@ fn apply<A: Allocator + Clone>(rt: &impl Abort, machine: &mut Machine<A>, entry:
     refused
 }
 
-/// Enters a request at its moment; says whether that was refused once.
+/// Enters a request at its moment; returns whether that was refused once.
 pub(crate) fn enter<A: Allocator + Clone>(
     rt: &impl Abort,
     alloc: Global,
@@ -51,7 +50,7 @@ pub(crate) fn enter<A: Allocator + Clone>(
     refused
 }
 
-/// Enters the requests; answers the commit numbers of the entries that were refused once.
+/// Enters the requests; returns the commit numbers of the entries that were refused once.
 pub(crate) fn enter_all<A: Allocator + Clone>(
     rt: &impl Abort,
     alloc: Global,

@@ -9,15 +9,15 @@ use tb_machine::Machine;
 use tb_records::{ClientsMax, Profile};
 use tb_refusing::{Refusing, Tally};
 
-/// The undo log has capacity for four changes of each event, and of the next power of two of them; a change has at most so many bytes:
+/// The undo log has capacity for four changes of each event, and of the next power of two of them; a change has at most this many bytes:
 /// a row, and which change it is.
 const LOG_BYTES: u64 = 4 * 144;
 
-/// What is kept of an event has at most so many bytes, with the links of its trees: a transfer's row, a timeout, an id that
+/// What is kept of an event has at most this many bytes, with the links of its trees: a transfer's row, a timeout, an id that
 /// failed.
 const KEPT_BYTES: u64 = 192 + 80 + 80;
 
-/// Client 7's batch of so many transfers of 1 each, alone or as one chain.
+/// Client 7's batch of this many transfers of 1 each, separate or as one chain.
 fn batch(rt: &impl Abort, alloc: Global, count: u32, chained: bool) -> Turn {
     let mut all = Vec::new(alloc);
     for k in 1..=count {
@@ -43,7 +43,7 @@ fn enter_one<A: Allocator + Clone>(
     holds(rt, !refused, "an entry is made", machine.commit());
 }
 
-/// Enters a register, two accounts and a batch: what was asked for, and of bytes those that the batch asked for.
+/// Enters a register, two accounts and a batch: what was asked for, with the bytes that only the batch asked for.
 fn enter_batch(
     rt: &impl Abort,
     alloc: Global,
@@ -62,7 +62,7 @@ fn enter_batch(
     }
 }
 
-/// What a batch of so many transfers asks a machine's allocator for.
+/// What a batch of this many transfers asks a machine's allocator for.
 fn ask(rt: &impl Abort, alloc: Global, profile: Profile, count: u32, chained: bool) -> Tally {
     let turn = batch(rt, alloc, count, chained);
     let heap = Refusing::new(alloc, 0);
@@ -75,7 +75,7 @@ fn ask(rt: &impl Abort, alloc: Global, profile: Profile, count: u32, chained: bo
     asked
 }
 
-/// The undo log of a batch of so many events, of which the next power of two is given, is one allocation, and the greatest; all that the
+/// The undo log of a batch of this many events, of which the next power of two is given, is one allocation, and the greatest; all that the
 /// batch asks for is the log's capacity and that of its records. The batch of two accounts before it asks for a log too.
 fn expect_bounded(
     rt: &impl Abort,
@@ -94,8 +94,8 @@ fn expect_bounded(
     holds(rt, bytes <= log + KEPT_BYTES * count, "bytes", bytes);
 }
 
-/// A batch asks for so many bytes an event at most, and as many for its log as the next power of two of events has, whether its
-/// events are alone or in one chain.
+/// A batch asks for this many bytes an event at most, and as many for its log as the next power of two of events has, whether its events are
+/// separate or in one chain.
 #[test]
 fn bytes_of_a_batch(rt: HostRuntime) {
     for profile in [Profile::One, Profile::Two] {

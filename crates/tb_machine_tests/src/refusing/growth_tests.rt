@@ -1,5 +1,5 @@
-//! Each allocation of a ledger's rows is refused in turn, below `Machine::apply`, and each chunk of a pool with the rows, below `serve_pair`.
-//! A pool whose chunk is refused asks for a smaller one, so all chunks are refused until out of memory was answered.
+//! Each allocation of a ledger's rows is refused in turn, below `Machine::apply`, and each chunk of a pool with the rows, below `serve_pair`. A
+//! pool whose chunk is refused asks for a smaller one, so all chunks are refused until out of memory was returned.
 use crate::refusing::applying::enter_all;
 use crate::refusing::comparing::holds;
 use crate::refusing::pooling::serve_all;
@@ -17,7 +17,7 @@ use tb_refusing::{Refusing, Tally};
 enum Way {
     /// By `Machine::apply`, with one allocation refused.
     Applied,
-    /// By `serve_pair` over a pool that asks for so many chunks, with all allocations refused from one on.
+    /// By `serve_pair` over a pool that asks for this many chunks, with all allocations refused from one on.
     Pooled(u64),
 }
 
@@ -29,8 +29,8 @@ struct Case {
     rows: Rows,
 }
 
-/// Serves the rows' requests by a machine whose records lie in an allocator over a heap, and compares what the last row gives. Answers the
-/// commit numbers of the requests that were refused once.
+/// Serves the rows' requests by a machine whose records lie in an allocator over a heap, and compares what the last row gives. Returns the commit
+/// numbers of the requests that were refused once.
 fn serve_turns<A: Allocator + Clone>(
     rt: &impl Abort,
     alloc: Global,
@@ -68,8 +68,8 @@ fn serve_over(rt: &impl Abort, alloc: Global, heap: &Refusing<Global>, case: Cas
     refused
 }
 
-/// Serves the rows with an allocation refused, or with none where that is 0: what was asked, and the commit numbers of the requests that were
-/// refused once.
+/// Serves the rows with the allocation of this number refused; 0 refuses none. Returns what was asked for, and the commit numbers of the requests
+/// that were refused once.
 fn serve_refused(rt: &impl Abort, alloc: Global, case: Case, refused_at: u64) -> (Tally, Vec<u64>) {
     let heap = match case.way {
         Way::Applied => Refusing::new(alloc, refused_at),
@@ -81,8 +81,8 @@ fn serve_refused(rt: &impl Abort, alloc: Global, case: Case, refused_at: u64) ->
     (tally, refused)
 }
 
-/// Serves the rows with an allocation refused: all blocks come back, and one request is refused, whose commit number is added where it is not
-/// the last one.
+/// Serves the rows with an allocation refused: all blocks come back, and one request is refused. Its commit number is added if it is not the last
+/// one.
 fn refuse(rt: &impl Abort, alloc: Global, case: Case, refused_at: u64, refusing: &mut Vec<u64>) {
     let (tally, refused) = serve_refused(rt, alloc, case, refused_at);
     let one = tally.blocks == 0 && refused.len() == 1;
@@ -95,7 +95,7 @@ fn refuse(rt: &impl Abort, alloc: Global, case: Case, refused_at: u64, refusing:
 }
 
 /// Serves the rows with no allocation refused, with the first, with the second and so on: all blocks come back, and each refused allocation
-/// refuses one request. These are the commit numbers of the entries that ask for an allocation; of a pool's chunks so many are asked for.
+/// refuses one request. `entries` are the commit numbers of those that ask for an allocation; a pool asks for this many chunks.
 fn refuse_each(rt: &impl Abort, alloc: Global, case: Case, entries: &[u64]) {
     let (plain, refused) = serve_refused(rt, alloc, case, 0);
     let none = plain.blocks == 0 && refused.is_empty();
@@ -125,13 +125,13 @@ fn first_rows(rt: HostRuntime) {
     serve_each(&rt, rt.alloc(), Way::Applied, Rows::First, &[2, 4]);
 }
 
-/// Entry 5 has two events, and entry 4 made capacity for three and left no row: so it asks for none.
+/// Entry 5 has two events, and entry 4 made capacity for three and left no row: so entry 5 asks for no memory.
 #[test]
 fn broken_chain(rt: HostRuntime) {
     serve_each(&rt, rt.alloc(), Way::Applied, Rows::Chain, &[2, 4]);
 }
 
-/// Entry 7 has two events, and entry 6 made capacity for two and left no row: so it asks for none.
+/// Entry 7 has two events, and entry 6 made capacity for two and left no row: so entry 7 asks for no memory.
 #[test]
 fn pending_rows(rt: HostRuntime) {
     serve_each(&rt, rt.alloc(), Way::Applied, Rows::Pending, &[2, 4, 5, 6]);

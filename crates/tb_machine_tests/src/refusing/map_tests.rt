@@ -17,7 +17,7 @@ fn is_filled(map: &Map<'_>, last: u64) -> bool {
     map.len() as u64 == last
 }
 
-/// Makes capacity for a pair more; a refused call leaves the map, and the second one makes it. Says whether one was refused.
+/// Makes capacity for a pair more; a refused call leaves the map as it was, and the second one makes it. Returns whether one was refused.
 fn reserve(rt: &impl Abort, map: &mut Map<'_>, last: u64) -> bool {
     if map.reserve(1).is_ok() {
         return false;
@@ -32,7 +32,7 @@ fn reserve(rt: &impl Abort, map: &mut Map<'_>, last: u64) -> bool {
     true
 }
 
-/// Puts a key in that has capacity; says whether there was capacity, and no such key.
+/// Puts in a key for which there is capacity; returns whether there was capacity, and no such key.
 fn put(map: &mut Map<'_>, key: u64) -> bool {
     let is_new = map.spare() > 0 && map.get(&key).is_none();
     if is_new {
@@ -41,7 +41,7 @@ fn put(map: &mut Map<'_>, key: u64) -> bool {
     is_new
 }
 
-/// Puts the keys 1 to 20 in; answers how often a call was refused.
+/// Puts the keys 1 to 20 in; returns how often a call was refused.
 fn put_all(rt: &impl Abort, map: &mut Map<'_>) -> u32 {
     let mut refusals = 0_u32;
     for key in 1..=20 {

@@ -1,5 +1,5 @@
-//! Rows' requests, each served by `serve_pair`: where there is no memory for a pair, that is answered, nothing is written, and the machine
-//! stays as it was.
+//! Rows' requests, each served by `serve_pair`: if there is no memory for a pair, that is returned, nothing is written, and the machine stays as
+//! it was.
 use crate::refusing::comparing::holds;
 use crate::refusing::shown::{Shown, expect_same, look};
 use crate::refusing::turns::Turn;
@@ -9,7 +9,7 @@ use tb_machine::{Machine, RunFault, serve_pair};
 use tb_records::Counting;
 use tb_refusing::Refusing;
 
-/// A reply has at least so many bytes.
+/// A reply has at least this many bytes.
 const REPLY_BYTES: u64 = 48;
 
 /// What came of a pair: it was served, or there was no memory and nothing was written.
@@ -26,7 +26,7 @@ fn is_served(rt: &impl Abort, answer: Result<(), RunFault>, written: u64) -> boo
     answer.is_ok()
 }
 
-/// Serves a pair once; says whether there was memory.
+/// Serves a pair once; returns whether there was memory.
 fn serve_once<A: Allocator + Clone>(
     rt: &impl Abort,
     alloc: Global,
@@ -42,7 +42,7 @@ fn serve_once<A: Allocator + Clone>(
     is_served(rt, answer, written)
 }
 
-/// Serves a pair, and once more when the heap relents; says whether it was refused.
+/// Serves a pair, and once more when the heap relents; returns whether it was refused.
 fn serve_twice<A: Allocator + Clone>(
     rt: &impl Abort,
     alloc: Global,
@@ -61,7 +61,7 @@ fn serve_twice<A: Allocator + Clone>(
     true
 }
 
-/// Serves the pairs; answers the commit numbers of those that were refused.
+/// Serves the pairs; returns the commit numbers of those that were refused.
 pub(crate) fn serve_all<A: Allocator + Clone>(
     rt: &impl Abort,
     alloc: Global,

@@ -9,8 +9,8 @@ use tb_records::{Account, CreateTransferResult, Profile, ReplyBody, Transfer};
 /// The transfers that the rows name.
 const TRANSFERS: [u128; 13] = [11, 20, 21, 22, 23, 24, 25, 26, 27, 28, 50, 51, 53];
 
-/// What a machine shows: its last commit number and time, the commit number of client 7's stored reply, its accounts 1 and 2,
-/// and those of the rows' transfers that are there.
+/// What a machine shows: its last commit number and time, the commit number of client 7's stored reply, its accounts 1 and 2, and those of the
+/// rows' transfers that exist.
 #[derive(Drop)]
 pub(crate) struct Shown {
     commit: u64,
@@ -75,8 +75,7 @@ fn sums<A: Allocator + Clone>(machine: &Machine<A>) -> Option<(u128, u128)> {
     (debits == (second.credits_pending, second.credits_posted)).then_some(debits)
 }
 
-/// What the last row gives: the codes, and what is pending and posted. By profile 2 the id that broke the chain has failed for
-/// good.
+/// What the last row gives: the codes, and what is pending and posted. By profile 2 the id that broke the chain has failed permanently.
 pub(crate) fn expect_last<A: Allocator + Clone>(
     rt: &impl Abort,
     alloc: Global,

@@ -19,7 +19,7 @@ pub(crate) enum Rows {
     First,
     /// The chain that its second event breaks, and that event's id again.
     Chain,
-    /// Pending transfers: one is posted, one voided, and one expires behind a chain that breaks and undoes its post.
+    /// Pending transfers: one is posted, one voided, and one expires after a chain that breaks and undoes its post.
     Pending,
 }
 
@@ -35,7 +35,7 @@ fn moved(id: u128, amount: u128) -> Transfer {
     transfer(id, 1, 2, amount)
 }
 
-/// A transfer that is refused, since there is no account 99.
+/// A transfer that is refused, because there is no account 99.
 fn from_nowhere(id: u128) -> Transfer {
     transfer(id, 99, 2, 1)
 }
@@ -95,7 +95,7 @@ fn add_chain(rt: &impl Abort, alloc: Global, turns: &mut Vec<Turn>) {
     add(rt, turns, moving(rt, alloc, EARLY_NS, 4, &again));
 }
 
-/// Pending transfers, a post and a void, a chain that breaks behind a post, and a post that comes too late.
+/// Pending transfers, a post and a void, a chain that breaks after a post, and a post that comes too late.
 fn add_pending(rt: &impl Abort, alloc: Global, turns: &mut Vec<Turn>) {
     let three = [short(20, 40), short(21, 30), short(22, 20)];
     add(rt, turns, moving(rt, alloc, EARLY_NS, 3, &three));

@@ -10,7 +10,7 @@ use Rattle.tb_machine_tests.proofs.records.reply_tests.read_back.Goals as goal
 spelled : (bytes out front : List ℕ) (r : Answer) → bytes ≡ out → out ≡ front ++ reply_bytes r → front ≡ [] → IsReply r → SpellsReply bytes r
 spelled bytes out front r same appended none is = record { bytes_are = same ∙ appended ∙ ap (λ l. l ++ reply_bytes r) none; is = is }
 
--- another fault than out of memory would be no answer to what was written
+-- a fault other than out of memory would contradict what was written
 only_memory : (fault : FrameFault) (r : Answer) (n : ℕ) → OnlyThisReply (Err fault) r n → fault ≡ NoMemory
 only_memory NoMemory r n only = refl
 only_memory fault r n only = absurd only
