@@ -229,7 +229,7 @@ pub with_records-Records : (records others : List (List ℕ)) → with_records r
 with_records-Records [] others = refl
 with_records-Records (r ∷ records) others = ap (with_record r) (with_records-Records records others)
 
--- an end behind the records adds none
+-- an end after the records adds no record
 pub ended : (records : List (List ℕ)) (at : ℕ) (others : List ℕ) → front others ≡ Ends → with_records records (walk 0 at others) ≡ Records records
 ended records at others is = ap (with_records records) (walk-ends others at is) ∙ with_records-Records records [] ∙ ap Records (append-nil records)
 
@@ -265,7 +265,7 @@ blocks_within : (a b : List (List ℕ)) → blocks_length a ≤ blocks_length (a
 blocks_within [] b = omega arith
 blocks_within (r ∷ a) b = omega (arith, blocks_within a b)
 
--- records that a file has, of which the first ones alone are closed
+-- if only the first records of a file are closed, the file has exactly these
 front_closed : (a b : List (List ℕ)) (file : List ℕ) → contents file ≡ Records (a ++ b) → contents (take (records_end a) file ++ latch_closed) ≡ Records a
 front_closed a b file reads =
     let k = blocks_length a in

@@ -1,4 +1,4 @@
--- What is read of blocks that end at a closed latch, and of what is shown behind it.
+-- What is read of blocks that end at a closed latch, and of what is shown after it.
 use Rattle.std.proofs.Common.{◌≡◌, ⊎_elim, ℕ, ◌+◌, ◌-◌, ◌≤◌, ◌<◌, min, max, List, [], ◌∷◌, ◌++◌, length, take, drop, replicate, refl, sym, ◌∙◌, ap, arith, length-append, length-drop, append_assoc, take-append-drop}
 use Rattle.std.proofs.lemmas.List.{append-nil, take-take, drop-take, take_at, drop_at, take_all, drop_all, length-take-le, take-replicate, drop-replicate, length-replicate}
 use Rattle.std.proofs.lemmas.Bool.{cases_lt}
@@ -21,7 +21,7 @@ take_over m xs ys le =
     ap (λ (j : ℕ). take j (xs ++ ys)) far ∙ take_parts n k (xs ++ ys) ∙ ap (λ (l : List ℕ). l ++ take k (drop n (xs ++ ys))) (take_at xs ys n refl)
     ∙ ap (λ (l : List ℕ). xs ++ take k l) (drop_at xs ys n refl)
 
--- what is left of them behind some of the first
+-- what is left of the first list after its first elements are dropped
 drop_within : (m : ℕ) (xs ys : List ℕ) → m ≤ length xs → drop m (xs ++ ys) ≡ drop m xs ++ ys
 drop_within m xs ys le =
     ap (λ (l : List ℕ). drop m (l ++ ys)) (sym (take-append-drop m xs)) ∙ ap (drop m) (append_assoc (take m xs) (drop m xs) ys)
@@ -89,7 +89,7 @@ module _ (count at end len : ℕ) (file read : List ℕ) (there : end ≤ length
   abbrev left : ℕ
   left = end - at
 
-  -- where it is
+  -- the read reaches past the blocks
   module _ (into put : List ℕ) (told : ℕ) (room : left < length read) (enough : left ≤ count) (is : told ≡ min (length read) (max len (end + 4) - at)) where
     abbrev behind : List ℕ
     behind = behind_blocks others

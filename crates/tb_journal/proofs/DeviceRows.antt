@@ -7,7 +7,7 @@ use Rattle.tb_journal.specs.Contents.{latch_closed, block, Records}
 use Rattle.tb_journal.specs.Device.{Disk, IsCause}
 use Rattle.tb_journal.specs.Growing.{Later}
 
--- where a device was full nothing else is reported
+-- if a device was full nothing else is reported
 pub full_is_not_memory : (before after : Disk) → before.failures Full ≡ 0 → after.failures Full ≡ 1 → IsCause before after Memory → ⊥
 full_is_not_memory before after none one cause = ⊎_elim (λ failed. by_others (failed.others Full)) (λ own. at_one (own.1 Full)) cause
   where

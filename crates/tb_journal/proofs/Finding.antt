@@ -68,7 +68,7 @@ grown_by {mid} {now} {bytes} {P} {Q} {R} first second has = record { later = sec
 pub grown_as : {now : List ℕ → Type 0} {bytes : List ℕ} {P R : List ℕ → Type 0} → (grown : Grown now bytes P) → R grown.later → Grown now bytes R
 grown_as {now} {bytes} {P} {R} grown has = record { later = grown.later; after = grown.after; now = grown.now; has = has }
 
--- and where they lead
+-- where the blocks lead then
 
 module _ (grows : List ℕ → Type 0) (a b : List ℕ) (before : Later a b) where
   pub on_further : (next : ℕ) → HopsOn grows b (hops.Further next) → Grown grows a (BlocksLeadTo next)

@@ -71,7 +71,7 @@ begun before after result blank write = record {
         let first : after.seen ≡ journal_of [] = shown ∙ whole before.seen (blank_short before.seen blank) in
         wholly after [] (ap contents first) (subst (λ (f : List ℕ). f ≡ take 8 f ++ latch_closed) (sym first) refl)
 
--- a blank file is not one where something is
+-- a blank file has no other content
 pub left_alone : (before mid after : Disk) (fault : OpenFault) → is_blank mid.seen ≡ true → IsCreateCause mid after fault → IsLeft before after fault
 left_alone before mid after (open_faults.Refused why) blank cause = tt
 left_alone before mid after (open_faults.Device faults.Memory) blank cause = tt

@@ -39,7 +39,7 @@ asked_whole (w ∷ x ∷ y ∷ z ∷ a ∷ b ∷ c ∷ s ∷ t ∷ u ∷ v ∷ r
     let sum = from_le_bytes w32 (s ∷ t ∷ u ∷ v ∷ []) in
     behind_size (is_closed w x y z) (from_le_bytes w32 (size ++ 0 ∷ [])) (behind_latch size sum rest) r (λ whole. (stays_behind size sum rest r whole).count) is
 
--- behind the records that a file begins with
+-- after the records that a file begins with
 
 module _ (at : ℕ) (file later : List ℕ) (after : Later file later) (opened : front (drop at file) ≢ Ends) where
   abbrev next : ℕ

@@ -19,7 +19,7 @@ pub syncs_other : {T : Type 0} (result : Result T JournalFault) → IfErr result
 syncs_other (Ok value) named = tt
 syncs_other (Err fault) named = sync_other fault named
 
--- what is said of a file that is blank, where a journal is begun in it
+-- what holds of a blank file if a journal is begun in it
 
 pub creates_in : {D : Type 0} (holds : D → List ℕ → Type 0) (result : Result (Kept D) (NotOpened D)) (file : List ℕ) → is_blank file ≡ true
     → IfErr result (λ failed. failed.fault ≡ open_faults.Device NotEmpty → ⊥) → CreatesIn holds result file

@@ -56,7 +56,7 @@ read_then_opened before mid after extent read seen first second = search (rules,
     same : (c : List ℕ) → contents c ≡ Records (recorded mid.seen) → StandsForTheSame before c
     same c is = inr (is ∙ ap (λ (f : List ℕ). Records (recorded f)) seen ∙ sym (is_told (contents before.seen) extent read).reads)
 
--- the journal of a file that was read, behind the cut
+-- the journal of a file that was read, after the cut
 pub opens : {D : Type 0} (disk : D → Disk) (before : Disk) (new : D) (extent : Extent) (done : Unit {0}) (batch : List (List ℕ)) → extent_of (contents before.seen) ≡ Ok extent
     → Repairs (Ok done) before (disk new) → IsSettled before → batch ≡ []
     → IsOpened disk before.seen (record { device = new; end = extent.end; count = extent.count; waiting = batch; usable = true })

@@ -1,4 +1,4 @@
--- A call that is made again as long as a signal interrupts it.
+-- A call that is retried as long as a signal interrupts it.
 use Rattle.std.proofs.Common.{◌≡◌, ◌≢◌, ◌⊎◌, inl, inr, ⊎_elim, ℕ, ◌+◌, ◌<◌, ◌≤◌, List, length, take, drop, sym, ◌∙◌, ap, subst, arith, Result, Ok, Err}
 use Rattle.std.specs.Prelude.{IsErrOf}
 use Rattle.std.specs.declared.io.ErrorKind.{ErrorKind}
@@ -18,7 +18,7 @@ ok_same a b is = cc
 same_ok : {E : Type 0} (a b : ℕ) → a ≡ b → ◌≡◌ {A = Result ℕ E} (Ok a) (Ok b)
 same_ok a b is = ap (λ (n : ℕ). Ok n) is
 
--- no call has failed so far, and each interruption has one less behind it
+-- no call has failed so far, and each interruption leaves one less
 pub record Waits (before now : Disk) (first left tries : ℕ) : Type 0 where
   pub none : FailsNone before now
   pub fewer : left + tries ≤ first

@@ -2,7 +2,7 @@
 use Rattle.std.specs.Prelude.{◌≡◌, ℕ, List, [], ◌∷◌, ◌++◌, take, refl}
 use Rattle.tb_journal.specs.Contents.{NotAJournal, Damaged, Records, magic, latch_closed, contents}
 
--- by its first bytes alone no file is one without records, and without a read none is refused
+-- its first bytes do not show that a file has no records, and no file is refused without a read
 pub no_end_by_the_first_bytes : ((file : List ℕ) → take 8 file ≡ magic → contents file ≡ Records []) → ⊥
 no_end_by_the_first_bytes says = let no : Damaged 8 ≡ Records [] = says (magic ++ 255 ∷ 255 ∷ 255 ∷ 255 ∷ 1 ∷ []) refl in absurd (cc)
 

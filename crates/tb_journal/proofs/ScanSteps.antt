@@ -31,7 +31,7 @@ front_spoiled f is = grind (arith, common_steps)
 front_whole : (f : Front) (len : ℕ) → heads.Whole len ≡ head_is f → (r : List ℕ) × (f ≡ Whole r) × (length r ≡ len)
 front_whole f len is = grind (arith, common_steps)
 
--- behind the records that a file begins with
+-- after the records that a file begins with
 
 module _ (records : List (List ℕ)) (file : List ℕ) (begins : BeginsWith records file) where
   abbrev end : ℕ
@@ -71,7 +71,7 @@ module _ (records : List (List ℕ)) (file : List ℕ) (begins : BeginsWith reco
       ∙ ap contents (ap (λ (l : List ℕ). l ++ latch_closed) (take_parts end n file) ∙ append_assoc (take end file) rest latch_closed) ∙ goes_on closed
       ∙ ap (with_records records) alone ∙ with_records-Records records (r ∷ [])
 
--- what is ahead behind a block
+-- what is ahead after a block
 
 pub ahead_behind : (k at next : ℕ) (file ahead : List ℕ) → k ≤ length ahead → next ≡ at + k → IsAhead at file ahead → IsAhead next file (drop k ahead)
 ahead_behind k at next file ahead le is same =
@@ -110,7 +110,7 @@ module _ (records : List (List ℕ)) (file : List ℕ) (old : ScanState) (read :
         ahead = subst (IsAhead end file) (drop_parts 11 len ahead ∙ sym left) (ahead_behind (11 + len) old.end end file ahead (omega (arith, there.within, whole.2)) far found.same);
       }
 
--- a file whose records end too far behind
+-- a file whose records end too far from its start
 
 pub too_far : (disk : Disk) (records : List (List ℕ)) (scan : ScanState) → HasRead records disk.seen scan → 2 ^ 62 ≤ scan.end → HasOpenCause {T = Bool} (Err (open_faults.Device faults.Full)) disk disk
 too_far disk records scan read long = record {

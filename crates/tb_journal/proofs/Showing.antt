@@ -16,7 +16,7 @@ use Rattle.tb_journal.proofs.Steps.{closed_front}
 use Rattle.tb_journal.proofs.Fronts.{at_least, asked_told, front_told}
 use Rattle.tb_journal.proofs.Growths.{extends_later, later_extends, final_later, damaged_final, damage_final, later_same, later_then, begins_part, begins_later, leads_within, leads_kept, leads_later}
 
--- what is at the head of bytes is known from as many as are asked for
+-- as many bytes as are needed decide what is at their head
 
 asked_least : (l : List ℕ) → 11 ≤ asked_bytes l
 asked_least [] = omega arith
@@ -149,7 +149,7 @@ shown_prefix false end len met shown last records shows after is =
 -- a later end
 
 module _ (end len : ℕ) (met shown now : List ℕ) (shows : ShowsBlocks end len met shown) (after : Later met now) where
-  -- where the latch is closed still
+  -- if the latch is still closed
   still_damaged : (again : List ℕ) → ShowsBlocks end (length now) now again → HasDamageBefore end met → Later shown again
   still_damaged again more past =
       let same : now ≡ met = final_later met now (damage_final end met past) after in
@@ -177,7 +177,7 @@ module _ (end len : ℕ) (met shown now : List ℕ) (shows : ShowsBlocks end len
       (again, more, ⊎_elim (still_records again more) (still_damaged again more) shows.leads)
 
   module _ (opened : front (drop end now) ≢ Ends) (next : Bool) (last size : ℕ) (later again : List ℕ) (since : Later now later) (more : ShowsOf next last size later again) where
-    -- the earlier blocks are records, since blocks came behind them
+    -- the earlier blocks are records, because blocks were added after them
     past_damage : HasDamageBefore end met → Later shown again
     past_damage past =
         let same : now ≡ met = final_later met now (damage_final end met past) after in

@@ -24,7 +24,7 @@ module _ (at : ℕ) (file ahead : List ℕ) (same : IsAhead at file ahead) where
       let long : length ahead - n ≡ length (drop n ahead) = sym (length-drop n ahead) in
       behind n le ∙ ap (λ (l : List ℕ). take (length ahead - n) l) (sym (drop_parts at n file)) ∙ ap (λ (k : ℕ). take k (drop (at + n) file)) long
 
-  -- the same of a place behind all of them
+  -- the same for a place after all of them
   pub skipped_some : (n : ℕ) → IsAhead (at + n) file (drop (min n (length ahead)) ahead)
   skipped_some n = ⊎_elim
       (λ (more : length ahead < n).
@@ -56,7 +56,7 @@ module _ (at : ℕ) (file ahead : List ℕ) (same : IsAhead at file ahead) where
       is = ap (λ (k : ℕ). take k (drop 4 ahead)) is ∙ records ∙ ap (λ (k : ℕ). take k (drop 4 rest)) (sym is) ∙ there.is;
     }
 
--- what stands there, by the bytes ahead
+-- what is there, by the bytes ahead
 pub told : (answer : Bool) (at len : ℕ) (file ahead : List ℕ) → HasAhead (4 + len) at file ahead
     → (answer ≡ true → IsSummed (take len (drop 4 ahead)) ahead) → (answer ≡ true → 4 + len ≤ length ahead)
     → (answer ≡ false → (bytes : List ℕ) → length bytes ≡ len → IsSummed bytes ahead → ⊥)

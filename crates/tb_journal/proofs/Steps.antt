@@ -19,12 +19,12 @@ first_choice b f is = grind (arith, common_steps)
 other_choice : (b : Bool) (f : Front) → b ≡ false → (if b then Ends else f) ≡ f
 other_choice b f is = grind (arith, common_steps)
 
--- what is behind an open latch
+-- what is after an open latch
 abbrev open_front : List ℕ → Front
 open_front (a ∷ b ∷ c ∷ s ∷ t ∷ u ∷ v ∷ rest) = behind_latch (a ∷ b ∷ c ∷ []) (from_le_bytes w32 (s ∷ t ∷ u ∷ v ∷ [])) rest
 open_front short = Spoiled
 
--- by the latch, and then by what is behind it
+-- by the latch, and then by what follows it
 front_is : (w x y z : ℕ) (behind : List ℕ) → front (w ∷ x ∷ y ∷ z ∷ behind) ≡ (if is_closed w x y z then Ends else open_front behind)
 front_is w x y z [] = refl
 front_is w x y z (a ∷ []) = refl
@@ -59,7 +59,7 @@ walk-any_latch w x y z at behind h =
     ap (λ (f : Front). joined_contents f at (walk (skipped f) (at + 1) (x ∷ y ∷ z ∷ behind))) (any_latch w x y z behind h)
     ∙ skip_latch (front (255 ∷ 255 ∷ 255 ∷ 255 ∷ behind)) at x y z 255 255 255 behind
 
--- what ends the records ends them where it is truncated
+-- what ends the records still ends them if the bytes are truncated
 
 front_cut : (k : ℕ) (bytes : List ℕ) → front bytes ≡ Ends → 4 ≤ k → front (take k bytes) ≡ Ends
 front_cut k [] is some = absurd (cc)
@@ -70,7 +70,7 @@ front_cut k (w ∷ x ∷ y ∷ z ∷ rest) is some =
     let far : k ≡ suc (suc (suc (suc (k - 4)))) = omega (arith, some) in
     ap (λ (n : ℕ). front (take n (w ∷ x ∷ y ∷ z ∷ rest))) far ∙ closed_latch w x y z (take (k - 4) rest) (ends_closed w x y z rest is)
 
--- a file of records, of which the blocks alone count
+-- only the blocks count in a file of records
 
 module _ (file : List ℕ) (records : List (List ℕ)) (reads : contents file ≡ Records records) where
   abbrev end : ℕ
@@ -92,7 +92,7 @@ module _ (file : List ℕ) (records : List (List ℕ)) (reads : contents file �
   pub room : end + 4 ≤ length file
   room = parts.room
 
-  -- with the closed latch behind them they are all that counts
+  -- nothing counts except the records and the closed latch after them
   abbrev pub rested : List ℕ
   rested = take (end + 4) file
 
@@ -105,7 +105,7 @@ module _ (file : List ℕ) (records : List (List ℕ)) (reads : contents file �
   pub rested_closed : rested ≡ take end rested ++ latch_closed
   rested_closed = rested_is ∙ ap (λ (l : List ℕ). l ++ latch_closed) (sym (take-take end (end + 4) file (omega arith)))
 
-  -- a cut behind that latch
+  -- a cut after that latch
   pub cut_torn : (c : List ℕ) → Cut (end + 4) file c → contents c ≡ Records records
   cut_torn c cut =
       let le = room in
@@ -124,7 +124,7 @@ module _ (file : List ℕ) (records : List (List ℕ)) (reads : contents file �
   pub length_file : length file ≡ latch_at + 4
   length_file = ap length closed ∙ length-append (take latch_at file) latch_closed ∙ ap (λ (n : ℕ). n + 4) (length_front file records reads)
 
-  -- the closed latch is in each outcome of a write behind it
+  -- the closed latch is in each outcome of a write after it
   pub behind_torn : (n : ℕ) (c : List ℕ) → Torn (latch_at + 4) n file c → contents c ≡ Records records
   behind_torn n c torn =
       let long = length_file in

@@ -1,4 +1,4 @@
--- Calls on a system's file, one behind the other.
+-- Calls on a system's file, one after the other.
 use Rattle.std.proofs.Common.{◌≡◌, ◌⊎◌, inl, inr, ⊎_elim, ℕ, ◌+◌, ◌≤◌, List, length, take, drop, sym, ◌∙◌, ap, subst, arith, Result, Ok, Err, length-take}
 use Rattle.std.proofs.lemmas.List.{take-take}
 use Rattle.tb_journal.specs.declared.faults.JournalFault.{JournalFault}
@@ -28,7 +28,7 @@ cause_then (Err fault) a b c none cause = record { ok = tt; cause = failed_then 
 abbrev pub CountsNow : Disk → Type 0
 CountsNow a = (t : ℕ) (x : List ℕ) → t ≤ a.moment → a.may_leave x → a.left_since t x
 
--- what a crash may leave between two calls, it might have left before them, or may leave behind them
+-- what a crash may leave between two calls, it might have left before them, or may leave after them
 pub elapses_then : (a b c : Disk) → ((t : ℕ) (x : List ℕ) → t ≤ a.moment → b.may_leave x → a.left_since t x ⊎ c.may_leave x)
     → Elapses a b → Elapses b c → Elapses a c
 elapses_then a b c between first second = record {

@@ -1,4 +1,4 @@
--- Examples of the system's calls that do less than they were asked for.
+-- Examples of the system's calls that transfer less than requested.
 use Rattle.std.specs.Prelude.{ℕ, true, List, [], ◌∷◌, Ok, refl}
 use Rattle.std.proofs.Common.{arith, inl}
 use Rattle.tb_journal.specs.Device.{Disk}

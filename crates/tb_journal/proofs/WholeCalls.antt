@@ -32,7 +32,7 @@ pub room_for : (count k : ℕ) (into part post : List ℕ) → count ≤ length 
 room_for count k into part post fits within =
     omega (arith, within, length-append (take count into) (part ++ post), length-append part post, length-take-le count into fits)
 
--- bytes behind those that are already
+-- bytes after those that were read or written already
 pub more_same : (at count k : ℕ) (into part post file : List ℕ) → count ≤ length into → k ≤ length part
     → take count into ≡ take count (drop at file) → take k part ≡ take k (drop (at + count) file)
     → take (count + k) (take count into ++ (part ++ post)) ≡ take (count + k) (drop at file)

@@ -1,7 +1,7 @@
 -- CRC-32C, bit by bit.
 use Rattle.std.specs.Prelude.{◌≡◌, ℕ, zero, suc, ◌/◌, ◌%◌, List, [], ◌∷◌, bit_xor, if◌then◌else◌, ◌==◌, codes, replicate, refl}
 
--- one bit on, by the polynomial of Castagnoli with its bits turned round
+-- one bit, by the Castagnoli polynomial with its bits reversed
 unfoldable pub bit_on : ℕ → ℕ
 bit_on c = bit_xor (c / 2) (if c % 2 == 1 then 0x82F63B78 else 0)
 
@@ -16,12 +16,12 @@ remainder (byte ∷ bytes) c = remainder bytes (byte_on (bit_xor c byte))
 abbrev pub checksum : List ℕ → ℕ
 checksum bytes = bit_xor (remainder bytes 0xFFFFFFFF) 0xFFFFFFFF
 
--- what so many bytes of zeros make of a remainder: for private functions alone
+-- the remainder after so many more bytes of zeros: only private functions use it
 abbrev pub zeros_on : ℕ → ℕ → ℕ
 zeros_on zero c = c
 zeros_on (suc k) c = zeros_on k (byte_on c)
 
--- the checksum of nothing, the vector that tables of checksums give, and those of RFC 3720: 32 zeros, and 32 bytes of ones
+-- the checksum of no bytes, the check value that tables of checksums list, and the vectors of RFC 3720: 32 zeros, and 32 bytes of ones
 pub checksum_of_nothing : checksum [] ≡ 0
 checksum_of_nothing = refl
 

@@ -8,7 +8,7 @@ use Rattle.tb_journal.specs.Checksum.{checksum, byte_on, bit_on}
 abbrev pub magic : List ℕ
 magic = codes "TBJRNL02"
 
--- what has a block: fewer than 2^24 bytes
+-- a record that a block can hold: fewer than 2^24 bytes
 pub record Fits (record_bytes : List ℕ) : Type 0 where
   pub short : length record_bytes < 2 ^ 24
   pub bytes : AllByRecursion (λ byte. byte < 256) record_bytes
@@ -17,7 +17,7 @@ pub record Fits (record_bytes : List ℕ) : Type 0 where
 abbrev pub size_bytes : List ℕ → List ℕ
 size_bytes record_bytes = take 3 (to_le_bytes w32 (length record_bytes))
 
--- a closed latch: four bytes that nothing else writes there. Any other four bytes are an open one
+-- a closed latch: four bytes that nothing else writes there. Any other four bytes are an open latch
 abbrev pub latch_closed : List ℕ
 latch_closed = 90 ∷ 195 ∷ 150 ∷ 105 ∷ []
 
@@ -31,7 +31,7 @@ is_closed w x y z = (w == 90 && x == 195) && (y == 150 && z == 105)
 abbrev pub block : List ℕ → List ℕ
 block bytes = 255 ∷ 255 ∷ 255 ∷ 255 ∷ (size_bytes bytes ++ (to_le_bytes w32 (checksum (size_bytes bytes ++ bytes)) ++ bytes))
 
--- blocks, and a closed latch behind them
+-- blocks, and a closed latch after them
 abbrev pub at_rest : List (List ℕ) → List ℕ
 at_rest records = flat_map block records ++ latch_closed
 
@@ -45,13 +45,13 @@ pub data Front : Type 0 where
   Spoiled : Front
   Whole : List ℕ → Front
 
--- behind an open latch: the length, the checksum, and what follows
+-- after an open latch: the length, the checksum, and what follows
 abbrev pub behind_latch : List ℕ → ℕ → List ℕ → Front
 behind_latch size sum rest =
     let count = from_le_bytes w32 (size ++ 0 ∷ []) in
     if nat_le count (length rest) && (sum == checksum (size ++ take count rest)) then Whole (take count rest) else Spoiled
 
--- a closed latch ends the records, and nothing else does
+-- a closed latch, and nothing else, ends the records
 abbrev pub front : List ℕ → Front
 front (w ∷ x ∷ y ∷ z ∷ a ∷ b ∷ c ∷ s ∷ t ∷ u ∷ v ∷ rest) = if is_closed w x y z then Ends else behind_latch (a ∷ b ∷ c ∷ []) (from_le_bytes w32 (s ∷ t ∷ u ∷ v ∷ [])) rest
 front (w ∷ x ∷ y ∷ z ∷ behind) = if is_closed w x y z then Ends else Spoiled
@@ -80,12 +80,12 @@ joined_contents Ends at others = Records []
 joined_contents Spoiled at others = Damaged at
 joined_contents (Whole bytes) at others = with_record bytes others
 
--- the bytes of a block behind its first one
+-- the bytes of a block after its first one
 abbrev pub skipped : Front → ℕ
 skipped (Whole bytes) = 10 + length bytes
 skipped other = 0
 
--- the blocks from a place on, after so many bytes that belong to the one before
+-- the blocks from a place on, after so many bytes that belong to the block before
 abbrev pub walk : ℕ → ℕ → List ℕ → Contents
 walk zero at [] = Damaged at
 walk (suc skip) at [] = Damaged (at + suc skip)
@@ -95,7 +95,7 @@ walk zero at (latch ∷ behind) = joined_contents (front (latch ∷ behind)) at 
 abbrev pub contents : List ℕ → Contents
 contents file = if starts_with nat_eq file magic then walk 0 8 (drop 8 file) else NotAJournal
 
--- the records of a file that has some
+-- the records of a file that has records
 abbrev pub content_records : Contents → List (List ℕ)
 content_records (Records records) = records
 content_records other = []
@@ -116,7 +116,7 @@ blocks_length (bytes ∷ records) = 11 + length bytes + blocks_length records
 abbrev pub records_end : List (List ℕ) → ℕ
 records_end records = 8 + blocks_length records
 
--- rows
+-- examples
 
 pub nothing_is_no_journal : contents [] ≡ NotAJournal
 nothing_is_no_journal = refl
@@ -125,7 +125,7 @@ nothing_is_no_journal = refl
 pub ends_at_a_closed_latch : contents (codes "TBJRNL02" ++ (latch_closed ++ 7 ∷ 7 ∷ [])) ≡ Records []
 ends_at_a_closed_latch = refl
 
--- no file ends without one: it was cut short, and is damaged at that place
+-- a file that does not end with a closed latch was cut short, and is damaged at that place
 pub cut_at_a_block : contents (codes "TBJRNL02" ++ block (codes "ab")) ≡ Damaged 21
 unfolding byte_on bit_on
 cut_at_a_block = refl
@@ -142,11 +142,11 @@ pub two_records : contents (journal_of (codes "ab" ∷ [] ∷ [])) ≡ Records (
 unfolding byte_on bit_on
 two_records = refl
 
--- a block that is torn is damage, at its latch
+-- a torn block is damage, at its latch
 pub cut_short : contents (codes "TBJRNL02" ++ 255 ∷ 255 ∷ 255 ∷ 255 ∷ 1 ∷ 0 ∷ []) ≡ Damaged 8
 cut_short = refl
 
--- no one byte closes an open latch, and neither do four zeros: the record is there still, or the file is damaged
+-- neither one byte nor four zeros close an open latch: the record is still there, or the file is damaged
 pub one_zero : contents (codes "TBJRNL02" ++ (0 ∷ drop 1 (block (codes "ab")) ++ latch_closed)) ≡ Records (codes "ab" ∷ [])
 unfolding byte_on bit_on
 one_zero = refl

@@ -11,41 +11,40 @@ use Rattle.tb_journal.specs.Steps.{IsWholeFile}
 use Rattle.tb_journal.specs.Ready.{Kept, IsReady}
 use Rattle.tb_journal.specs.Opening.{IsAsBefore}
 
--- no more bytes than these, each of them 0 or the one that is there
+-- no more bytes than these, each of them 0 or equal to the byte at its place
 abbrev pub is_torn_from : List ℕ → List ℕ → Bool
 is_torn_from [] first = true
 is_torn_from (byte ∷ bytes) [] = false
 is_torn_from (byte ∷ bytes) (own ∷ first) = (byte == 0 || byte == own) && is_torn_from bytes first
 
--- an empty file, or one such as a creation leaves that is torn: a journal may be created there
+-- an empty file, or a torn one as a creation may leave it: a journal may be created there
 abbrev pub is_blank : List ℕ → Bool
 is_blank file = is_torn_from file (journal_of [])
 
--- a file of 12 bytes at most in which there is no record: its first bytes, or the latch behind them, are not all there
+-- a file of at most 12 bytes without a record: its first bytes, or the latch after them, are not complete
 pub record IsUnborn (file : List ℕ) : Type 0 where
   pub short : length file ≤ 12
   pub none : (contents file ≡ NotAJournal) ⊎ ((contents file ≡ Damaged 8) ⊎ (contents file ≡ Records []))
 
--- what a crash may leave of a file while a journal is created there: the file as it was, or, if it was blank, no record
+-- what a crash may leave of a file while a journal is created there: the file as it was, or, if it was blank, a file without records
 abbrev pub MayBeCreated : Disk → List ℕ → Type 0
 MayBeCreated before file = IsAsBefore before file ⊎ ((is_blank before.seen ≡ true) × IsUnborn file)
 
--- why no journal is created, where the device did not fail: something else is there, or it is blank and there is no memory
+-- why no journal is created if the device did not fail: the file has other content, or it is blank and there is no memory
 abbrev pub IsOwnCreateCause : List ℕ → JournalFault → Type 0
 IsOwnCreateCause file fault = ((fault ≡ NotEmpty) × (is_blank file ≡ false)) ⊎ ((fault ≡ Memory) × (is_blank file ≡ true))
 
--- why no journal is created: that, or the device failed so
+-- why no journal is created: one of those causes, or the device failed with this fault
 abbrev pub IsCreateCause : Disk → Disk → OpenFault → Type 0
 IsCreateCause before after (open_faults.Refused why) = ⊥
 IsCreateCause before after (open_faults.Device fault) = HasFailed before after fault ⊎ (IsOwnCreateCause before.seen fault × FailsNone before after)
 
--- a file that is not blank stays as it was, at each moment, and no sync has failed that had not
+-- a file that is not blank stays as it was at each moment, and the call has no failed sync
 abbrev pub IsLeft : Disk → Disk → OpenFault → Type 0
 IsLeft before after (open_faults.Device NotEmpty) = (after.seen ≡ before.seen) × LeavesOnly before after (IsAsBefore before) × (after.sound ≡ before.sound)
 IsLeft before after other = Unit {0}
 
--- by the file that the reads are of: it is blank, or something else is in it, and the reads of the device that is given back
--- are of it still
+-- by the file that the reads are of: it is blank, or it has other content, and the reads of the device that is given back are still of it
 abbrev pub CreatesIn : {D : Type 0} → (D → List ℕ → Type 0) → Result (Kept D) (NotOpened D) → List ℕ → Type 0
 CreatesIn holds (Ok journal) file = is_blank file ≡ true
 CreatesIn holds (Err failed) file = failed.fault ≡ open_faults.Device NotEmpty → (is_blank file ≡ false) × holds failed.device file
@@ -55,13 +54,13 @@ pub record HasCreateCause {T : Type 0} (result : Result T OpenFault) (before aft
   pub ok : OnOk result (FailsNone before after)
   pub cause : IfErr result (IsCreateCause before after)
 
--- a journal that has no records, and none that wait
+-- a journal that has no records, and no waiting records
 pub record IsNew {D : Type 0} (disk : D → Disk) (journal : Kept D) : Type 0 where
   pub ready : IsReady disk journal
   pub no_records : recorded (disk journal.device).seen ≡ []
   pub none_waits : journal.waiting ≡ []
 
--- whether a file is blank: what a blank one has is then durable
+-- whether a file is blank: the bytes of a blank file are durable afterwards
 pub record FindsBlank (result : Result Bool JournalFault) (before after : Disk) : Type 0 where
   pub ok : IfOk result (λ found. found ≡ is_blank before.seen)
   pub settled : before.sound ≡ true → IfOk result (λ found. found ≡ true → IsSettled after)
@@ -77,7 +76,7 @@ pub record WritesFirst (result : Result (Unit {0}) JournalFault) (before after :
   pub any_moment : IsSettled before → LeavesOnly before after IsUnborn
   pub cause : HasCause result before after
 
--- rows
+-- examples
 
 pub nothing_is_blank : is_blank [] ≡ true
 nothing_is_blank = refl

@@ -12,7 +12,7 @@ pub record Disk : Type 1 where
   pub failures : JournalFault → ℕ  -- how often a call has failed with this fault
   pub sound : Bool  -- no sync has failed
 
--- a crash leaves this and nothing else
+-- a crash leaves exactly this
 abbrev pub Only : List ℕ → (List ℕ → Type 0) → Type 0
 Only file outcomes = (c : List ℕ) → outcomes c → c ≡ file
 
@@ -20,7 +20,7 @@ Only file outcomes = (c : List ℕ) → outcomes c → c ≡ file
 abbrev pub IsOnDisk : Disk → Type 0
 IsOnDisk disk = Only disk.seen disk.may_leave
 
--- so it is, and a sync still keeps what is written
+-- the same, and a sync still keeps what is written
 pub record IsSettled (disk : Disk) : Type 0 where
   pub kept : IsOnDisk disk
   pub sound : disk.sound ≡ true
@@ -29,14 +29,14 @@ pub record IsSettled (disk : Disk) : Type 0 where
 abbrev pub overwritten : List ℕ → ℕ → List ℕ → List ℕ
 overwritten file at bytes = take at file ++ (bytes ++ drop (at + length bytes) file)
 
--- after a write of n bytes that a crash cuts short: any bytes in the range and past the old end, the same elsewhere
+-- after a write of n bytes that a crash interrupts: any bytes in the range and past the old end, the same elsewhere
 pub record Torn (at n : ℕ) (old new : List ℕ) : Type 0 where
   pub before : take at new ≡ take at old
   pub after : drop (at + n) new ≡ drop (at + n) old
   pub no_shorter : length old ≤ length new
   pub no_longer : length new ≤ max (length old) (at + n)
 
--- after a cut: some length between
+-- after a cut: some length between the two
 pub record Cut (n : ℕ) (old new : List ℕ) : Type 0 where
   pub no_shorter : min n (length old) ≤ length new
   pub front : take (length new) old ≡ new
@@ -70,15 +70,15 @@ Rises before after = (before < after) ⊎ (2 ^ 64 - 1 ≤ after)
 abbrev pub FailsNone : Disk → Disk → Type 0
 FailsNone before after = (fault : JournalFault) → after.failures fault ≡ before.failures fault
 
--- the fault that a sync has, whatever failed
+-- the fault of a sync, whatever failed
 abbrev pub IsOfSync : JournalFault → Type 0
 IsOfSync fault = fault ≡ SyncFailed
 
--- and the faults that any other call on a device has
+-- the faults of any other call on a device
 abbrev pub IsOfCall : JournalFault → Type 0
 IsOfCall fault = (fault ≡ Memory) ⊎ (fault ≡ Failed) ⊎ (fault ≡ Full)
 
--- a call has failed with this fault since, and none with another
+-- a call has failed with this fault since, and no call with another fault
 pub record HasFailed (before after : Disk) (fault : JournalFault) : Type 0 where
   pub named : IsOfCall fault ⊎ IsOfSync fault
   pub counted : Rises (before.failures fault) (after.failures fault)
@@ -89,7 +89,7 @@ pub record HasCause {T : Type 0} (result : Result T JournalFault) (before after 
   pub ok : OnOk result (FailsNone before after)
   pub cause : IfErr result (HasFailed before after)
 
--- why a call ends that takes memory itself: the device failed so, or it did not fail and there is no memory
+-- why a call that allocates memory itself fails: the device failed with this fault, or it did not fail and there is no memory
 abbrev pub IsCause : Disk → Disk → JournalFault → Type 0
 IsCause before after fault = HasFailed before after fault ⊎ ((fault ≡ Memory) × FailsNone before after)
 
@@ -103,34 +103,34 @@ pub record ReadsAt (count at : ℕ) (file into : List ℕ) : Type 0 where
   pub counts : count ≡ min (length into) (length (drop at file))
   pub bytes : take count into ≡ take count (drop at file)
 
--- of each file that the reads of a device are of
+-- the statement holds of each file that the reads of a device are of
 abbrev pub OfHeld : (List ℕ → Type 0) → (List ℕ → Type 0) → Type 0
 OfHeld holds Says = (file : List ℕ) → holds file → Says file
 
--- a read answers how many bytes of a file it gave, from an offset on
+-- a read returns how many bytes of a file it gave, from an offset on
 abbrev pub GivesBytes : Result ℕ JournalFault → ℕ → List ℕ → List ℕ → Type 0
 GivesBytes result at into file = IfOk result (λ count. ReadsAt count at file into)
 
--- the number of bytes of a file is answered
+-- the number of bytes of a file is returned
 abbrev pub AnswersLength : Result ℕ JournalFault → List ℕ → Type 0
 AnswersLength result file = IfOk result (λ len. len ≡ length file)
 
--- where no sync has failed before, all that a read returns is durable
+-- if no sync has failed before, all that a read returns is durable
 abbrev pub KeepsRead : {T F : Type 0} → Result T F → Disk → Disk → Type 0
 KeepsRead result before after = before.sound ≡ true → OnOk result (IsOnDisk after)
 
--- where no sync has failed before, a crash at any moment of a call leaves such a file
+-- if no sync has failed before, a crash at any moment of a call leaves such a file
 abbrev pub LeavesIfSound : {D : Type 0} → (D → Disk) → D → D → (Disk → List ℕ → Type 0) → Type 0
 LeavesIfSound disk before after May = (disk before).sound ≡ true → LeavesOnly (disk before) (disk after) (May (disk before))
 
--- calls that only look
+-- calls that only read
 pub record IsLookedAt (before after : Disk) : Type 0 where
   pub seen : after.seen ≡ before.seen
   pub crash : AddsNone before after
   pub time : Elapses before after
   pub sound : after.sound ≡ before.sound
 
--- a call that only looks
+-- a call that only reads
 pub record Looks {T : Type 0} (result : Result T JournalFault) (before after : Disk) : Type 0 where
   pub looks : IsLookedAt before after
   pub cause : HasCause result before after
@@ -151,12 +151,12 @@ pub record Cuts (n : ℕ) (result : Result (Unit {0}) JournalFault) (before afte
   pub sound : after.sound ≡ before.sound
   pub cause : HasCause result before after
 
--- what is cut off a file that is cut to a length was set aside before
+-- the bytes that a cut to this length removes were set aside before
 abbrev pub SetsAside : (ℕ → List ℕ → Type 0) → ℕ → List ℕ → Type 0
 SetsAside saved len file = len < length file → saved len (drop len file)
 
--- a sync, before the end of which a crash may leave what it might have left, or what a read returns. Behind one that has failed
--- none keeps anything, whatever it answers
+-- a sync: until it ends, a crash may leave what it might have left before, or what a read returns. After a failed sync no later sync makes anything
+-- durable, whatever it returns
 pub record Syncs (result : Result (Unit {0}) JournalFault) (before after : Disk) : Type 0 where
   pub durable : OnOk result (before.sound ≡ true → Only before.seen after.may_leave)
   pub sound : OnOk result (after.sound ≡ before.sound)

@@ -3,7 +3,7 @@ use Rattle.std.specs.Prelude.{ℕ, List, codes}
 use Rattle.tb_journal.specs.declared.faults.JournalFault.{JournalFault}
 use Rattle.tb_journal.specs.declared.faults.JournalFault.TheVariants.{Memory, Failed, Full, TooLong, NotEmpty, SyncFailed}
 
--- a fault's number, by which other programs may know it
+-- a fault's number, for other programs
 abbrev pub journal_fault_number : JournalFault → ℕ
 journal_fault_number Memory = 1
 journal_fault_number Failed = 2
@@ -21,7 +21,7 @@ journal_fault_name TooLong = codes "TooLong"
 journal_fault_name NotEmpty = codes "NotEmpty"
 journal_fault_name SyncFailed = codes "SyncFailed"
 
--- what a file in memory fails with where this fault is named, in a call that is no sync
+-- the fault of a file in memory in a call other than a sync, if it was set to fail with this fault
 abbrev pub fault_in_memory : JournalFault → JournalFault
 fault_in_memory Memory = Memory
 fault_in_memory Full = Full

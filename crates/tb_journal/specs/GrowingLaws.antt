@@ -12,7 +12,7 @@ EachMomentIsLater = (file : List ℕ) → Later file file
 abbrev pub LaterMomentsFollow : Type 0
 LaterMomentsFollow = (first next last : List ℕ) → Later first next → Later next last → Later first last
 
--- a snapshot that met its end at one moment of a file shows records that begin those of every later moment
+-- the records that a snapshot shows are a prefix of the records at every later moment of its file
 abbrev pub ShownIsAPrefix : Type 0
 ShownIsAPrefix = (closed : Bool) (end len : ℕ) (met shown last : List ℕ) (records : List (List ℕ)) → ShowsOf closed end len met shown → Later met last
     → contents shown ≡ Records records → Extends records shown last

@@ -25,7 +25,7 @@ LeftBy first (call ∷ earlier) left = (d : List ℕ) × LeftBy first earlier d 
 abbrev pub CrashLeaves : Memory → ℕ → List ℕ → Type 0
 CrashLeaves file moment left = LeftBy file.first.items (reverse (take moment file.calls.items)) left
 
--- what a crash at a moment leaves, where these bytes of each write without a sync behind it are on the disk
+-- what a crash at a moment leaves, if these bytes of each write without a later sync are on the disk
 abbrev pub torn_of : Memory → ℕ → List ℕ → List ℕ
 torn_of file moment torn = torn_after torn file.first.items (reverse (take moment file.calls.items))
 
@@ -43,17 +43,17 @@ disk_after first calls bytes failures sound = record {
 abbrev pub memory_disk : Memory → Disk
 memory_disk file = disk_after file.first.items file.calls.items file.bytes.items file.failures file.sound
 
--- its reads are those of its bytes
+-- its reads return its bytes
 abbrev pub memory_holds : Memory → List ℕ → Type 0
 memory_holds file bytes = bytes ≡ memory_bytes file
 
 -- calls that fail
 
--- the number of the call from now that fails, 0 where none will
+-- the number of the call, counted from now, that fails; 0 if no call will fail
 abbrev pub fuse_of : Memory → ℕ
 fuse_of file = file.fuse
 
--- the fault that is named for it
+-- the fault that this call will have
 abbrev pub why_of : Memory → JournalFault
 why_of file = file.why
 
@@ -62,6 +62,6 @@ pub record IsCounted (before after : Memory) : Type 0 where
   pub fuse : fuse_of after ≡ fuse_of before - 1
   pub why : why_of after ≡ why_of before
 
--- it is the turn of this call to fail, with this fault
+-- this call is the one that fails, with this fault
 abbrev pub IsInTurn : Memory → JournalFault → Type 0
 IsInTurn before fault = (fuse_of before ≡ 1) × (fault ≡ fault_in_memory (why_of before))

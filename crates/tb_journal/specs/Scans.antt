@@ -16,7 +16,7 @@ pub record ScanState : Type 0 where
   pub last : List ℕ
   pub ahead : List ℕ
 
--- the file begins with these records: cut off behind them, with a closed latch there, it represents them and no others
+-- the file begins with these records: cut off after them, with a closed latch there, it represents exactly them
 abbrev pub BeginsWith : List (List ℕ) → List ℕ → Type 0
 BeginsWith records file = contents (take (records_end records) file ++ latch_closed) ≡ Records records
 
@@ -37,14 +37,14 @@ BeginsScan (Ok scan) file = HasRead [] file scan
 BeginsScan (Err (open_faults.Refused why)) file = contents file ≡ refused_as why
 BeginsScan (Err (open_faults.Device fault)) file = Unit {0}
 
--- the next step behind these records: one record more, the end, or why the file is refused
+-- the next step after these records: one record more, the end, or why the file is refused
 abbrev pub ReadsNextRecord : Result Bool OpenFault → List (List ℕ) → List ℕ → ScanState → Type 0
 ReadsNextRecord (Ok true) records file scan = HasRead (records ++ scan.last ∷ []) file scan
 ReadsNextRecord (Ok false) records file scan = (contents file ≡ Records records) × HasRead records file scan
 ReadsNextRecord (Err (open_faults.Refused why)) records file scan = contents file ≡ refused_as why
 ReadsNextRecord (Err (open_faults.Device fault)) records file scan = Unit {0}
 
--- the same behind whatever records were read of a file
+-- the same after whatever records were read of a file
 abbrev pub ReadsOn : Result Bool OpenFault → ScanState → ScanState → List ℕ → Type 0
 ReadsOn result before after file = (records : List (List ℕ)) → HasRead records file before → ReadsNextRecord result records file after
 
@@ -52,15 +52,15 @@ ReadsOn result before after file = (records : List (List ℕ)) → HasRead recor
 abbrev pub StaysRead : ScanState → ScanState → Type 0
 StaysRead before after = (records : List (List ℕ)) (file later : List ℕ) → Later file later → HasRead records file before → HasRead records later after
 
--- the cause of a fault, where some records were read before
+-- the cause of a fault, if some records were read before
 abbrev pub ScanCause : Result Bool OpenFault → ScanState → Disk → Disk → Type 0
 ScanCause result scan before after = (records : List (List ℕ)) → HasRead records before.seen scan → HasOpenCause result before after
 
--- a record was read behind a place, and there is no end to this but the greatest length of a file
+-- a record was read after a place. Only the greatest length of a file limits this
 abbrev pub GoesFurther : ScanState → ScanState → Type 0
 GoesFurther old new = (old.end < 2 ^ 62) × (old.end < new.end)
 
--- a refusal behind records that end there: damage at that place
+-- a refusal after records that end there: damage at that place
 abbrev pub IsAt : ℕ → OpenFault → Type 0
 IsAt end (open_faults.Refused (refusals.Damaged at)) = at ≡ end
 IsAt end (open_faults.Refused refusals.NotAJournal) = ⊥
@@ -71,9 +71,9 @@ abbrev pub IsOfStart : OpenFault → Type 0
 IsOfStart (open_faults.Refused (refusals.Damaged at)) = ⊥
 IsOfStart fault = Unit {0}
 
--- rows
+-- examples
 
--- a damaged block behind a good one takes nothing from the good one
+-- a damaged block after a good one does not affect the good one
 pub begins_before_damage : BeginsWith (codes "ab" ∷ []) (codes "TBJRNL02" ++ (block (codes "ab") ++ 255 ∷ 255 ∷ 255 ∷ 255 ∷ 1 ∷ []))
 unfolding byte_on bit_on
 begins_before_damage = refl

@@ -10,11 +10,11 @@ LeavesTorn old (variants.Write at bytes shown) left = Torn at (length bytes.item
 LeavesTorn old (variants.Cut len shown) left = Cut len old left
 LeavesTorn old (variants.Sync file) left = left ≡ file.items
 
--- a write of n bytes where a crash lets these through, as many of them as fit; beyond the end it leaves nothing
+-- what a crash leaves of a write of n bytes if these bytes reach the disk, as many of them as fit; a write beyond the end leaves nothing
 abbrev pub torn_at : List ℕ → ℕ → ℕ → List ℕ → List ℕ
 torn_at torn at n old = if nat_le at (length old) then overwritten old at (take n torn) else old
 
--- what a crash leaves with one call more, where of a write these bytes are on the disk, and behind a cut as many bytes as these
+-- what a crash leaves with one more call, if these bytes of a write are on the disk, and as many bytes as these are left past the length of a cut
 abbrev pub torn_by : List ℕ → Call → List ℕ → List ℕ
 torn_by torn (variants.Write at bytes shown) old = torn_at torn at (length bytes.items) old
 torn_by torn (variants.Cut len shown) old = take (len + length torn) old
@@ -25,7 +25,7 @@ abbrev pub torn_after : List ℕ → List ℕ → List Call → List ℕ
 torn_after torn first [] = first
 torn_after torn first (call ∷ earlier) = torn_by torn call (torn_after torn first earlier)
 
--- what a read returned before, with one call more: none of a call that failed
+-- what a read returned before, with one more call: a failed call changes nothing
 abbrev pub shown_by : Call → List ℕ → List ℕ
 shown_by (variants.Write at bytes shown) old = if shown && nat_le at (length old) then overwritten old at bytes.items else old
 shown_by (variants.Cut len shown) old = if shown then take len old else old

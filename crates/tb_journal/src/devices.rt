@@ -4,8 +4,8 @@ ghost use Rattle.tb_journal.specs.Device.{Disk, Looks, GivesBytes, AnswersLength
 
 use crate::faults::JournalFault;
 
-/// A file on a disk. What the calls do to it is stated of a device that knows: a real disk promises nothing, and a file in
-/// memory all of it.
+/// A file on a disk. The effects of the calls are stated only for a device that reports them: a real disk promises nothing, a file in memory promises
+/// all of it.
 pub trait Device {
     /// Holds of a device that reports what its calls do.
     ghost tells: { Type 0 };
@@ -13,18 +13,17 @@ pub trait Device {
     /// The disk and its clock.
     ghost disk: { Self → Disk };
 
-    /// The reads of a device are those of this file. Of none, where a device does not say which.
+    /// The reads of a device are those of this file. By default there is no such file.
     ghost holds: { Self → List ℕ → Type 0 } = { λ device file. ⊥ };
 
-    /// These bytes, which were in the file from this offset on, were set aside before they were cut off. Anything, where a device
-    /// does not say it.
+    /// These bytes, which were in the file from this offset on, were set aside before they were cut off. By default this holds of any bytes.
     ghost aside: { ℕ → List ℕ → Type 0 } = { λ at bytes. Unit {0} };
 
     /// Some of the bytes from an offset on: as many as fit, or all that are left.
     fn read_at(&mut self, at: usize, into: &mut [u8]) -> Result<usize, JournalFault>
-        // Of any device, so that no reader trusts a count that is too large.
+        // Holds of any device, so that no reader trusts a count that is too large.
         ensures within { IfOk result (λ count. count ≤ length into.new) }
-        // Of any device: so a reader can say of which bytes it speaks.
+        // Holds of any device, so that a reader can say which bytes it has read.
         ensures bytes { (file : List ℕ) → holds self.old file → GivesBytes result at into.new file }
         ensures same { (file : List ℕ) → holds self.old file → holds self.new file }
         ensures names { IfErr result IsOfCall }
@@ -47,7 +46,7 @@ pub trait Device {
     fn cut(&mut self, len: usize) -> Result<(), JournalFault>
         requires { tells → len ≤ length (disk self.old).seen }
         ensures names { IfErr result IsOfCall }
-        // Of any device.
+        // Holds of any device.
         ensures aside { (file : List ℕ) → holds self.old file → OnOk result (SetsAside aside len file) }
         ensures cuts { tells → Cuts len result (disk self.old) (disk self.new) };
 
@@ -60,12 +59,12 @@ pub trait Device {
     /// A device that reports what its calls do holds what a read returns.
     ghost holds_seen: { (file : Self) → tells → holds file (disk file).seen };
 
-    /// What a read returns is one of the files that a crash may leave: so a kill of the process is a crash too.
+    /// What a read returns is one of the files that a crash may leave: a kill of the process is therefore a crash too.
     ghost stays: { (file : Self) → tells → (disk file).may_leave (disk file).seen };
 
     /// This moment is one of those since an earlier one.
     ghost counts_now: { (file : Self) (t : ℕ) (c : List ℕ) → t ≤ (disk file).moment → (disk file).may_leave c → (disk file).left_since t c };
 
-    /// Since this moment there is no other.
+    /// Since this moment there is no other moment.
     ghost only_now: { (file : Self) (c : List ℕ) → (disk file).left_since (disk file).moment c → (disk file).may_leave c };
 }

@@ -16,10 +16,9 @@ pub enum JournalFault {
     Full,
     /// A record has 2^24 bytes or more.
     TooLong,
-    /// A journal is to be created where there is something.
+    /// A journal is to be created, but the file is not empty.
     NotEmpty,
-    /// A sync failed. What was written since the last one may be lost, though reads still return it, and no later sync
-    /// brings it back.
+    /// A sync failed. What was written since the last one may be lost although reads still return it, and no later sync restores it.
     SyncFailed,
 }
 

@@ -21,7 +21,7 @@ pub enum Hop {
 }
 
 #[tactic(auto, using(crate::proofs::Following::followed_first, crate::proofs::Following::followed_next, crate::proofs::Following::leads_on, crate::proofs::Following::leads_from))]
-// Over the blocks of a piece that begins at this offset with one.
+// Follows the blocks of a piece that begins at this offset with a block.
 pub fn follow(piece: &[u8], at: usize, len: usize) -> Hop
     requires near { at < 2 ^ 62 }
     ensures leads { FollowsPiece result at piece.now len }
@@ -45,7 +45,7 @@ pub fn follow(piece: &[u8], at: usize, len: usize) -> Hop
     }
 }
 
-// Over one block.
+// Follows one block.
 fn step(rest: &[u8], at: usize, len: usize) -> Hop
     ensures hops { (file : List ℕ) → HasAhead 11 at file rest.now → HopsTo result at file len }
     ensures further { (next : ℕ) → result ≡ variants.Further next → at < next }

@@ -61,7 +61,7 @@ impl<D: Device> Journal<D> {
         }
     }
 
-    /// The same of a record that is written where it waits. At an `Err` nothing has changed.
+    /// The same for a record that is written where it waits. At an `Err` nothing has changed.
     pub fn append_written<W: Written>(&mut self, content: &W) -> Result<(), JournalFault>
         requires usable { self.old.usable ≡ true }
         ensures ok { OnOk result (self.new ≡ with_waiting self.old (W.bytes content.now)) }
@@ -70,7 +70,7 @@ impl<D: Device> Journal<D> {
         ensures long { IsErrOf result JournalFault.TooLong → 2 ^ 24 ≤ length (W.bytes content.now) }
         ensures full { IsErrOf result JournalFault.Full
             → 2 ^ 62 < grown_bytes self.old (W.bytes content.now) }
-        // Of a record that is too long or does not fit, memory may be missing first.
+        // A record that is too long or does not fit may fail for missing memory first.
         ensures short { OnOk result (length (W.bytes content.now) < 2 ^ 24) }
         ensures fits { OnOk result (grown_bytes self.old (W.bytes content.now) ≤ 2 ^ 62) }
         ensures failed { IsErrOf result JournalFault.Failed → ⊥ }
@@ -81,29 +81,28 @@ impl<D: Device> Journal<D> {
         self.batch.add_written(content, room)
     }
 
-    /// Writes the records that wait. At `Ok` they are acknowledged: from then on each crash leaves a file that has
-    /// them. Where none waits the device is not called. It takes no memory of its own. After an `Err` the journal is
-    /// not used again: the file has to be recovered.
+    /// Writes the records that wait. At `Ok` they are acknowledged: from then on each crash leaves a file that has them. If no record waits the
+    /// device is not called. It allocates no memory of its own. After an `Err` the journal is not used again: the file has to be recovered.
     pub fn commit(&mut self) -> Result<(), JournalFault>
         requires usable { self.old.usable ≡ true }
         requires writable { D.tells → IsWritable D.disk self.old }
 
         ensures writable { D.tells → OnOk result (IsWritable D.disk self.new) }
-        // From a journal that is ready: all that is read is durable, and no sync has failed.
+        // If the journal was ready: all that is read is durable, and no sync has failed.
         ensures ready { D.tells → IsReady D.disk self.old → OnOk result (IsReady D.disk self.new) }
         ensures acknowledged { D.tells → OnOk result (Acknowledges D.disk self.old self.new) }
         ensures emptied { OnOk result (self.new.waiting ≡ []) }
         ensures idle { self.old.waiting ≡ [] → (result ≡ Ok tt) × (self.new ≡ self.old) }
-        // Of any device.
+        // Holds of any device.
         ensures usable { OnOk result (self.new.usable ≡ true) }
         ensures err { OnErr result (self.new ≡ record self.old { device = self.new.device; usable = false }) }
 
-        // A crash at any moment of the call leaves the records from before it, with the whole batch or with none of it.
+        // A crash at any moment of the call leaves the records from before it, with the whole batch or without it.
         ensures any_moment { D.tells → IsReady D.disk self.old → LeavesAllOrNone D.disk self.old self.new }
 
         ensures not_empty { IfErr result (λ fault. fault ≡ JournalFault.NotEmpty → ⊥) }
 
-        // It does not give up by itself.
+        // It fails only if the device fails.
         ensures cause { D.tells → HasCause result (D.disk self.old.device) (D.disk self.new.device) }
     {
         if self.batch.count() == 0 {
@@ -144,7 +143,7 @@ impl<D: Device> Journal<D> {
         self.count
     }
 
-    /// The number of bytes that the records take that wait, with the closed latch behind them: a commit writes so many.
+    /// The number of bytes of the waiting records with the closed latch after them: a commit writes so many.
     pub fn waiting_bytes(&self) -> usize
         ensures { result ≡ length (at_rest self.now.waiting) }
     {
@@ -171,7 +170,7 @@ pub fn write_kept<D: Device>(device: &mut D, at: usize, bytes: &[u8]) -> Result<
     }
 }
 
-// Writes blocks behind the closed latch at this offset, and then opens it.
+// Writes blocks after the closed latch at this offset, and then opens it.
 pub fn publish<D: Device>(device: &mut D, end: usize, batch: &[u8]) -> Result<(), JournalFault>
     requires some { 4 ≤ length batch.now }
     requires short { end < 2 ^ 63 }

@@ -7,8 +7,8 @@ pub fn moments_follow()
     ensures next { LaterMomentsFollow }
 {}
 
-/// The records that a snapshot shows begin those of every later file, byte for byte: unless the machine lost power meanwhile
-/// no later reader misses one.
+/// The records that a snapshot shows are a prefix of those of every later file, byte for byte: unless the machine lost power meanwhile no later
+/// reader misses one.
 pub fn shown_is_a_prefix()
     ensures { ShownIsAPrefix }
 {}

@@ -11,14 +11,14 @@
 //! - `tables`: the remainders that CRC-32C looks up.
 //! - `written`: `Written`, what writes a record where it waits.
 //! - `batches`: records that wait, as the bytes that a commit writes.
-//! - `journals`: `Journal`, with `append` and `commit`: blocks are written behind the closed latch and synced, and then the latch is opened.
+//! - `journals`: `Journal`, with `append` and `commit`: blocks are written after the closed latch and synced, and then the latch is opened.
 //! - `reading`: what is at the head of some bytes: the end, a whole block, or damage. CRC-32C, sixteen bytes at a time.
 //! - `growing`: `Growing`, a file that another process appends to while it is read.
 //! - `hops`: the blocks in a piece of it, followed by their lengths.
 //! - `snapshots`: `Snapshot`, such a file as it was at one moment, as a device.
 //! - `laws`: what holds of every file that grows.
 //! - `scans`: `Scan`, a file read record by record, ahead in pieces of 64 KiB or one whole block; `read_journal`, to its end.
-//! - `seeking`: `Seek`, a record sought at any offset of a file by its checksum, as behind damage.
+//! - `seeking`: `Seek`, which seeks a record at any offset of a file by its checksum, for example after damage.
 //! - `opening`: `finds_blank`, whether a file is empty; `create`, a journal in an empty file; `Journal::open` and `recover`, which cut off what follows the records.
 //!
 //! specs/Contents is what a file's bytes represent, specs/Device what each call of a device does, specs/Scans what was read of

@@ -11,7 +11,7 @@ use crate::faults::JournalFault;
 use crate::growing::Growing;
 use std::alloc::{AllocError, Global};
 
-// A call that was made, with what it may have left. One that failed is not shown. A sync keeps the whole file.
+// A call that was made, with what it may have left. A failed call has no effect on reads. A sync keeps the whole file.
 #[derive(Drop)]
 enum Call {
     Write {
@@ -28,7 +28,7 @@ enum Call {
     },
 }
 
-// How often a call has failed, by the fault. A count that is full stays.
+// How often a call has failed, by the fault. A count at its maximum stays.
 #[derive(Drop)]
 struct Failures {
     memory: u64,
@@ -54,7 +54,7 @@ impl Failures {
         }
     }
 
-    // Counts one, and answers it.
+    // Counts a failure, and returns its fault.
     fn count(&mut self, fault: JournalFault) -> JournalFault
         ensures same { result ≡ fault }
         ensures counted { Rises (counted self.old fault) (counted self.new fault) }
@@ -72,16 +72,16 @@ impl Failures {
     }
 }
 
-/// A file in memory. It keeps each call since it was made, so that what a crash at any moment may leave can be had.
+/// A file in memory. It keeps every call, so that what a crash at any moment may leave can be computed.
 #[derive(Drop)]
 pub struct Memory {
     alloc: Global,
     first: Vec<u8>,
     calls: Vec<Call>,
     bytes: Vec<u8>,
-    // The call of this number from now fails; 0 where none will.
+    // The call of this number, counted from now, fails; 0 if no call will fail.
     fuse: u64,
-    // What it fails with.
+    // The fault of that call.
     why: JournalFault,
     failures: Failures,
     // No sync has failed.
@@ -119,16 +119,16 @@ impl Memory {
         &self.bytes
     }
 
-    /// The number of moments so far: one for each write and cut, and for each sync that kept what there was.
+    /// The number of moments so far: one for each write and cut, and for each sync that made the file durable.
     pub fn moments(&self) -> usize
         ensures { result ≡ moments_of self.now }
     {
         self.calls.len()
     }
 
-    /// Lets the call of this number from now fail, the next one at 1; at 0 none. The fault is Failed, or SyncFailed of a
-    /// sync. A write or a cut that fails may leave what one that a crash cuts short leaves, and is not seen. Behind a sync
-    /// that fails no other keeps anything.
+    /// Makes the call of this number fail, counted from now: the next call is 1, and 0 lets no call fail. The fault is Failed, or SyncFailed for a
+    /// sync. A failed write or cut may leave what one that a crash interrupts leaves, and reads do not show it. After a failed sync no other sync
+    /// makes anything durable.
     pub fn fail_at(&mut self, number: u64)
         ensures bytes { memory_bytes self.new ≡ memory_bytes self.old }
         ensures moments { moments_of self.new ≡ moments_of self.old }
@@ -139,7 +139,7 @@ impl Memory {
         self.fail_with(number, JournalFault::Failed);
     }
 
-    /// The same, with the fault that is named, Memory or Full, where the call is no sync.
+    /// The same with this fault, Memory or Full, if the call is not a sync.
     pub fn fail_with(&mut self, number: u64, fault: JournalFault)
         ensures bytes { memory_bytes self.new ≡ memory_bytes self.old }
         ensures moments { moments_of self.new ≡ moments_of self.old }
@@ -151,8 +151,8 @@ impl Memory {
         self.why = fault;
     }
 
-    /// What a crash at a moment may leave. Of each write that no sync has followed, these bytes are in its range, as
-    /// many of them as fit there, and behind them what was there; of each cut as many bytes as these are left.
+    /// What a crash at a moment may leave. Each write without a later sync has these bytes in its range, as many of them as fit there, and after them
+    /// what was there. A cut without a later sync leaves as many bytes more than its length as there are of these.
     pub fn after_crash(&self, moment: usize, torn: &[u8]) -> Result<Vec<u8>, AllocError>
         requires { moment ≤ moments_of self.now }
         ensures among { IfOk result (λ left. CrashLeaves self.now moment left.items) }
@@ -183,7 +183,7 @@ fn after_torn(alloc: Global, file: Vec<u8>, call: &Call, torn: &[u8]) -> Result<
     }
 }
 
-// What a write of so many bytes leaves that a crash cuts short.
+// What a write of so many bytes leaves if a crash interrupts it.
 #[tactic(auto, using(crate::proofs::CallHistory::torn_within, crate::proofs::CallHistory::torn_beyond, crate::proofs::CallHistory::let_through))]
 fn torn_write(
     alloc: Global,
@@ -330,7 +330,7 @@ impl Growing for Memory {
     }
 }
 
-// The fault of a call that is no sync.
+// The fault of a call that is not a sync.
 fn of_call(fault: JournalFault) -> JournalFault
     ensures names { IsOfCall result }
     ensures value { result ≡ fault_in_memory fault }
@@ -341,7 +341,7 @@ fn of_call(fault: JournalFault) -> JournalFault
     }
 }
 
-// One call more.
+// Adds one more call.
 fn push_call(calls: &mut Vec<Call>, call: Call) -> Result<(), AllocError>
     ensures ok { OnOk result (calls.new.items ≡ calls.old.items ++ call ∷ []) }
     ensures err { OnErr result (calls.new.items ≡ calls.old.items) }
@@ -350,7 +350,7 @@ fn push_call(calls: &mut Vec<Call>, call: Call) -> Result<(), AllocError>
     Ok(())
 }
 
-// A write more: what the file is after it.
+// Adds a write, with the file after it.
 fn push_write(
     alloc: Global,
     calls: &mut Vec<Call>,
@@ -370,7 +370,7 @@ fn push_write(
     Ok(next)
 }
 
-// A sync more.
+// Adds a sync.
 fn push_sync(alloc: Global, calls: &mut Vec<Call>, file: &[u8]) -> Result<(), AllocError>
     ensures ok { OnOk result ((v : Vec ℕ Global) × (v.items ≡ file.now) × (calls.new.items ≡ calls.old.items ++ variants.Sync v ∷ [])) }
     ensures err { OnErr result (calls.new.items ≡ calls.old.items) }
@@ -392,7 +392,7 @@ fn copy_from(bytes: &[u8], at: usize, into: &mut [u8]) -> usize
     count
 }
 
-// Counts a call, and answers whether it is the one that fails.
+// Counts a call, and returns whether it is the one that fails.
 fn trips(fuse: &mut u64) -> bool
     ensures fails { result ≡ (fuse.old == 1) }
     ensures counted { fuse.new ≡ fuse.old - 1 }

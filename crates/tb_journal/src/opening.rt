@@ -1,4 +1,4 @@
-//! A journal is created, or opened from a file that a crash may have left.
+//! Creates a journal, or opens one from a file that a crash may have left.
 ghost use Rattle.std.specs.Prelude.{◌≡◌, ◌≤◌, ◌<◌, ◌+◌, ◌^◌, true, List, ℕ, length, Ok, IfOk, IfErr, [], OnOk};
 ghost use Rattle.tb_journal.specs.Device.{IsOnDisk, LeavesOnly, IsSettled, HasCause, GivesBytes, LeavesIfSound, OfHeld, SetsAside};
 ghost use Rattle.tb_journal.specs.Contents.{contents, recorded, records_end, IsJournal};
@@ -19,7 +19,7 @@ use std::alloc::Global;
 /// Why a journal was not opened.
 #[derive(Clone, Copy, Debug, PartialEq, Eq)]
 pub enum OpenFault {
-    /// The file is no journal, or it is damaged. It is as it was.
+    /// The file is no journal, or it is damaged. It is unchanged.
     Refused(Refusal),
     /// A call on the device failed, there is no memory, or the file is at its greatest length.
     Device(JournalFault),
@@ -33,7 +33,7 @@ pub struct NotOpened<D: Device> {
 }
 
 impl<D: Device> NotOpened<D> {
-    // Not opened for a fault of the device, or of memory: the file is no reason.
+    // Not opened because of a fault of the device or of memory, not of the file.
     pub(crate) fn of_device(device: D, fault: JournalFault) -> NotOpened<D>
         ensures { result ≡ record { device = device; fault = OpenFault.Device fault } }
     {
@@ -56,7 +56,7 @@ fn cut_kept<D: Device>(device: &mut D, len: usize) -> Result<(), JournalFault>
     }
 }
 
-// Cuts off what follows the closed latch behind the records. Nothing is written: the latch is there.
+// Cuts off what follows the closed latch after the records. Nothing is written: the latch is there.
 fn repair<D: Device>(device: &mut D, end: usize) -> Result<(), JournalFault>
     requires short { end < 2 ^ 63 }
     requires reads { D.tells → IsJournal (D.disk device.old).seen }
@@ -68,18 +68,18 @@ fn repair<D: Device>(device: &mut D, end: usize) -> Result<(), JournalFault>
 }
 
 impl<D: Device> Journal<D> {
-    /// Opens the file that was read, of which a scan reported the extent: what follows its records
-    /// is cut off. A crash at any moment of the call leaves a file of the same records.
+    /// Opens the file that was read, with the extent that a scan reported: what follows its records is cut off. A crash at any moment of the call
+    /// leaves a file of the same records.
     pub fn open(alloc: Global, device: D, extent: Extent) -> Result<Journal<D>, NotOpened<D>>
         requires few { extent.count ≤ extent.end }
         requires kept { D.tells → (D.disk device).sound ≡ true → IsOnDisk (D.disk device) }
         requires read { D.tells → extent_of (contents (D.disk device).seen) ≡ Ok extent }
 
-        // Where no sync has failed before.
+        // If no sync has failed before.
         ensures opened { D.tells → OpensIfSound D.disk device result }
         ensures same { D.tells → IfOk result (IsOver D.disk (recorded (D.disk device).seen)) }
         ensures any_moment { D.tells → LeavesSameRecords (D.disk device) (D.disk (device_left result)) }
-        // Of any device.
+        // Holds of any device.
         ensures usable { IfOk result (λ journal. journal.usable ≡ true) }
         ensures numbers { IfOk result (IsOfExtent extent) }
         ensures of_device { IfErr result (λ failed. IsOfDevice failed.fault) }
@@ -108,15 +108,14 @@ impl<D: Device> Journal<D> {
     }
 }
 
-/// Opens a journal from a file that a crash may have left. Its records are those that the file
-/// represents, and it is ready. A crash at any moment of the call leaves a file of the same
-/// records, so that the call may be made again.
+/// Opens a journal from a file that a crash may have left. Its records are those that the file represents, and it is ready. A crash at any moment of
+/// the call leaves a file of the same records, so that the call may be repeated.
 pub fn recover<D: Device>(alloc: Global, device: D) -> Result<Journal<D>, NotOpened<D>>
-    // Where no sync has failed before.
+    // If no sync has failed before.
     ensures opened { D.tells → OpensIfSound D.disk device result }
     ensures same { D.tells → IfOk result (IsOver D.disk (recorded (D.disk device).seen)) }
     ensures any_moment { D.tells → LeavesIfSound D.disk device (device_left result) StandsForTheSame }
-    // Of any device.
+    // Holds of any device.
     ensures usable { IfOk result (λ journal. journal.usable ≡ true) }
     // The records are those of the file that its reads are of.
     ensures handed { (file : List ℕ) → D.holds device file → Recovers result file }
@@ -138,22 +137,21 @@ const FIRST: [u8; 12] = [
     b'T', b'B', b'J', b'R', b'N', b'L', b'0', b'2', 90, 195, 150, 105,
 ];
 
-/// Creates a journal without records in an empty file. Any other file stays as it was, but one such
-/// as a crash leaves of a creation: nothing was acknowledged there, and the call
-/// may be made again.
+/// Creates a journal without records in an empty file. A file that a crash left of a creation counts as empty: nothing was acknowledged there, and
+/// the call may be repeated. Any other file stays as it was.
 pub fn create<D: Device>(alloc: Global, device: D) -> Result<Journal<D>, NotOpened<D>>
-    // Where no sync has failed before.
+    // If no sync has failed before.
     ensures created { D.tells → (D.disk device).sound ≡ true → IfOk result (IsNew D.disk) }
     ensures blank { D.tells
         → IfOk result (λ journal. (is_blank (D.disk device).seen ≡ true) × IsOver D.disk [] journal) }
-    // A crash at any moment of the call leaves the file as it was, or no record in it.
+    // A crash at any moment of the call leaves the file as it was, or a file without records.
     ensures any_moment { D.tells → LeavesIfSound D.disk device (device_left result) MayBeCreated }
     // A file that is not blank stays as it was.
     ensures untouched { D.tells → GivesBack D.disk device result IsLeft }
-    // Of any device.
+    // Holds of any device.
     ensures usable { IfOk result (λ journal. (journal.usable ≡ true) × (journal.waiting ≡ [])) }
     ensures of_device { IfErr result (λ failed. IsOfDevice failed.fault) }
-    // By the file that its reads are of.
+    // In terms of the file that its reads are of.
     ensures handed { (file : List ℕ) → D.holds device file → CreatesIn D.holds result file }
     ensures cause { D.tells → CausedBy D.disk device result HasCreateCause }
 {
@@ -165,8 +163,8 @@ pub fn create<D: Device>(alloc: Global, device: D) -> Result<Journal<D>, NotOpen
     }
 }
 
-/// Says whether a file is blank: empty, or such as a crash leaves of a creation. One that is longer than the first bytes
-/// is not, and is not read.
+/// Returns whether a file is blank: empty, or as a crash may leave it during a creation. A file that is longer than the first bytes is not blank, and
+/// is not read.
 pub fn finds_blank<D: Device>(device: &mut D) -> Result<bool, JournalFault>
     ensures found { OfHeld (D.holds device.old) (λ file. IfOk result (λ found. found ≡ is_blank file)) }
     ensures same { (file : List ℕ) → D.holds device.old file → D.holds device.new file }
@@ -230,7 +228,7 @@ fn begin<D: Device>(alloc: Global, device: D) -> Result<Journal<D>, NotOpened<D>
     }
 }
 
-// Writes the first bytes, all in one write: whatever a crash leaves of them holds no record.
+// Writes the first bytes, all in one write: whatever a crash leaves of them has no record.
 fn write_first<D: Device>(device: &mut D) -> Result<(), JournalFault>
     requires blank { D.tells → is_blank (D.disk device.old).seen ≡ true }
     ensures other { IfErr result (λ fault. fault ≡ JournalFault.NotEmpty → ⊥) }

@@ -1,4 +1,4 @@
-//! A file of a system as a device: whole reads and writes, of calls that take a part, are interrupted or fail.
+//! A file of a system as a device: whole reads and writes, over calls that transfer a part, are interrupted or fail.
 ghost use Rattle.std.specs.Prelude.{◌≡◌, ◌+◌, ◌^◌, ◌<◌, ◌≤◌, length, Ok, IfOk, IfErr, refl};
 ghost use Rattle.tb_journal.specs.Device.{Cuts, Syncs, IsOfCall, IsOfSync};
 ghost use Rattle.tb_journal.specs.System.{fault_of};
@@ -10,7 +10,7 @@ use crate::growing::Growing;
 use crate::systems::System;
 use std::io::ErrorKind;
 
-/// A file of a system. It keeps what `Device` says wherever the system's calls keep what `System` says.
+/// A file of a system. It keeps the contract of `Device` if the system's calls keep that of `System`.
 #[derive(Drop)]
 pub struct Posix<S> {
     system: S,
@@ -99,7 +99,7 @@ impl<S: System> Device for Posix<S> {
 }
 
 impl<S: System> Growing for Posix<S> {
-    // By the system's calls nobody else writes.
+    // Under the contract of the system's calls nobody else writes.
     ghost grows = { λ file bytes. S.tells × (bytes ≡ (S.disk file.system).seen) };
 
     fn read_at(&mut self, at: usize, into: &mut [u8]) -> Result<usize, JournalFault> {
@@ -111,14 +111,14 @@ impl<S: System> Growing for Posix<S> {
     }
 }
 
-// The offset of the byte that is so many behind this one.
+// The offset of the byte that is so many after this one.
 fn offset_of(at: usize, count: usize) -> u64
     ensures { at + count < 2 ^ 64 → result ≡ at + count }
 {
     (at as u64).saturating_add(count as u64)
 }
 
-// Reads some bytes, again as long as a signal interrupts the call.
+// Reads some bytes, and retries as long as a signal interrupts the call.
 fn read_some<S: System>(system: &mut S, offset: u64, into: &mut [u8]) -> Result<usize, JournalFault>
     ensures within { IfOk result (λ count. count ≤ length into.new) }
     ensures names { IfErr result IsOfCall }
@@ -136,7 +136,7 @@ fn read_some<S: System>(system: &mut S, offset: u64, into: &mut [u8]) -> Result<
     Err(JournalFault::Failed)
 }
 
-// Writes some of some bytes, at least one, again as long as a signal interrupts the call.
+// Writes some of these bytes, at least one, and retries as long as a signal interrupts the call.
 fn write_some<S: System>(system: &mut S, offset: u64, bytes: &[u8]) -> Result<usize, JournalFault>
     requires some { 1 ≤ length bytes.now }
     requires within { S.tells → offset ≤ length (S.disk system.old).seen }
@@ -159,7 +159,7 @@ fn write_some<S: System>(system: &mut S, offset: u64, bytes: &[u8]) -> Result<us
     Err(JournalFault::Failed)
 }
 
-// Cuts the file, again as long as a signal interrupts the call.
+// Cuts the file, and retries as long as a signal interrupts the call.
 fn cut_once<S: System>(system: &mut S, len: usize) -> Result<(), JournalFault>
     requires { S.tells → len ≤ length (S.disk system.old).seen }
     ensures names { IfErr result IsOfCall }
@@ -177,7 +177,7 @@ fn cut_once<S: System>(system: &mut S, len: usize) -> Result<(), JournalFault>
     Err(JournalFault::Failed)
 }
 
-// Syncs the file, again as long as a signal interrupts the call.
+// Syncs the file, and retries as long as a signal interrupts the call.
 fn sync_once<S: System>(system: &mut S) -> Result<(), JournalFault>
     ensures names { IfErr result IsOfSync }
     ensures syncs { S.tells → Syncs result (S.disk system.old) (S.disk system.new) }
@@ -194,7 +194,7 @@ fn sync_once<S: System>(system: &mut S) -> Result<(), JournalFault>
     Err(JournalFault::SyncFailed)
 }
 
-// The fault of a call that answered so.
+// The fault of a call with this error.
 #[tactic(auto, unfolding(crate::specs::System::fault_of))]
 fn fault_of(kind: ErrorKind) -> JournalFault
     ensures is { result ≡ fault_of kind }

@@ -1,5 +1,5 @@
-//! How the bytes of a journal are read: the head of a block, and CRC-32C, sixteen bytes at a time, by tables of what each byte makes
-//! with zeros behind it.
+//! How the bytes of a journal are read: the head of a block, and CRC-32C, sixteen bytes at a time, by tables of the remainders of each byte with
+//! zeros after it.
 ghost use Rattle.std.specs.Prelude.{◌≡◌, [], ◌∷◌, ◌≤◌, ◌<◌, ◌++◌, bit_xor};
 ghost use Rattle.tb_journal.specs.Contents.{is_closed, front, behind_latch};
 ghost use Rattle.tb_journal.specs.Reading.{head_is, asked_bytes};
@@ -26,7 +26,7 @@ pub struct Extent {
     pub count: usize,
 }
 
-/// Why a file is not read.
+/// Why a file is refused.
 #[derive(Clone, Copy, Debug, PartialEq, Eq)]
 pub enum Refusal {
     /// It does not begin with the journal's first bytes.
@@ -35,14 +35,14 @@ pub enum Refusal {
     Damaged { at: usize },
 }
 
-// Says whether these bytes are a closed latch.
+// Returns whether these bytes are a closed latch.
 pub fn is_closed(w: u8, x: u8, y: u8, z: u8) -> bool
     ensures { result ≡ is_closed w x y z }
 {
     w == 90 && x == 195 && y == 150 && z == 105
 }
 
-// So many bytes from a place on say what is there.
+// The number of bytes from a place on that decide what is there.
 pub fn asked(bytes: &[u8]) -> usize
     ensures { result ≡ asked_bytes bytes.now }
 {
@@ -68,7 +68,7 @@ pub fn head_of(bytes: &[u8]) -> Head
     }
 }
 
-// The length is in three bytes.
+// The length has three bytes.
 #[tactic(auto, using(crate::proofs::Heads::too_short, crate::proofs::Heads::whole_there, crate::proofs::Heads::other_sum))]
 fn head_behind_latch(a: u8, b: u8, c: u8, sum: u32, rest: &[u8]) -> Head
     ensures { result ≡ head_is (behind_latch (a ∷ b ∷ c ∷ []) sum rest.now) }
@@ -133,7 +133,7 @@ fn remainder_on(sum: u32, byte: u8) -> u32
     low ^ (sum >> 8)
 }
 
-// What so many bytes of zeros make of four bytes.
+// The remainder of four bytes after so many bytes of zeros.
 fn word_after(word: u32, zeros: usize) -> u32
     requires least { 4 ≤ zeros }
     requires most { zeros ≤ 16 }
@@ -145,7 +145,7 @@ fn word_after(word: u32, zeros: usize) -> u32
         ^ byte_after((word >> 24) as usize, zeros - 3)
 }
 
-// What so many bytes of zeros make of a byte.
+// The remainder of a byte after so many bytes of zeros.
 fn byte_after(byte: usize, zeros: usize) -> u32
     requires byte { byte < 256 }
     requires least { 1 ≤ zeros }

@@ -14,13 +14,13 @@ use std::{fs, io};
 pub enum FileFault {
     /// Another process has it open.
     Locked,
-    /// A sync of the file or of its folder failed so.
+    /// A sync of the file or of its folder failed with this fault.
     Sync(JournalFault),
-    /// The system's answer to any other call.
+    /// The system's error of any other call.
     System(io::Error),
     /// It is no regular file: a folder, a FIFO or a device.
     NotAFile,
-    /// There is something of this name, where a new file was to be made.
+    /// Something has this name, but a new file was to be made.
     Exists,
     /// It is a symbolic link to nothing.
     Dangling,
@@ -37,8 +37,7 @@ impl From<io::Error> for FileFault {
     }
 }
 
-/// A file that the system has opened. Each call is one of std's. What they do no proof knows: they are trusted to keep what
-/// `System` says.
+/// A file that the system has opened. Each call is one of std's. No proof covers what they do: they are trusted to keep the contract of `System`.
 #[derive(Drop)]
 pub struct HostFile {
     file: File,
@@ -93,13 +92,13 @@ impl System for HostFile {
 pub type Real = Posix<HostFile>;
 
 impl Posix<HostFile> {
-    /// Opens a regular file that is there.
+    /// Opens a regular file that exists.
     pub fn open<R: Files<File = File>>(rt: &R, path: &str) -> Result<Real, FileFault> {
         locked(there(rt, path)?)
     }
 
-    /// Opens a file, and makes it where it is not there, for its owner alone; then its name is durable. What is no regular
-    /// file is refused, and a symbolic link to nothing.
+    /// Opens a file, and creates it if it is missing, with access for its owner only; then its name is durable. A file that is not regular and a
+    /// symbolic link to nothing are refused.
     pub fn make<R: Files<File = File> + Alloc>(rt: &R, path: &str) -> Result<Real, FileFault> {
         match opened_or_made(rt, path) {
             Ok(file) => {
@@ -111,7 +110,7 @@ impl Posix<HostFile> {
         }
     }
 
-    /// Makes a file that is not there, for its owner alone; then its name is durable.
+    /// Creates a file that does not exist, with access for its owner only; then its name is durable.
     pub fn make_new<R: Files<File = File> + Alloc>(rt: &R, path: &str) -> Result<Real, FileFault> {
         match made(rt, path) {
             Ok(file) => {
@@ -123,8 +122,8 @@ impl Posix<HostFile> {
         }
     }
 
-    /// Opens a file that is there for reading alone: it needs no write permission and takes no lock, so another process may
-    /// append to it meanwhile. A write or a cut of it fails. A symbolic link to nothing is reported as such.
+    /// Opens an existing file for reading only: it needs no write permission and takes no lock, so another process may append to it meanwhile. A
+    /// write or a cut of it fails. A symbolic link to nothing is reported as such.
     pub fn look<R: Files<File = File>>(rt: &R, path: &str) -> Result<Real, FileFault> {
         find_regular(rt, path)?;
         let file = regular(File::open(rt, path)?)?;
@@ -132,7 +131,7 @@ impl Posix<HostFile> {
     }
 }
 
-// A file that is there, or one that is made. Between the two looks another process may make it.
+// A file that exists, or one that is created. Between the two checks another process may create it.
 fn opened_or_made<R: Files<File = File>>(rt: &R, path: &str) -> Result<File, FileFault> {
     match made(rt, path) {
         Err(FileFault::Exists) => there(rt, path),
@@ -140,13 +139,13 @@ fn opened_or_made<R: Files<File = File>>(rt: &R, path: &str) -> Result<File, Fil
     }
 }
 
-// A regular file that is there, to be read and written.
+// An existing regular file, opened for reading and writing.
 fn there<R: Files<File = File>>(rt: &R, path: &str) -> Result<File, FileFault> {
     find_regular(rt, path)?;
     regular(File::options().read(true).write(true).open(rt, path)?)
 }
 
-// Refuses a name of which there is no regular file. A FIFO is not opened: that would wait for a writer.
+// Refuses a name that has no regular file. A FIFO is not opened: that would wait for a writer.
 fn find_regular<R: Files<File = File>>(rt: &R, path: &str) -> Result<(), FileFault> {
     let found = match fs::metadata(rt, path) {
         Ok(found) => found,
@@ -158,7 +157,7 @@ fn find_regular<R: Files<File = File>>(rt: &R, path: &str) -> Result<(), FileFau
     Ok(())
 }
 
-// The same of an open file: its name may be that of another since.
+// The same for an open file: its name may belong to another file by now.
 fn regular(file: File) -> Result<File, FileFault> {
     if !file.metadata()?.is_file() {
         return Err(FileFault::NotAFile);
@@ -166,7 +165,7 @@ fn regular(file: File) -> Result<File, FileFault> {
     Ok(file)
 }
 
-// A file that was not there, which its owner alone may read and write.
+// A new file, which only its owner may read and write.
 fn made<R: Files<File = File>>(rt: &R, path: &str) -> Result<File, FileFault> {
     let mut how = File::options();
     let how = how.read(true).write(true).create_new(true).mode(0o600);
@@ -179,7 +178,7 @@ fn made<R: Files<File = File>>(rt: &R, path: &str) -> Result<File, FileFault> {
     }
 }
 
-// Why a file is not opened of whose name there is something.
+// Why a file is not opened: its name is a symbolic link to nothing, or the error of the system.
 fn of_link<R: Files<File = File>>(rt: &R, path: &str, error: io::Error) -> FileFault {
     match (error.kind(), fs::symlink_metadata(rt, path)) {
         (ErrorKind::NotFound, Ok(found)) if found.is_symlink() => FileFault::Dangling,
@@ -196,8 +195,7 @@ fn locked(file: File) -> Result<Real, FileFault> {
     }
 }
 
-/// Syncs the folder that a file lies in, so that the file's name is durable: of a symbolic link the folder of what it
-/// represents.
+/// Syncs the folder of a file, so that the file's name is durable. For a symbolic link this is the folder of its target.
 pub fn sync_folder<R: Files + Alloc>(rt: &R, path: &str) -> Result<(), FileFault> {
     if fs::symlink_metadata(rt, path)?.is_symlink() {
         let target = fs::canonicalize(rt, path)?;
@@ -206,7 +204,7 @@ pub fn sync_folder<R: Files + Alloc>(rt: &R, path: &str) -> Result<(), FileFault
     synced(File::open(rt, folder_of(path))?.sync_all())
 }
 
-// What a sync answered.
+// The result of a sync.
 fn synced(answer: io::Result<()>) -> Result<(), FileFault> {
     answer.map_err(|_| FileFault::Sync(JournalFault::SyncFailed))
 }

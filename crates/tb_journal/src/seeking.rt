@@ -1,4 +1,4 @@
-//! Seeks records at any offset of a file, as behind damage: each by its checksum, whatever the latch and the length before it are.
+//! Seeks records at any offset of a file, for example after damage: each by its checksum, whatever the latch and the length before it are.
 ghost use Rattle.std.specs.Prelude.{◌≡◌, ◌+◌, ◌≤◌, ◌<◌, ◌^◌, true, false, List, [], ℕ, length, take, drop, IfOk, OnOk};
 ghost use Rattle.tb_journal.specs.Device.{IsLookedAt, HasOwnCause};
 ghost use Rattle.tb_journal.specs.Reading.{HasAhead};
@@ -14,7 +14,7 @@ use std::marker::Model;
 // The checksum before a record.
 const SUM_BYTES: usize = 4;
 
-// Says whether these bytes begin with the checksum of the block of a record of so many bytes, which is behind it.
+// Returns whether these bytes begin with the checksum of the block of a record of so many bytes, which follows it.
 fn is_summed(bytes: &[u8], len: usize) -> bool
     requires some { 0 < len }
     requires short { len < 2 ^ 24 }
@@ -71,11 +71,11 @@ impl Seek {
         self.window.ahead()
     }
 
-    /// Reads on where fewer bytes are ahead than these: then so many are, or all that the file has left.
+    /// Reads on if fewer bytes are ahead than these: then so many are, or all that the file has left.
     pub fn fill<D: Device>(&mut self, device: &mut D, n: usize) -> Result<(), JournalFault>
         requires near { self.old.at < 2 ^ 62 }
         ensures at { self.new.at ≡ self.old.at }
-        // Of any device, by the file that its reads are of.
+        // Holds of any device, in terms of the file that its reads are of.
         ensures ahead { (file : List ℕ) → D.holds device.old file → IsSeeking file self.old
             → OnOk result (HasAhead n self.old.at file self.new.ahead) }
         ensures same { (file : List ℕ) → D.holds device.old file → D.holds device.new file }
@@ -85,13 +85,13 @@ impl Seek {
         self.window.fill(device, self.at, n)
     }
 
-    /// Says whether the record of so many bytes stands at the offset, behind its checksum. It is ahead then, behind 4 bytes.
+    /// Returns whether the record of so many bytes is at the offset, after its checksum. If so it is ahead, after 4 bytes.
     pub fn stands<D: Device>(&mut self, device: &mut D, len: usize) -> Result<bool, JournalFault>
         requires near { self.old.at < 2 ^ 62 }
         requires some { 0 < len }
         requires short { len < 2 ^ 24 }
         ensures at { self.new.at ≡ self.old.at }
-        // Of any device, by the file that its reads are of.
+        // Holds of any device, in terms of the file that its reads are of.
         ensures stands { (file : List ℕ) → D.holds device.old file → IsSeeking file self.old → SeeksRecord result len file self.new }
         ensures ahead { (file : List ℕ) → D.holds device.old file → IsSeeking file self.old → OnOk result (IsSeeking file self.new) }
         ensures within { IfOk result (λ found. found ≡ true → 4 + len ≤ length self.new.ahead) }
@@ -103,7 +103,7 @@ impl Seek {
         Ok(is_summed(self.window.ahead(), len))
     }
 
-    /// Goes on behind so many bytes.
+    /// Moves on by so many bytes.
     pub fn skip(&mut self, n: usize)
         requires near { self.old.at + n < 2 ^ 63 }
         ensures at { self.new.at ≡ self.old.at + n }

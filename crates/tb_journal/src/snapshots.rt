@@ -18,13 +18,13 @@ use crate::reading::MAGIC;
 use std::alloc::Global;
 use std::marker::Model;
 
-// A piece of a file, which is read at once.
+// A piece of a file: the size of one read.
 const PIECE_BYTES: usize = 1 << 16;
 
-// Where its blocks begin.
+// The offset of the first block.
 const START_BYTES: usize = MAGIC.len();
 
-// Where the blocks of a file end, how many bytes it has, and whether a closed latch was met.
+// Where the blocks of a file end, how many bytes it has, and whether a closed latch was found.
 #[derive(Clone, Copy)]
 pub struct Found {
     pub end: usize,
@@ -39,11 +39,10 @@ const WHOLE: Found = Found {
     closed: false,
 };
 
-/// A file that grows, as a device that holds the bytes of one moment: the blocks up to the closed latch that was met, that latch, and
-/// zeros in the place of what was behind it. So its length is that of the file. A file that is damaged or no journal is shown whole, since
-/// nobody appends to it.
+/// A file that grows, as a device that shows the bytes of one moment: the blocks up to the closed latch that was found, that latch, and zeros in the
+/// place of what follows it. So its length is that of the file. A file that is damaged or no journal is shown whole, because nobody appends to it.
 ///
-/// It is read alone: a write or a cut fails, and a sync does nothing, so what it holds may be lost at a power loss.
+/// It is only read: a write or a cut fails, and a sync does nothing, so a power loss may lose what it shows.
 #[derive(Drop)]
 pub struct Snapshot<G: Growing> {
     file: G,
@@ -60,7 +59,7 @@ impl<G: Growing> Model for Snapshot<G> {
 }
 
 impl<G: Growing + Drop> Snapshot<G> {
-    /// Follows the blocks of a file to the closed latch, and keeps that end. No checksum is looked at: a scan does that.
+    /// Follows the blocks of a file to the closed latch, and keeps that end. It checks no checksums: a scan does that.
     pub fn new(alloc: Global, file: G) -> Result<Snapshot<G>, JournalFault>
         ensures taken { (bytes : List ℕ) → G.grows file bytes → IfOk result (TakesSnapshot G.grows bytes) }
         ensures names { IfErr result IsOfCall }
@@ -73,7 +72,7 @@ impl<G: Growing + Drop> Snapshot<G> {
         }
     }
 
-    /// Goes on from the end that was met to the one that is there now. At an `Err` it holds what it held.
+    /// Moves from the end that was found to the end of the file now. At an `Err` it shows what it showed.
     pub fn refresh(&mut self) -> Result<(), JournalFault>
         ensures ok { (shown : List ℕ) → (held : HoldsBytes G.grows self.old shown) → OnOk result (Refreshes G.grows held.file shown self.new) }
         ensures err { (shown : List ℕ) → HoldsBytes G.grows self.old shown → OnErr result (HoldsBytes G.grows self.new shown) }
@@ -91,7 +90,7 @@ impl<G: Growing + Drop> Snapshot<G> {
         }
     }
 
-    /// From now on a read gives the bytes of the file as they are, those behind the closed latch too.
+    /// From now on a read returns the bytes of the file as they are, including those after the closed latch.
     pub fn look_behind(&mut self)
         ensures file { self.new.file ≡ self.old.file }
         ensures whole { self.new.closed ≡ false }
@@ -99,7 +98,7 @@ impl<G: Growing + Drop> Snapshot<G> {
         self.found = WHOLE;
     }
 
-    /// The number of bytes of the file now, those behind the end of the snapshot too.
+    /// The number of bytes of the file now, including those after the end of the snapshot.
     pub fn file_len(&mut self) -> Result<usize, JournalFault>
         ensures same { (shown : List ℕ) → HoldsBytes G.grows self.old shown → HoldsBytes G.grows self.new shown }
         ensures len { HasGrown (G.grows self.old.file) (G.grows self.new.file) (AnswersLength result) }
@@ -151,7 +150,7 @@ impl<G: Growing> Device for Snapshot<G> {
     }
 }
 
-// Reads of what is shown: the blocks up to this offset, a closed latch, and zeros up to a length. Fails where the file no longer has the blocks.
+// Reads what is shown: the blocks up to this offset, a closed latch, and zeros up to a length. Fails if the file no longer has the blocks.
 fn read_closed<G: Growing>(
     file: &mut G,
     end: usize,
@@ -168,7 +167,7 @@ fn read_closed<G: Growing>(
     close(into, count, at, end, len)
 }
 
-// Writes what is shown behind the blocks over what was read there.
+// Writes what is shown after the blocks over the bytes that were read there.
 fn close(
     into: &mut [u8],
     count: usize,
@@ -220,7 +219,7 @@ fn find<G: Growing>(file: &mut G, piece: &mut [u8]) -> Result<Found, JournalFaul
     }
 }
 
-// Says whether a file begins as a journal does.
+// Returns whether a file begins as a journal does.
 fn begins<G: Growing>(file: &mut G, piece: &mut [u8]) -> Result<bool, JournalFault>
     requires { 11 ≤ length piece.old }
     ensures tells { FindsStart (G.grows file.old) (G.grows file.new) result }
@@ -236,7 +235,7 @@ fn is_journal(bytes: &[u8]) -> bool
     bytes.starts_with(&MAGIC)
 }
 
-// Where it ends now, of which a closed latch was met at this offset. Most often that latch is closed still.
+// Where a file ends now, if a closed latch was found at this offset. Usually that latch is still closed.
 fn find_more<G: Growing>(file: &mut G, piece: &mut [u8], end: usize) -> Result<Found, JournalFault>
     requires near { IsNear end }
     requires some { 11 ≤ length piece.old }
@@ -256,7 +255,7 @@ fn find_more<G: Growing>(file: &mut G, piece: &mut [u8], end: usize) -> Result<F
     }
 }
 
-// The number of bytes, and then whether the latch at this offset is closed. Fails where the file is shorter.
+// The number of bytes, and then whether the latch at this offset is closed. Fails if the file is shorter.
 fn still_closed<G: Growing>(
     file: &mut G,
     piece: &mut [u8],
@@ -269,14 +268,14 @@ fn still_closed<G: Growing>(
 {
     let len = file.len()?;
     let count = file.read_at(end, piece)?;
-    // An offset is kept where the file reaches it: one that got shorter is another file.
+    // An offset is kept only as long as the file reaches it: a file that got shorter is another file.
     if len < end {
         return Err(JournalFault::Failed);
     }
     Ok((len, is_end(&piece[..count])))
 }
 
-// Where a file ends whose blocks lead to this offset.
+// Where a file ends if its blocks lead to this offset.
 fn find_end<G: Growing>(file: &mut G, piece: &mut [u8], from: usize) -> Result<Found, JournalFault>
     requires { 11 ≤ length piece.old }
     ensures found { Finds (G.grows file.old) (G.grows file.new) from result }
@@ -305,7 +304,7 @@ fn find_end<G: Growing>(file: &mut G, piece: &mut [u8], from: usize) -> Result<F
     Err(JournalFault::Full)
 }
 
-// The number of bytes, and then over the blocks of the piece at this offset.
+// The number of bytes, and then where the blocks of the piece at this offset lead.
 fn hop_sized<G: Growing>(
     file: &mut G,
     piece: &mut [u8],
@@ -326,7 +325,7 @@ fn hop_sized<G: Growing>(
     }
 }
 
-// Over the blocks of the piece at this offset.
+// Where the blocks of the piece at this offset lead.
 fn hop_from<G: Growing>(file: &mut G, piece: &mut [u8], at: usize) -> Result<Hop, JournalFault>
     requires some { 11 ≤ length piece.old }
     requires near { at < 2 ^ 62 }

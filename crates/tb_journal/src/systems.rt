@@ -5,8 +5,8 @@ ghost use Rattle.tb_journal.specs.System.{Preads, Pwrites, Ftruncates, Fdatasync
 
 use std::io::ErrorKind;
 
-/// An open file of a system, by POSIX's calls. A read and a write may take fewer bytes than they are asked for, a signal
-/// may interrupt a call, and a call may fail. An offset has 64 bits.
+/// An open file of a system, by POSIX's calls. A read and a write may transfer fewer bytes than requested, a signal may interrupt a call, and a call
+/// may fail. An offset has 64 bits.
 pub trait System {
     /// Holds of a system that reports what its calls do.
     ghost tells: { Type 0 };
@@ -14,12 +14,12 @@ pub trait System {
     /// The file on its disk.
     ghost disk: { Self → Disk };
 
-    /// So many signals at most interrupt the next calls, until one is not interrupted.
+    /// At most so many signals interrupt the next calls, until one is not interrupted.
     ghost interruptions: { Self → ℕ };
 
     /// Reads some of the bytes from an offset on.
     fn pread(&mut self, into: &mut [u8], offset: u64) -> Result<usize, ErrorKind>
-        // Of any system, so that no reader trusts a count that is too large.
+        // Holds of any system, so that no reader trusts a count that is too large.
         ensures within { IfOk result (λ count. count ≤ length into.new) }
         ensures reads { tells → Preads offset into.new result (disk self.old) (disk self.new) }
         ensures again { tells → CountsDown result (interruptions self.old) (interruptions self.new) };
@@ -49,7 +49,7 @@ pub trait System {
     /// This moment is one of those since an earlier one.
     ghost counts_now: { (file : Self) (t : ℕ) (c : List ℕ) → t ≤ (disk file).moment → (disk file).may_leave c → (disk file).left_since t c };
 
-    /// Since this moment there is no other.
+    /// Since this moment there is no other moment.
     ghost only_now: { (file : Self) (c : List ℕ) → (disk file).left_since (disk file).moment c → (disk file).may_leave c };
 
     /// What a read returns is one of the files that a crash may leave.

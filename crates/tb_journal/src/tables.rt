@@ -1,7 +1,7 @@
-//! The remainders of CRC-32C that bytes make with bytes of zeros behind them.
+//! The CRC-32C remainders of bytes followed by bytes of zeros.
 
-// The remainders of all 256 bytes, from those of the eight that have one bit, the lowest bit first: the remainder of a
-// sum of bits is the sum of theirs. Each bit doubles the row.
+// The remainders of all 256 bytes, computed from those of the eight bytes with one bit, the lowest bit first: the remainder of a sum of bits is the
+// sum of their remainders. Each bit doubles the row.
 macro_rules! row {
     ([$($known:expr),*]) => { [$($known),*] };
     ([$($known:expr),*] $bit:literal $($bits:literal)*) => { row!([$($known,)* $($known ^ $bit),*] $($bits)*) };
@@ -12,7 +12,7 @@ macro_rules! rows {
     ($($($bit:literal)*;)*) => { [$(row!([0] $($bit)*)),*] };
 }
 
-// The remainder of each byte, by the number of zeros behind it and by the byte.
+// The remainder of each byte, by the number of zeros after it and by the byte.
 pub static REMAINDERS: [[u32; 256]; 16] = rows! {
     0xF26B8303 0xE13B70F7 0xC79A971F 0x8AD958CF 0x105EC76F 0x20BD8EDE 0x417B1DBC 0x82F63B78;
     0x13A29877 0x274530EE 0x4E8A61DC 0x9D14C3B8 0x3FC5F181 0x7F8BE302 0xFF17C604 0xFBC3FAF9;

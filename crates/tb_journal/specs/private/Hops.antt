@@ -11,7 +11,7 @@ use Rattle.tb_journal.specs.Reading.{HasAhead, asked_bytes}
 use Rattle.tb_journal.specs.Growing.{Later, Grown}
 use Rattle.tb_journal.specs.Snapshots.{BlocksLeadTo, IsFinal, ShowsBlocks, ShowsOf, behind_blocks}
 
--- what is at an offset of a file, where another moment of it has so many bytes
+-- what is at an offset of a file, if the file at another moment has so many bytes
 abbrev pub HopsTo : Hop → ℕ → List ℕ → ℕ → Type 0
 HopsTo (hops.Closed end) at file len = (end ≡ at) × (front (drop at file) ≡ Ends)
 HopsTo (hops.Further next) at file len = (front (drop at file) ≢ Ends) × (next ≡ at + asked_bytes (drop at file)) × (next ≤ len)
@@ -29,7 +29,7 @@ pub record HasPiece (at : ℕ) (file later piece : List ℕ) (len : ℕ) : Type 
   pub after : Later file later
   pub counts : len ≡ length later
 
--- where a file ends, by what it was at some moment since
+-- where a file ends, by its contents at some later moment
 pub record IsEndFound (grows : List ℕ → Type 0) (file : List ℕ) (found : Found) : Type 0 where
   pub met : List ℕ
   pub after : Later file met
@@ -44,7 +44,7 @@ pub record IsFoundOn (grows : List ℕ → Type 0) (file shown : List ℕ) (foun
   pub is : IsEndFound grows file found
   pub goes_on : Later shown is.shown
 
--- what the blocks of a file lead to, by what it was at some moment since
+-- what the blocks of a file lead to, by its contents at some later moment
 pub record HopsOn (grows : List ℕ → Type 0) (file : List ℕ) (hop : Hop) : Type 0 where
   pub met : List ℕ
   pub after : Later file met
@@ -77,20 +77,20 @@ Grows before after = (bytes : List ℕ) → before bytes → Grown after bytes (
 abbrev pub FollowsPiece : Hop → ℕ → List ℕ → ℕ → Type 0
 FollowsPiece hop at piece len = (file later : List ℕ) → HasPiece at file later piece len → BlocksLeadTo at file → LeadsFrom hop file later
 
--- where those of a growing file do
+-- where the blocks of a growing file lead
 abbrev pub HopsFrom : (List ℕ → Type 0) → (List ℕ → Type 0) → ℕ → Result Hop JournalFault → Type 0
 HopsFrom before after at result = (bytes : List ℕ) → before bytes → BlocksLeadTo at bytes → IfOk result (HopsOn after bytes)
 
--- the same, with the number of its bytes before that: a latch that is closed there was closed then
+-- the same, with the number of bytes that the file had before: a latch that is closed there was closed then
 abbrev pub HopsSized : (List ℕ → Type 0) → (List ℕ → Type 0) → ℕ → Result (ℕ × Hop) JournalFault → Type 0
 HopsSized before after at result = (bytes : List ℕ) → before bytes → BlocksLeadTo at bytes
     → IfOk result (λ told. HopsOn after bytes told.1 × (told.1 ≡ hops.Closed at → WasClosed after at told.0 bytes))
 
--- where it ends whose blocks lead to an offset
+-- where a file ends whose blocks lead to this offset
 abbrev pub Finds : (List ℕ → Type 0) → (List ℕ → Type 0) → ℕ → Result Found JournalFault → Type 0
 Finds before after from result = (bytes : List ℕ) → before bytes → BlocksLeadTo from bytes → IfOk result (IsEndFound after bytes)
 
--- where it ends now that a closed latch was met at an offset
+-- where a file ends now, if a closed latch was found at an offset
 abbrev pub FindsMore : (List ℕ → Type 0) → (List ℕ → Type 0) → ℕ → Result Found JournalFault → Type 0
 FindsMore before after end result = (len : ℕ) (bytes shown met : List ℕ) → before bytes → Later met bytes → ShowsBlocks end len met shown → IfOk result (IsFoundOn after bytes shown)
 
@@ -99,7 +99,7 @@ abbrev pub FindsLatch : ℕ → List ℕ → Bool → Type 0
 FindsLatch end file true = front (drop end file) ≡ Ends
 FindsLatch end file false = front (drop end file) ≢ Ends
 
--- whether the latch at an offset is closed, and how many bytes the file had before that was looked at
+-- whether the latch at an offset is closed, and how many bytes the file had before that was checked
 pub record FindsEnd (grows : List ℕ → Type 0) (end : ℕ) (bytes : List ℕ) (told : ℕ × Bool) : Type 0 where
   pub sized : Grown grows bytes (λ later. Unit {0})
   pub is : FindsLatch end sized.later told.1
@@ -108,16 +108,16 @@ pub record FindsEnd (grows : List ℕ → Type 0) (end : ℕ) (bytes : List ℕ)
   pub since : Later before sized.later
   pub long : told.0 ≡ length before
 
--- whether it begins as a journal
+-- whether a file begins as a journal
 abbrev pub FindsStart : (List ℕ → Type 0) → (List ℕ → Type 0) → Result Bool JournalFault → Type 0
 FindsStart before after result = (bytes : List ℕ) → before bytes → Grown after bytes (λ later. IfOk result (λ begins. StartsAs begins later))
 
--- what is read of blocks, a closed latch and what is behind it
+-- what is read of blocks, a closed latch and what follows it
 abbrev pub ReadsBlocks : (List ℕ → Type 0) → (List ℕ → Type 0) → ℕ → ℕ → ℕ → List ℕ → Result ℕ JournalFault → Type 0
 ReadsBlocks before after end len at into result = (bytes : List ℕ) → before bytes
     → Grown after bytes (λ later. end ≤ length later → IfOk result (λ count. ReadsAt count at (take end later ++ behind_blocks (len - (end + 4))) into))
 
--- a read of a file, of which what is shown instead of the bytes behind the blocks was written over what was read there
+-- a read of a file: what is shown after the blocks was written over the bytes that were read there
 abbrev pub Closes : ℕ → ℕ → ℕ → ℕ → List ℕ → List ℕ → Result ℕ JournalFault → Type 0
 Closes count at end len read into result = (file : List ℕ) → end ≤ length file → ReadsAt count at file read
     → IfOk result (λ told. ReadsAt told at (take end file ++ behind_blocks (len - (end + 4))) into)

@@ -67,7 +67,7 @@ torn_shown (variants.Write at bytes shown) old = torn_choice at (length bytes.it
 torn_shown (variants.Cut len shown) old = cut_choice len old shown
 torn_shown (variants.Sync file) old = refl
 
--- what a read returns is among it
+-- what a read returns is one of the outcomes
 leaves_shown : (first : List ℕ) (calls : List Call) → LeftBy first calls (shown_after first calls)
 leaves_shown first [] = refl
 leaves_shown first (call ∷ earlier) = (shown_after first earlier, leaves_shown first earlier, torn_shown call (shown_after first earlier))

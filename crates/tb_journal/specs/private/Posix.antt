@@ -1,4 +1,4 @@
--- What the adapter holds, and what private functions of it leave.
+-- What the adapter does, and what its private functions leave.
 use Rattle.std.specs.Prelude.{◌≡◌, ◌⊎◌, ℕ, ◌≤◌, List, length, take, drop, Result, Ok, IfOk}
 use Rattle.tb_journal.specs.declared.faults.JournalFault.{JournalFault}
 use Rattle.tb_journal.specs.Device.{Disk, Torn, HasCause, Looks, overwritten}
