@@ -120,7 +120,7 @@ accepted_is_legal profile clients_max ps lawful = accepted_is_legal_with profile
 pub replies_are_of_history : RepliesAreOfHistory
 replies_are_of_history profile clients_max ps lawful = replies_of profile clients_max [] ps tt lawful
 
--- pairs that bytes spell are lawful
+-- pairs that bytes encode are lawful
 spelled_lawful : (ps : List Pair) (before after : Option (List ℕ)) (bytes : List ℕ) → before ≡ Some bytes → Spell ps before after → AreLawful ps
 spelled_lawful ps None after bytes is spelled = absurd cc
 spelled_lawful ps (Some b) None bytes is spelled = absurd spelled

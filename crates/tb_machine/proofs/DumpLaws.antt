@@ -1,4 +1,4 @@
--- No spelling of a dump has two readings.
+-- No encoding of a dump has two decodings.
 use Rattle.std.proofs.Common.{◌≡◌, ℕ, List, [], ◌∷◌, ◌++◌, length, take, drop, flat_map, Option, Some, None, refl, sym, ap, subst, ◌∙◌, arith, append_assoc, append-nil, length-append, length-take, take-append-drop}
 use Rattle.tb_records.specs.declared.limits.Profile.{Profile}
 use Rattle.tb_records.specs.DumpBytes.{mark_bytes, numbers_bytes}
@@ -9,7 +9,7 @@ use Rattle.tb_records.proofs.Spellings.{spelled_once}
 use Rattle.tb_machine.specs.declared.entries.Entry.{Entry}
 use Rattle.tb_machine.specs.Dumps.{dumped, history_bytes, IsDumpedEntry, IsPlace, OneDump}
 
--- an entry is spelled in one way, and its spelling begins no other
+-- an entry has one encoding, which is not a prefix of any other
 one_entry : (e f : Entry) (xs ys : List ℕ) → IsDumpedEntry e → IsDumpedEntry f → dumped e ++ xs ≡ dumped f ++ ys → (e ≡ f) × (xs ≡ ys)
 one_entry e f xs ys fits other is =
     let apart : numbers_bytes e.commit e.time ++ (request_bytes e.request ++ xs) ≡ numbers_bytes f.commit f.time ++ (request_bytes f.request ++ ys) =
@@ -31,7 +31,7 @@ mark_ends more e rest fits is =
     (is ∙ append_assoc (numbers_bytes e.commit e.time) (request_bytes e.request) rest) in
     absurd (omega (arith, numbers.0, fits.entry))
 
--- entries, up to where none is
+-- entries, as far as there are entries
 one_row : (h k : List Entry) (xs ys : List ℕ) → Each IsDumpedEntry h → Each IsDumpedEntry k → Ends xs → Ends ys → flat_map dumped h ++ xs ≡ flat_map dumped k ++ ys → (h ≡ k) × (xs ≡ ys)
 one_row [] [] xs ys all each ends stops is = (refl, is)
 one_row [] (f ∷ k) xs ys all each ends stops is = absurd (ends f (flat_map dumped k ++ ys) each.0 (is ∙ append_assoc (dumped f) (flat_map dumped k) ys))

@@ -37,7 +37,7 @@ entry_reply S T e client a stepped is told = some_one (sym told ∙ ap (option_m
 
 -- what is read
 
--- one item more, which spells so many bytes
+-- one more item, which so many bytes encode
 spells_on : (d e : Dump) (next : DumpItem) (more : List ℕ) (before middle after : Option (List ℕ)) → SpellsDump d before middle → ItemAnswers (Ok (Some next)) middle after
     → ((left rest : List ℕ) → ItemAnswered (Ok (Some next)) left rest → (left ≡ more ++ rest) × ((bytes : List ℕ) → Spelling d bytes → Spelling e (bytes ++ more))) → SpellsDump e before after
 spells_on d e next more None middle after all one grows = tt
@@ -58,7 +58,7 @@ read_head head (Some b) (Some a) answer = (
 
 -- one item more
 
--- the profile behind a place
+-- the profile after a place
 abbrev profile_behind : Profile → Option ℕ → Profile
 profile_behind profile None = profile
 profile_behind profile (Some n) = Two
@@ -138,7 +138,7 @@ module _ (k : ℕ) (d : Dump) (T : State) (bytes : List ℕ) (before middle afte
         sent = act.2;
       }
 
--- a mark behind entries with no mark among them
+-- a mark after entries without a mark
 module _ (profile : Profile) (clients_max : ℕ) (h : List Entry) where
   abbrev plain : Dump
   plain = record { profile = profile; clients_max = clients_max; history = h; place = None }

@@ -27,7 +27,7 @@ module _ (at : Option ℕ) (S U T : State) (e : Entry) (due : Bool) (due_is : du
   stepped : T ≡ step (changed_profile due S) e
   stepped = entered ∙ ap (λ (V : State). step V e) changes
 
-  -- the state behind an entry, and what is written of it
+  -- the state after an entry, and what is written of it
   pub entry_made : T ≡ step (changed_profile (marks_at at S.commit) S) e
   entry_made = stepped ∙ ap (λ (b : Bool). step (changed_profile b S) e) due_is
 
@@ -40,7 +40,7 @@ module _ (at : Option ℕ) (S U T : State) (e : Entry) (due : Bool) (due_is : du
       let row_is : row ≡ row_at (changed_profile due S) e = some_one (sym found ∙ row_made client is) in
       λ i. mark_before (due_is i) ++ entry_bytes e.commit e.time (row_is i).request
 
--- where the mark is
+-- the place of the mark
 
 module _ (at : Option ℕ) where
   -- the mark stays where it is, or comes with the entry
@@ -87,7 +87,7 @@ placed (Some a) h = by (ltb a (length h)) refl
     by false is = tt
 
 module _ (clients_max : ℕ) (at : Option ℕ) (h : List Entry) (e : Entry) where
-  -- the state behind one entry more
+  -- the state after one more entry
   pub at_snoc : after_at One clients_max at (h ++ e ∷ []) ≡ step (changed_profile (marks_at at (length h)) (after_at One clients_max at h)) e
   at_snoc = elim (place_cases at h e) [
     | inl stays ↦
@@ -123,7 +123,7 @@ module _ (clients_max : ℕ) (at : Option ℕ) where
   abbrev added : List Entry → Entry → List ℕ
   added h e = mark_before (marks_at at (length h)) ++ dumped e
 
-  -- what holds of the state behind the history so far: profile 1 serves up to the mark
+  -- what holds of the state after the history so far: profile 1 serves up to the mark
   pub record Kept (h : List Entry) : Type 0 where
     pub count : (behind h).commit ≡ length h
     pub late : (behind h).commit ≤ (behind h).books.time

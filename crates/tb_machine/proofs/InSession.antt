@@ -32,7 +32,7 @@ replaced_same key x (y ∷ ys) found = by (eqb (key y) (key x)) (replaced_same k
     by true later found = let same : y ≡ x = cc in ap (λ z. z ∷ ys) (sym same)
     by false later found = ap (λ zs. y ∷ zs) (later found)
 
--- the state where the parts are the old ones
+-- the state if its parts are the old ones
 pub same_state : (S : State) (clients_max : ℕ) (B : Books) (rows : List Row) → clients_max ≡ S.clients_max → B ≡ S.books → rows ≡ S.rows → record { clients_max = clients_max; commit = S.commit; books = B; rows = rows } ≡ S
 same_state S clients_max B rows size books same = rw (size, books, same) refl
 
@@ -45,7 +45,7 @@ module _ {A E P : Type 0} where
   of_err (Ok a) refused delivery is p = absurd (let both : true ≡ false = sym is ∙ delivery in cc)
   of_err (Err e) refused delivery is p = p
 
--- what the server answers where the step was made
+-- what the server returns if the step was made
 serves_delivered : (answer : Result Delivery AllocError) (S T : State) (p : Pair) (before after : Output) → IsLawful p.1 → class_of S.rows p.1 ≡ New → has_time S p ≡ true → T ≡ step S (entry_of S p)
     → (refused : Bool) → refused ≡ is_err answer → refused ≡ false → DeliversReply answer (reply_at S (entry_of S p)) before after → ServesPair (served_as answer) S T p before after
 serves_delivered (Ok delivery.Whole) S T p before after lawful class time stepped refused is none delivers = entered_answer (Ok tt) S T p before after lawful class time stepped delivers.delivery.0 delivers.delivery.1
@@ -110,7 +110,7 @@ module _ (S : State) (sound : IsSound S) (moment time : ℕ) (r : Message) (lawf
       pub sound_after : IsSound (record { clients_max = clients_max; commit = S.commit + 1; books = B; rows = rows })
       sound_after = sound_step S (made_entry (S.commit + 1) time r) sound entry_comes (row_in S.books (made_entry (S.commit + 1) time r)) refl refl (record { clients_max = clients_max; commit = S.commit + 1; books = B; rows = rows }) refl books rows_are
 
-      -- what the server answers
+      -- what the server returns
       pub serves : (answer : Result Delivery AllocError) (before after : Output) (refused : Bool) → refused ≡ is_err answer → refused ≡ false
           → DeliversReply answer (row_in S.books (made_entry (S.commit + 1) time r)).reply before after
           → ServesPair (served_as answer) S (record { clients_max = clients_max; commit = S.commit + 1; books = B; rows = rows }) (moment, r) before after

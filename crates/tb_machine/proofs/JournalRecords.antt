@@ -24,7 +24,7 @@ one_record bytes e f mine yours =
     let frame = spelled_once e.request f.request [] [] mine.request yours.request (ap (λ l. l ++ []) numbers.2) in
     λ i. record { commit = numbers.0 i; time = numbers.1 i; request = frame.0 i }
 
--- of a record: its numbers fit, and the frame is behind them
+-- the numbers of a record fit, and its frame follows them
 pub long_record : (bytes : List ℕ) (e : Entry) → IsRecord bytes e → 16 ≤ length bytes
 long_record bytes e is = omega (arith, ap length is.bytes_are, length-append (numbers_bytes e.commit e.time) (request_bytes e.request), length-numbers e.commit e.time)
 
@@ -54,7 +54,7 @@ fault_answers fault bytes frame long here found = by fault (subst (λ l. Found (
 pub rest_of : (n end : ℕ) (bytes : List ℕ) → length bytes ≤ end → between n end bytes ≡ drop n bytes
 rest_of n end bytes le = between_to_end bytes n end le
 
--- the entry of two numbers and a frame behind them
+-- the entry of two numbers and a frame after them
 pub record_of : (bytes rest : List ℕ) (commit time : ℕ) (r : Message) → 16 ≤ length bytes → ((i : ℕ) → slice_index bytes i < 256)
     → commit ≡ little_number 8 bytes → time ≡ little_number 8 rest → rest ≡ drop 8 bytes → commit < 2 ^ 64 → time < 2 ^ 64 → Spells (drop 16 bytes) r
     → IsRecord bytes (record { commit = commit; time = time; request = r })

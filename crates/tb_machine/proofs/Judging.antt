@@ -156,6 +156,6 @@ may_come S e legal =
       new = new_of (class_of S.rows e.request) a.1;
     }
 
--- a new request with a time for it may come next
+-- a new request may come next if there is a time for it
 pub comes : (S : State) (e : Entry) → MayCome S e → IsTrue (fits S e)
 comes S e may = rw (eq-eqb e.commit (S.commit + 1) may.commit, le-leb (least_time S e.request) e.time may.late_enough, le-leb e.time LAST_MOMENT may.in_range, may.lawful, may.new) refl

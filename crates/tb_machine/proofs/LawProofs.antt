@@ -1,4 +1,4 @@
--- The laws of legal histories, with a mark or none, proved.
+-- The laws of legal histories, with or without a mark, proved.
 use Rattle.std.proofs.Common.{◌≡◌, ◌≢◌, ℕ, ◌+◌, ◌<◌, ◌≤◌, ◌⊎◌, inl, inr, ⊎_elim, Bool, true, false, List, [], ◌∷◌, ◌++◌, Option, Some, None, length-append, append_assoc, append-nil, refl, sym, ap, ◌∙◌, subst, IsTrue, arith}
 use Rattle.tb_records.specs.declared.bodies.Body.{Body}
 use Rattle.tb_records.specs.declared.bodies.Body.TheVariants.{Register}
@@ -138,7 +138,7 @@ module _ (state : List Entry → State) where
       subst (λ l. Floor (state l) client least) (append_assoc p (e ∷ []) es)
       (floor_after (p ++ e ∷ []) es client least leads.1 (floor_on p e client least leads.0 floor))
 
-  -- there after h, and no more after the entries m behind it, whatever entries k follow
+  -- it exists after h, and no longer after the entries m that follow, whatever entries k follow
   module _ (h m k : List Entry) (r : Message) (first : ReachedBy state h) (second : ReachedBy state (h ++ m)) (leads : LeadsTo state h m) (later : LeadsTo state (h ++ m) k)
       (there : HasSession (state h) r.client r.session) (gone : HasSession (state (h ++ m)) r.client r.session → ⊥) where
     issued : r.session ≤ (state h).commit

@@ -63,7 +63,7 @@ right_answer client session request commit body answer some began register numbe
     by Register register numbered kind = let is = register refl in rw (some_client, eq-eqb request 0 is.0, some_session, eq-eqb session commit is.1, kind, not_many) refl
     by body register numbered kind = let is = numbered refl in rw (some_client, ne_eqb request 0 is.0, some_session, lt-ltb session commit is.1, kind, not_many) refl
 
--- what is found has the operation's kind, and no more items than were asked for
+-- what is found has the operation's kind, and at most as many items as were asked for
 
 pub found_kind : (B : Books) (body : Body) (time : ℕ) → kind_of (found B body time) ≡ kind_for (operation body)
 found_kind B Register time = refl

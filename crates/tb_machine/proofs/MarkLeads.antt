@@ -1,4 +1,4 @@
--- A legal history, with a mark or none, leads through the states in which its entries are executed.
+-- A legal history, with or without a mark, leads through the states in which its entries are executed.
 use Rattle.std.proofs.Common.{◌≡◌, ℕ, ◌<◌, ◌≤◌, Bool, true, false, cond, leb, leb-true, List, [], ◌∷◌, ◌++◌, length, take, drop, fold, Option, Some, None, refl, sym, ap, ◌∙◌, subst, IsTrue, arith, append_assoc, append-nil, length-append, length-take, take-append-drop}
 use Rattle.std.proofs.lemmas.Bool.Decides.{nat_tests}
 use Rattle.std.proofs.lemmas.List.{take_all, drop_all}
@@ -20,7 +20,7 @@ pub record Alike (S T : State) : Type 0 where
 alike_same : (S T : State) → S ≡ T → Alike S T
 alike_same S T is = record { rows = ap (λ (S : State). S.rows) is; commit = ap (λ (S : State). S.commit) is }
 
--- entries lead on where each step leads from such a prefix to such a prefix
+-- entries lead on if each step leads from such a prefix to such a prefix
 leads_by : (state : List Entry → State) (Covers : List Entry → Type 0)
     → ((p : List Entry) (e : Entry) → Covers p → Covers (p ++ e ∷ []) × (state (p ++ e ∷ []) ≡ step (state p) e))
     → (p es : List Entry) → Covers p → LegalFrom (state p) es → LeadsTo state p es
@@ -65,7 +65,7 @@ module _ (profile : Profile) (clients_max : ℕ) where
             record { rows = ap (λ (S : State). S.rows) is; commit = ap (λ (S : State). S.commit) is }
         by false e = let less : length p < n = grind (arith, nat_tests) in alike_same (N p) (after profile clients_max p) (early p less)
 
-    -- entries up to the mark, and what is behind them
+    -- entries up to the mark, and those after it
     front_leads : (p a b : List Entry) → length (p ++ a) ≤ n → LegalFrom (after profile clients_max p) a → LeadsTo N (p ++ a) b → LeadsTo N p (a ++ b)
     front_leads p [] b le legal later = subst (λ l. LeadsTo N l b) (append-nil p) later
     front_leads p (e ∷ es) b le legal later =
@@ -85,7 +85,7 @@ module _ (profile : Profile) (clients_max : ℕ) where
               (subst (λ l. LeadsTo N l b) (sym (append_assoc p (e ∷ []) es)) later),
         )
 
-    -- entries behind the mark
+    -- entries after the mark
     behind_leads : (p es : List Entry) → n ≤ length p → LegalFrom (N p) es → LeadsTo N p es
     behind_leads p es within legal = leads_by N (λ q. n ≤ length q) on p es within legal
       where
@@ -145,7 +145,7 @@ module _ (profile : Profile) (clients_max : ℕ) where
   next_whole None h place = refl
   next_whole (Some n) h place = late n h place.1
 
-  -- an entry of a legal history may come next where it is
+  -- an entry of a legal history may come next at its place
   pub comes_next : (mark : Option ℕ) (h : List Entry) (e : Entry) (more : List Entry) → IsLegalWith profile clients_max mark (h ++ e ∷ more) → IsTrue (fits (next_in profile clients_max mark h) e)
   comes_next mark h e more legal =
       comes (next_in profile clients_max mark h) e (leads_split (next_in profile clients_max mark) [] h (e ∷ more) (legal_leads mark (h ++ e ∷ more) legal)).1.0.may

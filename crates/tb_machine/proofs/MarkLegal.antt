@@ -41,7 +41,7 @@ entry_comes S p lawful entered =
       new = new_of (class_of S.rows p.1) parts.0;
     }
 
--- an entry that is accepted, with the mark before it where it is there
+-- an entry that is accepted, with the mark before it if its place is there
 module _ (profile : Profile) (clients_max : ℕ) where
   entered_legal : (at : Option ℕ) (h : List Entry) (e : Entry) → IsLegalWith profile clients_max (place_in at h) h → IsTrue (fits (after_at profile clients_max at h) e) → IsLegalWith profile clients_max (place_in at (h ++ e ∷ [])) (h ++ e ∷ [])
   entered_legal None h e legal next = legal_snoc profile clients_max h e legal next

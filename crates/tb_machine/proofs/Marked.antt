@@ -58,7 +58,7 @@ pub place_snoc : (profile : Profile) (place : Option ℕ) (h : List Entry) (e : 
 place_snoc profile None h e place = tt
 place_snoc profile (Some n) h e place = (place.0, omega (arith, place.1, length-append h (e ∷ [])))
 
--- a dump whose history spells so many bytes more
+-- a dump whose history is encoded in so many more bytes
 pub spells_more : (profile : Profile) (clients_max : ℕ) (h m : List Entry) (place other : Option ℕ) (bytes more : List ℕ) → DumpSpells bytes profile clients_max h place
     → history_bytes other m ≡ history_bytes place h ++ more → Each IsDumpedEntry m → IsPlace profile other m → DumpSpells (bytes ++ more) profile clients_max m other
 spells_more profile clients_max h m place other bytes more spells is entries marked = record {

@@ -60,7 +60,7 @@ repeats_after S e lawful =
 answer_stored : (o : Option Row) (r : Message) (row : Row) → o ≡ Some row → class_beside row r ≡ Repeat → answer_by (class_by o r) o r ≡ row.reply
 answer_stored o r row is repeats = subst (λ (o : Option Row). answer_by (class_by o r) o r ≡ row.reply) (sym is) (ap (λ class. answer_by class (Some row) r) repeats)
 
--- once it is entered, a request is answered by the reply that its entry has
+-- once it is entered, the answer to a request is the reply of its entry
 pub answer_after : (S : State) (e : Entry) → IsLawful e.request → answer_to (step S e) e.request ≡ reply_at S e
 answer_after S e lawful = answer_stored (row_of (step S e).rows e.request.client) e.request (row_at S e) (row_after S e) (repeats_after S e lawful)
 
@@ -74,7 +74,7 @@ pub repeated_or_not : (class : Class) → (class ≡ Repeat) ⊎ ((class ≢ Rep
 repeated_or_not Repeat = inl refl
 repeated_or_not class = inr (λ same. cc, refl)
 
--- where a pair leads
+-- the state after a pair
 
 pub after_new : (S : State) (p : Pair) → is_new_in S p ≡ true → has_time S p ≡ true → after_pair S p ≡ step S (entry_of S p)
 after_new S p new time = ap (λ b. cond b (step S (entry_of S p)) S) (ap (λ b. b && has_time S p) new ∙ time)
@@ -82,7 +82,7 @@ after_new S p new time = ap (λ b. cond b (step S (entry_of S p)) S) (ap (λ b. 
 pub after_known : (S : State) (p : Pair) → is_new_in S p ≡ false → after_pair S p ≡ S
 after_known S p known = ap (λ b. cond b (step S (entry_of S p)) S) (ap (λ b. b && has_time S p) known)
 
--- what a call answers
+-- what a call returns
 
 pub refused : (S : State) (r : Message) (class : Class) (a : Answer) → class ≡ class_of S.rows r → class ≢ Repeat → a ≡ refusal (status_of class) r → answer_to S r ≡ a
 refused S r class a is other told = ap (λ (c : Class). answer_by c (row_of S.rows r.client) r) (sym is) ∙ answer_refused class (row_of S.rows r.client) r other ∙ sym told

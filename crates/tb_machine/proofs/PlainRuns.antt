@@ -74,7 +74,7 @@ remaining ps qs None middle pairs is spelled = absurd cc
 remaining ps qs (Some b) None pairs is spelled = absurd spelled
 remaining ps qs (Some b) (Some m) pairs is spelled = record { left = m; is = refl; of = left_of ps qs m pairs spelled.1 (sym (some_one is) ∙ spelled.0) }
 
--- at the end of the input none is left
+-- at the end of the input no pair is left
 
 none_left : (rest : List Pair) → content rest ≡ [] → rest ≡ []
 none_left [] e = refl
@@ -116,7 +116,7 @@ fault_left f ps qs (Some m) None b device memory answer = answer
 fault_left f ps qs (Some m) (Some l) b device memory answer =
     no_fault f b.of.rest l b.of.pairs device memory (subst (λ (bytes : List ℕ). TimedFaulted f bytes l) (some_one b.is ∙ b.of.bytes_are) answer)
 
--- no failure is counted where the count is 0
+-- no failure is counted if the count is 0
 
 rises : (n : ℕ) → risen n ≡ 0 → ⊥
 rises n e = grind arith
@@ -175,7 +175,7 @@ module _ (profile : Profile) (clients_max : ℕ) where
     no_halt fault.TimeExhausted memory few halts = halts
     no_halt fault.TooLong memory few halts = absurd (omega (arith, few, halts, ap length b.of.whole, length-append qs b.of.rest))
 
-  -- a run answered all pairs
+  -- each pair of a run got its reply
 
   module _ (first last : Input) (start written : Output) (ps : List Pair) where
     answered : (result : Result ℕ RunFault) → Ran profile clients_max result first last start written → IsWhole profile clients_max ps first → NothingFails result last written

@@ -40,7 +40,7 @@ keys_snoc : (p : List Entry) (e : Entry) → KeysDiffer p → Each (λ (other : 
 keys_snoc [] e differ each = (tt, tt)
 keys_snoc (x ∷ xs) e differ each = (each_snoc (λ (later : Entry). key_of later ≢ key_of x) xs e differ.0 each.0, keys_snoc xs e differ.1 each.1)
 
--- the states in which the entries behind a prefix are executed
+-- the states in which the entries after a prefix are executed
 module _ (state : List Entry → State) where
   -- the row was made by an entry of the history, which it names
   pub record StandsBy (p : List Entry) (row : Row) : Type 0 where
@@ -61,13 +61,13 @@ module _ (state : List Entry → State) where
     pub rising : Rising client_of (state p).rows
     pub differ : KeysDiffer p
 
-  -- the entry may come next, and the state behind it has its rows and its commit number
+  -- the entry may come next, and the state after it has its rows and its commit number
   pub record Behind (p : List Entry) (e : Entry) : Type 0 where
     pub may : MayCome (state p) e
     pub rows : (state (p ++ e ∷ [])).rows ≡ (step (state p) e).rows
     pub commit : (state (p ++ e ∷ [])).commit ≡ e.commit
 
-  -- each of the entries behind p
+  -- each of the entries after p
   abbrev pub LeadsTo : List Entry → List Entry → Type 0
   LeadsTo p [] = Unit {0}
   LeadsTo p (e ∷ es) = Behind p e × LeadsTo (p ++ e ∷ []) es

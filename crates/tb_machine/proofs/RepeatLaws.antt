@@ -22,7 +22,7 @@ use Rattle.tb_machine.proofs.Reached.{reached}
 use Rattle.tb_machine.proofs.MarkLeads.{whole_alike, reached_with}
 use Rattle.tb_machine.proofs.LawProofs.{first_reply, each_mid}
 
--- only a repeat is answered by a reply
+-- only the answer to a repeat is a reply
 pub status_reply : (class : Class) (o : Option Row) (r : Message) → (answer_by class o r).status ≡ status.Reply → class ≡ Repeat
 status_reply Repeat o r is = refl
 status_reply class o r is = absurd cc

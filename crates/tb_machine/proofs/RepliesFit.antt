@@ -107,7 +107,7 @@ given_along : (S : State) (h : List Entry) → Fitting S → LegalFrom S h → H
 given_along S [] all legal are = tt
 given_along S (e ∷ es) all legal are = (entry_reply S e all legal.0 are.0, given_along (step S e) es (fitting_step S e all legal.0 are.0) legal.1 are.1)
 
--- with a mark or none
+-- with or without a mark
 
 held : (n : ℕ) (h : List Entry) → HoldRequests h → HoldRequests (take n h) × HoldRequests (drop n h)
 held n h are = each_split (λ (e : Entry). IsRequest e.request) (take n h) (drop n h) (subst HoldRequests (sym (take-append-drop n h)) are)

@@ -31,7 +31,7 @@ rising_without : (gone : Option Row) (rows : List Row) → Rising client_of rows
 rising_without None rows rising = rising
 rising_without (Some gone) rows rising = rising-taken_out client_of (client_of gone) rows rising
 
--- who had no row has none
+-- a client without a row stays without one
 pub still_absent : (gone : Option Row) (rows : List Row) (client : ℕ) → row_of rows client ≡ None → row_of (without gone rows) client ≡ None
 still_absent None rows client absent = absent
 still_absent (Some gone) rows client absent = absent_without rows client (client_of gone) absent

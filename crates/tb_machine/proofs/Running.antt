@@ -68,7 +68,7 @@ sends_then xs ys a b d first then_it = record {
 -- the items so far
 
 module _ {Items : Type 0} (Read : Items → Input → Input → Type 0) (Gives : Items → List ℕ → Type 0) (state : Items → State) (Stands : ℕ → Items → Type 0) where
-  -- a loop's invariant: items were taken, so many as `Stands` says, and the machine is in the state behind them
+  -- a loop's invariant: items were taken, as many as `Stands` says, and the machine is in the state after them
   pub record Working (k : ℕ) (S : State) (before middle : Input) (start written : Output) : Type 0 where
     pub items : Items
     pub state_is : S ≡ state items
@@ -133,7 +133,7 @@ module _ {Items : Type 0} {Read : Items → Input → Input → Type 0} {Gives :
           let all = working_passed (subst (λ (o : Output). Sent [] o passed) ends.1.silent on) in
           record { items = all.items; middle = middle; made = passed; done = all.done; ended = (counted, record { read = ends.1.read; silent = refl }) }
 
-      -- where the machine's commit number gives how many they are
+      -- if the machine's commit number is their number
       pub worked_commits : {n : ℕ} {T : State} {after : Input} {next passed : Output} → (state w.items).commit ≡ count w.items → n ≡ T.commit
           → GoesOn Answered Acts (Ok false) S T middle after written next → Sent [] next passed → Worked Read Gives (EndsBy Answered Acts (items_taken count state Halts)) (Ok n) before after start passed
       worked_commits counted is ends on = worked_out (sym counted ∙ ap (λ (U : State). U.commit) (sym w.state_is ∙ sym ends.0) ∙ sym is) ends on

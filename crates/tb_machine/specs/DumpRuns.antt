@@ -1,4 +1,4 @@
--- What a dump makes of a script: the pairs that it read, the entries that it wrote, and what ended it.
+-- The result of a dump of a script: the pairs that it read, the entries that it wrote, and what ended it.
 use Rattle.std.specs.Prelude.{ℕ, Bool, true, false, ◌==◌, ◌≡◌, ◌⊎◌, ◌-◌, ◌^◌, List, [], ◌++◌, length, Option, Some, None, Result, Ok, Err, if◌then◌else◌}
 use Rattle.tb_records.specs.declared.faults.FrameFault.TheVariants.{Device}
 use Rattle.tb_records.specs.declared.limits.Profile.TheVariants.{One}
@@ -15,7 +15,7 @@ use Rattle.tb_machine.specs.Dumps.{dumped, DumpSpells, place_in, after_at, accep
 
 -- one pair
 
--- the mark is directly before the entry behind so many
+-- the mark is directly before the entry that follows the first n
 abbrev pub marks_at : Option ℕ → ℕ → Bool
 marks_at None n = false
 marks_at (Some at) n = at == n
@@ -32,7 +32,7 @@ changed_profile due S = if due then to_two S else S
 abbrev pub added_bytes : Option ℕ → State → Pair → List ℕ
 added_bytes at S p = mark_before (marks_at at S.commit) ++ dumped (entry_of S p)
 
--- a new pair's entry is written, with the mark where that comes before it; of any other pair nothing is
+-- a new pair's entry is written, with the mark if that comes before it; for any other pair nothing is written
 abbrev pub DumpsPair : Option ℕ → Result (Unit {0}) RunFault → State → State → Pair → Output → Output → Type 0
 DumpsPair at (Ok done) S T p before after =
     ((is_new_in S p ≡ false) × (T ≡ S) × (after ≡ before))
@@ -42,7 +42,7 @@ DumpsPair at (Err fault.NoMemory) S T p before after = (is_new_in S p ≡ true) 
 DumpsPair at (Err fault.TimeExhausted) S T p before after = (is_new_in S p ≡ true) × (has_time S p ≡ false) × (after ≡ before)
 DumpsPair at (Err fault.TooLong) S T p before after = ⊥
 
--- the next pair is read and dumped, or there is none
+-- the next pair is read and dumped, or there is no next pair
 abbrev pub DumpsNext : Option ℕ → Result Bool RunFault → State → State → Input → Input → Output → Output → Type 0
 DumpsNext at = GoesOn PairAnswered (DumpsPair at)
 
@@ -58,11 +58,11 @@ module _ (clients_max : ℕ) (at : Option ℕ) where
     pub times : HasTimes (after_at One clients_max at) [] ps
     pub spelled : DumpSpells bytes One clients_max (history_made ps) (place_in at (history_made ps))
 
-  -- the pairs were read; what was written is the dump of their history, and nothing else
+  -- the pairs were read, and exactly the dump of their history was written
   abbrev pub HasDumped : List Pair → Input → Input → Output → Output → Type 0
   HasDumped = Done Reads DumpsHistory
 
-  -- the fault that comes of no pair: so many pairs that they cannot be counted
+  -- the fault that does not come from a pair: there are too many pairs to count
   abbrev pub DumpHalts : RunFault → List Pair → Type 0
   DumpHalts fault.TooLong ps = length ps ≡ 2 ^ 64 - 1
   DumpHalts f ps = ⊥
@@ -73,7 +73,7 @@ module _ (clients_max : ℕ) (at : Option ℕ) where
   NotBegun (Err (fault.Frame f)) before after start written = (f ≡ Device) × (after ≡ before) × CutOff (head_bytes One clients_max) start written
   NotBegun result before after start written = ⊥
 
-  -- some pairs were dumped, and then the script ended, or a fault came
+  -- some pairs were dumped, and then the script ended, or a fault occurred
   abbrev pub Begun : Result ℕ RunFault → Input → Input → Output → Output → Type 0
   Begun = Worked Reads DumpsHistory (EndsBy PairAnswered (DumpsPair at) (items_taken (λ ps. length (history_made ps)) (λ ps. after_at One clients_max at (history_made ps)) DumpHalts))
 

@@ -1,4 +1,4 @@
--- A history as bytes that another run can check, and the mark from which on its entries go by profile 2.
+-- A history as bytes that another run can check, and the mark after which its entries are executed by profile 2.
 use Rattle.std.specs.Prelude.{ℕ, ◌≡◌, ◌≤◌, nat_lt, List, [], ◌∷◌, ◌++◌, length, take, drop, fold, Option, Some, None, if◌then◌else◌}
 use Rattle.std.specs.List.{flat_map}
 use Rattle.tb_records.specs.declared.limits.Profile.{Profile}
@@ -10,9 +10,9 @@ use Rattle.tb_machine.specs.declared.entries.Entry.{Entry}
 use Rattle.tb_machine.specs.Histories.{State, start, reply_at, step, to_two, LegalFrom, IsLegal, after}
 use Rattle.tb_machine.specs.Scripts.{Pair, grown}
 
--- spelling
+-- encoding
 
--- a history as bytes, where the mark, if there is one, is behind the first so many entries
+-- a history as bytes; the mark, if there is one, is after the first n entries
 abbrev pub dumped : Entry → List ℕ
 dumped e = entry_bytes e.commit e.time e.request
 
@@ -35,22 +35,21 @@ pub record DumpSpells (bytes : List ℕ) (profile : Profile) (clients_max : ℕ)
   pub entries : Each IsDumpedEntry h
   pub marked : IsPlace profile place h
 
--- each spelling of a dump has one reading
+-- each encoding of a dump has one decoding
 abbrev pub OneDump : Type 0
 OneDump = (bytes : List ℕ) (p q : Profile) (m n : ℕ) (h k : List Entry) (place other : Option ℕ)
     → DumpSpells bytes p m h place → DumpSpells bytes q n k other
     → (p ≡ q) × (m ≡ n) × (h ≡ k) × (place ≡ other)
 
--- histories with a mark: the entries behind it go by profile 2, from books with no failed id. Where there is no mark, all is
--- as it is without one
+-- histories with a mark: profile 2 executes the entries after it, from books with no failed id. Without a mark nothing changes
 
--- the replies to entries that come one after another
+-- the replies to consecutive entries
 abbrev pub replies_along : State → List Entry → List Answer
 replies_along S [] = []
 replies_along S (e ∷ es) = reply_at S e ∷ replies_along (step S e) es
 
 module _ (profile : Profile) (clients_max : ℕ) where
-  -- the state behind a mark
+  -- the state after a mark
   abbrev pub marked_after : List Entry → State
   marked_after h = to_two (after profile clients_max h)
 
@@ -66,8 +65,7 @@ module _ (profile : Profile) (clients_max : ℕ) where
   replies_with None h = replies_along (start profile clients_max) h
   replies_with (Some n) h = replies_along (start profile clients_max) (take n h) ++ replies_along (marked_after (take n h)) (drop n h)
 
--- a dump that is made of a script: the mark is directly before the first entry whose commit number is above `at`, and
--- comes with that entry
+-- a dump that is made of a script: the mark is directly before the first entry whose commit number is above `at`, and is written with that entry
 
 abbrev pub place_in : Option ℕ → List Entry → Option ℕ
 place_in None h = None

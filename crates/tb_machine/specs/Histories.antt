@@ -1,4 +1,5 @@
--- Entries, the state that they lead to, and the answers that it gives: a request is executed once, in its turn, and its reply is kept in its client's row.
+-- Entries, the state that they lead to, and the answers that it gives: a request is executed once, in its turn, and its reply is kept in its client's
+-- row.
 use Rattle.std.specs.Prelude.{ℕ, Bool, true, false, ◌&&◌, ◌==◌, ◌+◌, max, nat_le, IsTrue, List, [], ◌∷◌, Option, Some, if◌then◌else◌, fold}
 use Rattle.std.specs.Option.{is_none, option_map}
 use Rattle.tb_records.specs.declared.bodies.Body.{Body}
@@ -23,7 +24,7 @@ use Rattle.tb_machine.specs.declared.entries.Entry.{Entry}
 pub record State : Type 0 where
   pub clients_max : ℕ  -- the number of clients that can have a session at one time
   pub commit : ℕ  -- the number of the last entry
-  pub books : Books  -- which show the profile: failed ids are kept by profile 2 alone
+  pub books : Books  -- which show the profile: only profile 2 keeps failed ids
   pub rows : List Row  -- the session table, by rising client
 
 abbrev pub start : Profile → ℕ → State
@@ -31,7 +32,7 @@ start profile clients_max = record { clients_max = clients_max; commit = 0; book
 
 -- time
 
--- each entry has a time of its own, and each event of it: a register or a lookup takes one
+-- each entry has a time of its own, and so has each of its events: a register or a lookup takes one
 abbrev pub least_time : State → Message → ℕ
 least_time S r = S.books.time + max (count r.body) 1
 
@@ -45,7 +46,7 @@ abbrev pub is_new : Class → Bool
 is_new New = true
 is_new _ = false
 
--- its numbers keep the rules, as those of every request do
+-- its numbers keep the rules that those of every `Request` keep
 abbrev pub is_lawful : Message → Bool
 is_lawful r = is_none (number_fault r)
 
@@ -59,20 +60,20 @@ fits S e =
 
 -- one entry
 
--- the session that it belongs to: that of a register is its own commit number
+-- the session that it belongs to: for a register this is its own commit number
 abbrev pub session_of : Entry → ℕ
 session_of e = if is_register e.request.body then e.commit else e.request.session
 
 abbrev pub at_time : Books → ℕ → Books
 at_time B time = record B { time = time }
 
--- the books after it: a register or a lookup moves the time alone
+-- the books after it: a register or a lookup moves only the time
 abbrev pub executed : Books → Body → ℕ → Books
 executed B (CreateAccounts events) time = (batch_after account_events B events time).books
 executed B (CreateTransfers events) time = (batch_after transfer_events B events time).books
 executed B _ time = at_time B time
 
--- what its reply says: a lookup finds records as they are at its time
+-- the body of its reply: a lookup finds records as they are at its time
 abbrev pub found : Books → Body → ℕ → ReplyBody
 found B Register time = Empty
 found B (CreateAccounts events) time = Results (results (batch_after account_events B events time).codes)
@@ -95,7 +96,7 @@ step S e = record {
   rows = admitted S.clients_max S.rows (row_at S e);
 }
 
--- profile 2 from here on: all else stays
+-- profile 2 from here on: everything else stays
 abbrev pub to_two : State → State
 to_two S = record S { books = moved_to_two S.books }
 
@@ -105,7 +106,7 @@ abbrev pub LegalFrom : State → List Entry → Type 0
 LegalFrom S [] = Unit {0}
 LegalFrom S (e ∷ es) = IsTrue (fits S e) × LegalFrom (step S e) es
 
--- client, session and request number: what a request is known by
+-- client, session and request number: the key of a request
 abbrev pub key_of : Entry → ℕ × ℕ × ℕ
 key_of e = (e.request.client, session_of e, e.request.request)
 

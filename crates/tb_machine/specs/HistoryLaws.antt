@@ -23,8 +23,8 @@ OneKey = (profile : Profile) (clients_max : ℕ) (h : List Entry) → IsLegal pr
 
 -- a repeat gets its first reply
 
--- the request is in the history, in one entry, which its client's row names now; the row keeps the reply that was given
--- there, in the state behind the entries before
+-- the request is in one entry of the history, which its client's row names now; the row keeps the reply that was given there, in the state after the
+-- earlier entries
 pub record IsStoredIn (state : List Entry → State) (now : State) (h : List Entry) (r : Message) : Type 0 where
   pub row : Row
   pub front : List Entry
@@ -46,19 +46,18 @@ FirstReply = (profile : Profile) (clients_max : ℕ) (h : List Entry) (r : Messa
 
 -- a request that was entered is not new again
 
--- unless it is a register, and its client has no row any more
+-- unless it is a register, and its client no longer has a row
 abbrev pub NotNewAgain : Type 0
 NotNewAgain = (profile : Profile) (clients_max : ℕ) (front : List Entry) (entry : Entry) (rest : List Entry) → IsLegal profile clients_max (front ++ entry ∷ rest)
     → class_of (after profile clients_max (front ++ entry ∷ rest)).rows entry.request ≡ New
     → (is_register entry.request.body ≡ true) × (row_of (after profile clients_max (front ++ entry ∷ rest)).rows entry.request.client ≡ None)
 
--- a session that was taken out stays out
+-- a session that was removed stays out
 
 abbrev pub HasSession : State → ℕ → ℕ → Type 0
 HasSession S client session = (row : Row) × (row_of S.rows client ≡ Some row) × (row.session ≡ session)
 
--- it is there after h, and no more after the entries m behind it: then a request of it, that is no register, is refused
--- whatever entries k follow
+-- it exists after h, and no longer after the entries m that follow: then a request of it that is not a register is refused whatever entries k follow
 abbrev pub StaysOut : Type 0
 StaysOut = (profile : Profile) (clients_max : ℕ) (h m k : List Entry) (r : Message) → IsLegal profile clients_max (h ++ (m ++ k))
     → HasSession (after profile clients_max h) r.client r.session
@@ -68,12 +67,12 @@ StaysOut = (profile : Profile) (clients_max : ℕ) (h m k : List Entry) (r : Mes
 
 -- limits and sums
 
--- the sums of every account fit and keep to its limits
+-- the sums of every account fit and respect its limits
 abbrev pub LimitsHold : Type 0
 LimitsHold = (profile : Profile) (clients_max : ℕ) (h : List Entry) → IsLegal profile clients_max h
     → (id : ℕ) (a : Account) → account_now (after profile clients_max h).books id ≡ Some a → KeepsLimits a
 
--- in every ledger what is debited is credited
+-- in every ledger the debits equal the credits
 abbrev pub LedgersBalance : Type 0
 LedgersBalance = (profile : Profile) (clients_max : ℕ) (h : List Entry) → IsLegal profile clients_max h
     → (ledger : ℕ) → Balances (after profile clients_max h).books ledger

@@ -1,4 +1,4 @@
--- How a request is judged that comes at a moment, and what becomes of the entry of a new one.
+-- How a request that comes at a moment is judged, and what happens to the entry of a new one.
 use Rattle.std.specs.Prelude.{ℕ, true, false, ◌≡◌, ◌≢◌, IsTrue, List, Result, MatchResult}
 use Rattle.tb_records.specs.declared.faults.FrameFault.TheVariants.{Device}
 use Rattle.tb_records.specs.ReplyFrames.{reply_bytes, IsReply}
@@ -13,7 +13,7 @@ use Rattle.tb_machine.specs.declared.judgements.Judged.TheVariants as judged
 use Rattle.tb_machine.specs.Histories.{State, fits, reply_at, step}
 use Rattle.tb_machine.specs.Scripts.{Pair, entry_of, has_time}
 
--- a new request, with the entry that it makes, which may come next; a new one without a time; or one that is not new, with its class
+-- a new request, with the entry that it makes, which may come next; a new request without a time; or a request that is not new, with its class
 abbrev pub IsJudged : Judged → State → Pair → Type 0
 IsJudged (judged.New e) S p = (class_of S.rows p.1 ≡ New) × (has_time S p ≡ true) × (e ≡ entry_of S p) × IsTrue (fits S e)
 IsJudged judged.NoTime S p = (class_of S.rows p.1 ≡ New) × (has_time S p ≡ false)
@@ -28,7 +28,7 @@ abbrev pub IfWhole : Delivery → Type 0 → Type 0
 IfWhole delivery.Whole P = P
 IfWhole (delivery.Cut f) P = Unit {0}
 
--- an entry was entered, and its reply written, or a prefix of it; where there was no memory the entry came back, and nothing changed
+-- an entry was entered, and its reply was written, or a prefix of it; if there was no memory the entry is returned, and nothing changed
 abbrev pub EntersAndReplies : {W : Type 0} → (W → Output) → Result Delivery Entry → State → State → Entry → W → W → Type 0
 EntersAndReplies output result S T e writer later =
     MatchResult result

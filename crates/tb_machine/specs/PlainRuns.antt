@@ -1,4 +1,4 @@
--- A run whose input and devices have no faults: each pair is answered, and nothing else is written.
+-- A run whose input and devices have no faults: each pair gets its reply, and nothing else is written.
 use Rattle.std.specs.Prelude.{ℕ, ◌≡◌, ◌≢◌, ◌-◌, ◌^◌, ◌<◌, List, [], length, Some, Result, Ok, Err}
 use Rattle.std.specs.Io.KnownBytes.{Appends}
 use Rattle.std.specs.List.{flat_map}
@@ -21,14 +21,14 @@ pub record NothingFails (result : Result ℕ RunFault) (last : Input) (written :
   pub memory : (result ≢ Err fault.NoMemory) × (result ≢ Err (fault.Frame frame.NoMemory))
 
 module _ (profile : Profile) (clients_max : ℕ) where
-  -- the input is these pairs to its end: their numbers fit their fields, and each that is new in its turn has a time
+  -- the whole input is these pairs: their numbers fit their fields, and each pair that is new in its turn has a time
   pub record IsWhole (ps : List Pair) (input : Input) : Type 0 where
     pub bytes_are : input.left ≡ Some (flat_map timed_bytes ps)
     pub pairs : Each IsTimed ps
     pub times : HasTimes (after profile clients_max) [] ps
     pub few : length ps < 2 ^ 64 - 1
 
-  -- all was read, and the replies were written
+  -- the whole input was read, and the replies were written
   pub record AnsweredAll (ps : List Pair) (result : Result ℕ RunFault) (last : Input) (start written : Output) : Type 0 where
     pub counted : result ≡ Ok (length ps)
     pub read : last.left ≡ Some []

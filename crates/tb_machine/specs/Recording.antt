@@ -1,4 +1,4 @@
--- The record of an entry in a journal: the bytes that it has in a dump, alone.
+-- The record of an entry in a journal: exactly the bytes of the entry in a dump.
 use Rattle.std.specs.Prelude.{ℕ, ◌≡◌, ◌⊎◌, ◌^◌, ◌<◌, ◌≤◌, List, length, take, drop, Some, None, Result, Ok, Err}
 use Rattle.tb_records.specs.declared.faults.FrameFault.{FrameFault}
 use Rattle.tb_records.specs.declared.faults.FrameFault.TheVariants.{Short, BadLength, NoMemory}
@@ -18,7 +18,7 @@ pub record IsRecord (bytes : List ℕ) (e : Entry) : Type 0 where
 abbrev pub HasMore : List ℕ → Type 0
 HasMore frame = (n : ℕ) × (r : Message) × (n < length frame) × Spells (take n frame) r
 
--- what is read of a record: its entry, or what is wrong with it
+-- the result of reading a record: its entry, or what is wrong with it
 abbrev pub RecordAnswers : Result Entry FrameFault → List ℕ → Type 0
 RecordAnswers (Ok e) bytes = IsRecord bytes e
 RecordAnswers (Err Short) bytes = (length bytes < 16) ⊎ (request_fault (drop 16 bytes) ≡ Some Short)
@@ -26,12 +26,12 @@ RecordAnswers (Err BadLength) bytes = (request_fault (drop 16 bytes) ≡ Some Ba
 RecordAnswers (Err NoMemory) bytes = (16 ≤ length bytes) × (request_fault (drop 16 bytes) ≡ None)
 RecordAnswers (Err fault) bytes = request_fault (drop 16 bytes) ≡ Some fault
 
--- no other answer than this entry, unless memory runs out
+-- the only result is this entry, unless memory runs out
 abbrev pub OnlyEntry : Result Entry FrameFault → Entry → Type 0
 OnlyEntry (Ok found) e = found ≡ e
 OnlyEntry (Err NoMemory) e = Unit {0}
 OnlyEntry (Err fault) e = ⊥
 
--- each record is that of one entry
+-- each record belongs to one entry
 abbrev pub OneRecord : Type 0
 OneRecord = (bytes : List ℕ) (e f : Entry) → IsRecord bytes e → IsRecord bytes f → e ≡ f

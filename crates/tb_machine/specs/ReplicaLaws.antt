@@ -1,4 +1,4 @@
--- What holds of a script that several machines read, each from its own place on.
+-- What holds if several machines read a script, each from its own place on.
 use Rattle.std.specs.Prelude.{ℕ, false, ◌≡◌, ◌+◌, ◌≤◌, ◌⊎◌, max, List, [], ◌∷◌, ◌++◌, Some}
 use Rattle.tb_records.specs.declared.limits.Profile.{Profile}
 use Rattle.tb_records.specs.Messages.{Message, count, is_register}
@@ -14,17 +14,17 @@ use Rattle.tb_machine.specs.Runs.{HasTimes, state_after}
 
 -- a script in two parts
 
--- what is accepted of both parts is what is accepted of the second behind what is accepted of the first
+-- what is accepted of both parts is what is accepted of the second after what is accepted of the first
 abbrev pub FromHere : Type 0
 FromHere = (profile : Profile) (clients_max : ℕ) (h : List Entry) (ps qs : List Pair)
     → accepted profile clients_max h (ps ++ qs) ≡ accepted profile clients_max (accepted profile clients_max h ps) qs
 
--- the replies to both parts are those to the first, and then those to the second behind what the first made
+-- the replies to both parts are those to the first, and then those to the second after what the first made
 abbrev pub ReplyPrefix : Type 0
 ReplyPrefix = (profile : Profile) (clients_max : ℕ) (h : List Entry) (ps qs : List Pair)
     → replies_from profile clients_max h (ps ++ qs) ≡ replies_from profile clients_max h ps ++ replies_from profile clients_max (accepted profile clients_max h ps) qs
 
--- a request that comes again
+-- a request that is repeated
 
 -- an entry of the history holds the request
 pub record IsIn (h : List Entry) (r : Message) : Type 0 where
@@ -37,7 +37,7 @@ pub record IsIn (h : List Entry) (r : Message) : Type 0 where
 abbrev pub HasRow : State → ℕ → Type 0
 HasRow S client = (row : Row) × (row_of S.rows client ≡ Some row)
 
--- the request is no register, or its client still has a row
+-- the request is not a register, or its client still has a row
 abbrev pub IsOfKeptClient : State → Message → Type 0
 IsOfKeptClient S r = (is_register r.body ≡ false) ⊎ HasRow S r.client
 
@@ -48,7 +48,7 @@ SameAgain = (profile : Profile) (clients_max : ℕ) (h : List Entry) (p : Pair) 
     → IsOfKeptClient (after profile clients_max h) p.1
     → grown (after profile clients_max) h p ≡ h
 
--- with such a pair between two parts of a script, all other replies stay, and so does the history
+-- a second copy of such a pair between two parts of a script changes no other reply, and does not change the history
 abbrev pub CopyChangesNothing : Type 0
 CopyChangesNothing = (profile : Profile) (clients_max : ℕ) (ps qs : List Pair) (p : Pair) → AreLawful ps
     → IsIn (accepted profile clients_max [] ps) p.1
@@ -58,9 +58,9 @@ CopyChangesNothing = (profile : Profile) (clients_max : ℕ) (ps qs : List Pair)
     × (replies_to profile clients_max (ps ++ p ∷ qs) ≡ replies_to profile clients_max ps ++ answer_to (state_after profile clients_max ps) p.1 ∷ later)
     × (accepted profile clients_max [] (ps ++ p ∷ qs) ≡ accepted profile clients_max [] (ps ++ qs))
 
--- moments with a bound
+-- bounded moments
 
--- how many nanoseconds a pair moves the time at least: one for each event, and one for a register or a lookup
+-- how many nanoseconds at least a pair moves the time: one for each event, and one for a register or a lookup
 abbrev pub ticks : Pair → ℕ
 ticks p = max (count p.1.body) 1
 
@@ -68,8 +68,8 @@ abbrev pub all_ticks : List Pair → ℕ
 all_ticks [] = 0
 all_ticks (p ∷ ps) = ticks p + all_ticks ps
 
--- where the time of the history and all moments are at most `latest`, and `latest` with the ticks of all pairs is at most
--- 2^63 - 1, each pair that is new has a time
+-- if the time of the history and all moments are at most `latest`, and `latest` plus the ticks of all pairs is at most 2^63 - 1, each new pair has a
+-- time
 abbrev pub Timely : Type 0
 Timely = (profile : Profile) (clients_max : ℕ) (h : List Entry) (ps : List Pair) (latest : ℕ) → (after profile clients_max h).books.time ≤ latest
     → Each (λ (p : Pair). p.0 ≤ latest) ps

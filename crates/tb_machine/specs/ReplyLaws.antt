@@ -1,4 +1,4 @@
--- The replies of the definitions have frames: their numbers fit and go together, so that their bytes are those of no other replies.
+-- The replies of the definitions have frames: their numbers fit and go together, so that their bytes encode no other replies.
 use Rattle.std.specs.Prelude.{ℕ, ◌≡◌, List, [], Option}
 use Rattle.std.specs.List.{flat_map}
 use Rattle.tb_records.specs.declared.limits.Profile.{Profile}
@@ -11,7 +11,7 @@ use Rattle.tb_machine.specs.Histories.{answer_to}
 use Rattle.tb_machine.specs.Scripts.{Pair, accepted, replies_to}
 use Rattle.tb_machine.specs.Dumps.{after_with, IsLegalWith, replies_with, accepted_at}
 
--- each request has a frame: its numbers fit their fields and keep the rules, as those of every `Request` do
+-- each request has a frame: its numbers fit their fields and keep the rules that those of every `Request` keep
 abbrev pub AreRequests : List Pair → Type 0
 AreRequests ps = Each (λ (p : Pair). IsRequest p.1) ps
 
@@ -22,12 +22,12 @@ HoldRequests h = Each (λ (e : Entry). IsRequest e.request) h
 abbrev pub RepliesFit : Type 0
 RepliesFit = (profile : Profile) (clients_max : ℕ) (ps : List Pair) → AreRequests ps → Each IsReply (replies_to profile clients_max ps)
 
--- what spells the replies to a script spells no other replies
+-- what encodes the replies to a script encodes no other replies
 abbrev pub RepliesReadBack : Type 0
 RepliesReadBack = (profile : Profile) (clients_max : ℕ) (ps : List Pair) (replies : List Answer) → AreRequests ps → Each IsReply replies
     → flat_map reply_bytes replies ≡ flat_map reply_bytes (replies_to profile clients_max ps) → replies ≡ replies_to profile clients_max ps
 
--- after a legal history of requests, with a mark or none, the answer to a request has a frame, be it a reply or a refusal
+-- after a legal history of requests, with or without a mark, the answer to a request has a frame, whether it is a reply or a refusal
 abbrev pub AnswersFit : Type 0
 AnswersFit = (profile : Profile) (clients_max : ℕ) (mark : Option ℕ) (h : List Entry) (r : Message) → IsLegalWith profile clients_max mark h → HoldRequests h → IsRequest r
     → IsReply (answer_to (after_with profile clients_max mark h) r)
@@ -37,7 +37,7 @@ abbrev pub GivenFit : Type 0
 GivenFit = (profile : Profile) (clients_max : ℕ) (mark : Option ℕ) (h : List Entry) → IsLegalWith profile clients_max mark h → HoldRequests h
     → Each IsReply (replies_with profile clients_max mark h)
 
--- a history that is made of requests is one of requests, with the mark directly before the first entry above `at` too
+-- a history that is made from requests consists of requests, also with the mark directly before the first entry above `at`
 abbrev pub AcceptedAreRequests : Type 0
 AcceptedAreRequests = (profile : Profile) (clients_max : ℕ) (at : Option ℕ) (ps : List Pair) → AreRequests ps
     → HoldRequests (accepted profile clients_max [] ps) × HoldRequests (accepted_at profile clients_max at [] ps)

@@ -1,4 +1,4 @@
--- What the restoring of a machine makes of the entries of a journal.
+-- How a machine is restored from the entries of a journal.
 use Rattle.std.specs.Prelude.{ℕ, Bool, not, ◌&&◌, ◌==◌, ◌≡◌, ◌+◌, nat_le, IsTrue, List, [], ◌∷◌, ◌++◌, length, codes, Option, Some, None, Result, Ok, Err, if◌then◌else◌}
 use Rattle.tb_records.specs.declared.limits.Profile.{Profile}
 use Rattle.tb_records.specs.declared.limits.TheConstants.{LAST_MOMENT}
@@ -16,11 +16,11 @@ unfit_name Time = codes "Time"
 unfit_name NotNew = codes "NotNew"
 unfit_name NoMemory = codes "NoMemory"
 
--- the time is late enough, and there is such a moment
+-- the time is late enough, and at most the last moment
 abbrev pub is_in_time : State → Entry → Bool
 is_in_time S e = nat_le (least_time S e.request) e.time && nat_le e.time LAST_MOMENT
 
--- the first test that an entry fails which may not come next
+-- the first check that an entry fails, if it may not come next
 abbrev pub cause_of : State → Entry → Option Unfit
 cause_of S e =
     if not (e.commit == S.commit + 1) then Some Commit
@@ -33,12 +33,12 @@ abbrev pub IsUnfitCause : Unfit → Option Unfit → Type 0
 IsUnfitCause NoMemory first = first ≡ None
 IsUnfitCause cause first = first ≡ Some cause
 
--- an entry that may come next is entered; of any other the place and the first test that it fails are reported
+-- an entry that may come next is entered; for any other entry its place and the first check that it fails are reported
 abbrev pub Restores : Result (Unit {0}) RestoreFault → State → State → Entry → Type 0
 Restores (Ok done) S T e = IsTrue (fits S e) × (T ≡ step S e)
 Restores (Err fault) S T e = (T ≡ S) × (fault.place ≡ S.commit + 1) × IsUnfitCause fault.cause (cause_of S e)
 
--- the same by the history that was restored before: it is longer by the entry and legal, or no legal history goes on by it
+-- the same in terms of the history that was restored before: it grows by the entry and stays legal, or no legal history continues with it
 module _ (profile : Profile) (clients_max : ℕ) (mark : Option ℕ) (h : List Entry) (e : Entry) where
   abbrev pub IsBarred : Unfit → Type 0
   IsBarred NoMemory = IsLegalWith profile clients_max mark (h ++ e ∷ [])

@@ -4,7 +4,7 @@ use Rattle.tb_records.specs.Faults.{fault_name}
 use Rattle.tb_machine.specs.declared.serving.RunFault.{RunFault}
 use Rattle.tb_machine.specs.declared.serving.RunFault.TheVariants.{Frame, NoMemory, TimeExhausted, TooLong}
 
--- a fault's number, by which other programs may know it
+-- a fault's number, for other programs
 abbrev pub run_fault_number : RunFault → ℕ
 run_fault_number (Frame fault) = 1
 run_fault_number NoMemory = 2

@@ -1,4 +1,4 @@
--- What joins the serving of a script to the laws of histories.
+-- What connects the serving of a script with the laws of histories.
 use Rattle.std.specs.Prelude.{ℕ, ◌≡◌, ◌≢◌, ◌⊎◌, IsTrue, List, [], ◌∷◌, ◌++◌, Some, Result}
 use Rattle.tb_records.specs.declared.limits.Profile.{Profile}
 use Rattle.tb_records.specs.Messages.{Message, Answer}
@@ -12,7 +12,7 @@ use Rattle.tb_machine.specs.Histories.{is_lawful, reply_at, IsLegal, after, stat
 use Rattle.tb_machine.specs.Scripts.{Pair, accepted, replies_to}
 use Rattle.tb_machine.specs.Runs.{Ran}
 
--- the numbers of each request keep the rules, as those of every `Request` do
+-- the numbers of each request keep the rules that those of every `Request` keep
 abbrev pub AreLawful : List Pair → Type 0
 AreLawful ps = Each (λ (p : Pair). IsTrue (is_lawful p.1)) ps
 
@@ -29,13 +29,13 @@ pub record IsGiven (profile : Profile) (clients_max : ℕ) (h : List Entry) (r :
   pub request : entry.request ≡ r
   pub reply : a ≡ reply_at (after profile clients_max front) entry
 
--- the answer has no reply: it names why
+-- the answer is a refusal: it names the reason
 pub record HasRefusal (r : Message) (a : Answer) : Type 0 where
   pub class : Class
   pub no_repeat : class ≢ Repeat
   pub answer : a ≡ refusal (status_of class) r
 
--- each request is answered by the reply to its entry, or refused
+-- each request gets the reply to its entry, or a refusal
 abbrev pub AreOf : Profile → ℕ → List Entry → List Pair → List Answer → Type 0
 AreOf profile clients_max h [] [] = Unit {0}
 AreOf profile clients_max h [] (a ∷ replies) = ⊥
@@ -46,7 +46,7 @@ AreOf profile clients_max h (p ∷ ps) (a ∷ replies) = (IsGiven profile client
 abbrev pub RepliesAreOfHistory : Type 0
 RepliesAreOfHistory = (profile : Profile) (clients_max : ℕ) (ps : List Pair) → AreLawful ps → AreOf profile clients_max (accepted profile clients_max [] ps) ps (replies_to profile clients_max ps)
 
--- the pairs that a run served are lawful, where its reader reports its bytes
+-- the pairs that a run served are lawful, if its reader reports its bytes
 abbrev pub ServedAreLawful : Type 0
 ServedAreLawful = (profile : Profile) (clients_max : ℕ) (result : Result ℕ RunFault) (before after : Input) (start written : Output) (bytes : List ℕ)
     → (ran : Ran profile clients_max result before after start written) → before.left ≡ Some bytes → AreLawful ran.items

@@ -1,4 +1,4 @@
--- Scripts: what a server makes of moments and requests, one after another.
+-- Scripts: moments and requests, one after another, and what a server makes of them.
 use Rattle.std.specs.Prelude.{ℕ, Bool, ◌&&◌, ◌+◌, nat_le, List, [], ◌∷◌, ◌++◌, if◌then◌else◌, fold}
 use Rattle.tb_records.specs.declared.limits.Profile.{Profile}
 use Rattle.tb_records.specs.Messages.{Message, Answer}
@@ -11,7 +11,7 @@ use Rattle.tb_machine.specs.Histories.{State, time_of, is_new, step, after, answ
 abbrev pub Pair : Type 0
 Pair = ℕ × Message
 
--- the entry that the pair makes where it is entered
+-- the entry that the pair makes if it is entered
 abbrev pub entry_of : State → Pair → Entry
 entry_of S p = record { commit = S.commit + 1; time = time_of S p.0 p.1; request = p.1 }
 
@@ -34,7 +34,7 @@ module _ (profile : Profile) (clients_max : ℕ) where
   abbrev pub accepted : List Entry → List Pair → List Entry
   accepted h ps = fold (grown (after profile clients_max)) h ps
 
-  -- the reply to each request, by the history up to and with it
+  -- the reply to each request, by the history up to it and including it
   abbrev pub replies_from : List Entry → List Pair → List Answer
   replies_from h [] = []
   replies_from h (p ∷ ps) = let m = grown (after profile clients_max) h p in answer_to (after profile clients_max m) p.1 ∷ replies_from m ps

@@ -1,4 +1,4 @@
--- The posts and voids of a history: in which books each is judged, and that those which are accepted settle.
+-- The posts and voids of a history: in which books each is judged, and that the accepted ones settle.
 use Rattle.std.specs.Prelude.{ℕ, true, ◌≡◌, ◌⊎◌, List, [], ◌∷◌, Option}
 use Rattle.tb_records.specs.declared.records.Transfer.{Transfer}
 use Rattle.tb_records.specs.declared.bodies.Body.TheVariants.{CreateTransfers}
@@ -14,7 +14,7 @@ use Rattle.tb_machine.specs.Dumps.{after_with}
 use Rattle.tb_machine.specs.MarkedLaws.{next_in}
 
 module _ {E : Type 0} (kind : Kind E) where
-  -- in a chain that begins with the books B, the event x is judged in the books C: each before it was accepted
+  -- in a chain that begins with the books B, the event x is judged in the books C: each event before it was accepted
   abbrev pub JudgedIn : Books → List (Timed E) → Timed E → Books → Type 0
   JudgedIn B [] x C = ⊥
   JudgedIn B (y ∷ ys) x C = ((y ≡ x) × (B ≡ C)) ⊎ ((kind.verdict B y.0 y.1 ≡ 0) × JudgedIn (kind.recorded B y.0 y.1) ys x C)
@@ -30,11 +30,11 @@ IsJudged S e t timestamp C =
     (events : List Transfer) × (e.request.body ≡ CreateTransfers events)
     × JudgedAmong transfer_events (at_time S.books e.time) (chains transfer_events (timed e.time events)) (t, timestamp) C
 
--- in the books after entries, with a mark or none, each id is there once
+-- in the books after entries, with or without a mark, each id is unique
 abbrev pub IdsRiseAfter : Type 0
 IdsRiseAfter = (profile : Profile) (clients_max : ℕ) (mark : Option ℕ) (h : List Entry) → IdsRise (after_with profile clients_max mark h).books
 
--- each post or void that an entry behind others brings and that is accepted, as it is recorded
+-- each accepted post or void of an entry that follows others settles, as it is recorded
 abbrev pub PostsAndVoidsSettle : Type 0
 PostsAndVoidsSettle = (profile : Profile) (clients_max : ℕ) (mark : Option ℕ) (h : List Entry) (e : Entry) (t : Transfer) (timestamp : ℕ) (C : Books)
     → IsJudged (next_in profile clients_max mark h) e t timestamp C → resolves t ≡ true → transfer_verdict C t timestamp ≡ 0

@@ -1,3 +1,3 @@
--- what private contracts alone cite
+-- what only private contracts use
 pub mod Serving
 pub mod Sound

@@ -1,4 +1,4 @@
-//! Answers from a machine as it is now.
+//! Answers from a machine in its current state.
 ghost use Rattle.std.specs.Prelude.{◌≡◌, IfOk};
 ghost use Rattle.tb_records.specs.Messages.{IsLawful};
 ghost use Rattle.tb_machine.specs.Histories.{answer_to};
@@ -9,8 +9,8 @@ use std::alloc::{AllocError, Global};
 use tb_records::{Reply, Request};
 use tb_sessions::Class;
 
-/// The answer to a request, which leaves the machine as it is: a repeat gets the stored reply, a new request NotYet, and
-/// any other the refusal that its class names.
+/// The answer to a request, which leaves the machine as it is: a repeat gets the stored reply, a new request `NotYet`, and any other request the
+/// refusal that its class names.
 pub fn answer_of(
     alloc: Global,
     machine: &Machine<Global>,

@@ -20,7 +20,7 @@ use tb_records::streams::read_timed_from;
 use tb_records::{ClientsMax, DumpHead, FrameFault, Profile, Request, Sink, Source};
 use tb_sessions::Row;
 
-/// Says that the mark is directly before the entry behind `commit` others.
+/// Returns whether the mark is directly before the entry that follows `commit` others.
 fn marks_at(at: Option<u64>, commit: u64) -> bool
     ensures { result ≡ marks_at at commit }
 {
@@ -30,7 +30,7 @@ fn marks_at(at: Option<u64>, commit: u64) -> bool
     }
 }
 
-/// Goes over to profile 2 where a mark is due.
+/// Changes to profile 2 if a mark is due.
 fn change_profile(machine: &mut Machine<Global>, due: bool)
     requires { due ≡ true → profile_of machine.old.books ≡ Profile.One }
     ensures { machine.new ≡ changed_profile due machine.old }
@@ -64,14 +64,14 @@ fn write_head<W: Sink>(writer: &mut W, clients_max: ClientsMax) -> Result<(), Ru
     Ok(())
 }
 
-/// Writes a mark where one is due.
+/// Writes a mark if one is due.
 fn write_mark<W: Sink>(writer: &mut W, due: bool) -> Result<(), FrameFault>
     ensures { IsSent result (mark_before due) (W.output writer.old) (W.output writer.new) }
 {
     if due { send_mark(writer) } else { Ok(()) }
 }
 
-/// Writes an entry, behind a mark where one is due.
+/// Writes an entry, after a mark if one is due.
 fn write_entry<W: Sink>(
     writer: &mut W,
     due: bool,
@@ -86,8 +86,7 @@ fn write_entry<W: Sink>(
     send_entry(writer, commit, time, request)
 }
 
-/// Enters the entry of a new request, and writes it. A mark that comes before it is written with it, so that none is where
-/// there is no entry.
+/// Enters the entry of a new request, and writes it. A mark before it is written with it, so that no mark is without its entry.
 fn dump_entry<W: Sink>(
     machine: &mut Machine<Global>,
     at: Option<u64>,
@@ -113,7 +112,7 @@ fn dump_entry<W: Sink>(
     Ok(())
 }
 
-/// Enters a request that comes at a moment and writes its entry, where it is new.
+/// Enters a request that comes at a moment and writes its entry, if it is new.
 fn dump_pair<W: Sink>(
     machine: &mut Machine<Global>,
     at: Option<u64>,
@@ -132,8 +131,8 @@ fn dump_pair<W: Sink>(
     }
 }
 
-/// Dumps the next pair of a script: false where there is none. The reader is asked only where nothing is held back, or a
-/// whole pair is buffered.
+/// Dumps the next pair of a script; returns false if there is no next pair. The reader is called only if no output is held back, or a whole pair is
+/// buffered.
 fn dump_next<R: Source, W: Sink>(
     alloc: Global,
     machine: &mut Machine<Global>,
@@ -153,11 +152,10 @@ fn dump_next<R: Source, W: Sink>(
     Ok(true)
 }
 
-/// Serves a script by profile 1, and writes the history that it makes as a dump: a head, and the entry of each new request.
-/// Where `at` is given, a mark is written directly before the first entry whose commit number is above it, and from that
-/// request on profile 2 serves. Answers the number of entries written, of which none is held back any more. The head is
-/// written before the script is read. On a fault the entries of all earlier pairs are written, and the rest of the script is
-/// unread; where the writer failed, a prefix of what is next was written too.
+/// Serves a script by profile 1, and writes the history that it makes as a dump: a head, and the entry of each new request. If `at` is given, a mark
+/// is written directly before the first entry whose commit number is above it, and profile 2 serves from that request on. Returns the number of
+/// entries written, none of which is still held back. The head is written before the script is read. On a fault the entries of all earlier pairs are
+/// written, and the rest of the script is unread; if the writer failed, a prefix of what is next was written too.
 pub fn dump<R: Source, W: Sink>(
     alloc: Global,
     clients_max: ClientsMax,

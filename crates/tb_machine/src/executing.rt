@@ -1,4 +1,4 @@
-//! The steps of a machine: what a request does to the ledger, what its reply says, and the row that keeps both.
+//! The steps of a machine: what a request does to the ledger, the body of its reply, and the row that keeps both.
 ghost use Rattle.std.specs.Prelude.{◌≡◌, ◌+◌, ◌≤◌, max, OnOk, OnErr, ◌<◌, MatchResult, IsTrue, None, Some};
 ghost use Rattle.tb_records.specs.Messages.{count, item_count, operation, IsRight};
 ghost use Rattle.tb_records.specs.ReplyFrames.{reply_bytes, IsReply};
@@ -15,7 +15,7 @@ use tb_ledger::Ledger;
 use tb_records::{Body, FrameFault, Items, Reply, ReplyBody, Request, Sink, Status, send_reply};
 use tb_sessions::{Class, Row};
 
-/// What became of the reply of a request that was executed.
+/// What happened to the reply of a request that was executed.
 #[derive(Clone, Copy)]
 pub enum Delivery {
     /// It was written.
@@ -29,14 +29,14 @@ pub enum Delivery {
 pub(crate) enum Served {
     /// It was executed, and its reply was written or cut off.
     Executed(Delivery),
-    /// There is no memory for it: nothing was changed.
+    /// There is no memory for it: nothing changed.
     NoMemory,
-    /// It is of this class and not New there, or there is no time for it: nothing was called or changed.
+    /// It has this class and is not New there, or there is no time for it: nothing was called or changed.
     Unserved(Class),
 }
 
 impl Served {
-    /// What became of a request that was called for, by what became of its reply.
+    /// What happened to a request that was executed, by what happened to its reply.
     fn of(delivery: Result<Delivery, AllocError>) -> Served
         ensures { result ≡ served_as delivery }
     {
@@ -58,8 +58,7 @@ impl<A: Allocator + Clone> Machine<A> {
         self.enter(entry).map_err(|_| AllocError)
     }
 
-    /// As `apply`, of an entry whose request moves into its client's row. An allocation that fails gives the entry
-    /// back.
+    /// As `apply`, for an entry whose request moves into its client's row. A failed allocation returns the entry.
     pub fn enter(&mut self, entry: Entry) -> Result<(), Entry>
         requires { IsTrue (fits self.old entry) }
         ensures { MatchResult result (λ _. self.new ≡ step self.old entry)
@@ -75,9 +74,9 @@ impl<A: Allocator + Clone> Machine<A> {
         Ok(())
     }
 
-    /// Serves a request that comes at a moment, where it is New compared with its client's row: by one search of the sessions it is
-    /// executed, the row keeps it and the reply, and the reply is written. Any other request gets its class, and so do a
-    /// register of a client without a row and a request for which there is no time: nothing is called or changed then.
+    /// Serves a request that comes at a moment, if it is New compared with its client's row: by one search of the sessions it is executed, the row
+    /// keeps it and the reply, and the reply is written. Any other request gets its class, and so do a register of a client without a row and a
+    /// request for which there is no time: nothing is called or changed then.
     pub(crate) fn serve_in_session<W: Sink>(
         &mut self,
         writer: &mut W,
@@ -114,8 +113,7 @@ impl<A: Allocator + Clone> Machine<A> {
         }
     }
 
-    /// As `enter`, and writes the reply before the row that keeps it goes to the others. Where the writer failed, the
-    /// entry has been entered all the same.
+    /// As `enter`, and writes the reply before its row is stored. If the writer failed, the entry has been entered all the same.
     pub fn enter_and_reply<W: Sink>(
         &mut self,
         writer: &mut W,
@@ -136,7 +134,7 @@ impl<A: Allocator + Clone> Machine<A> {
     }
 }
 
-/// Does what a body asks for, at a time, and reports what its reply says; on a refusal the ledger is unchanged.
+/// Executes a body at a time, and returns the body of its reply; if an allocation fails the ledger is unchanged.
 pub(crate) fn execute<A: Allocator + Clone>(
     global: Global,
     ledger: &mut Ledger<A>,
@@ -176,7 +174,7 @@ pub(crate) fn execute<A: Allocator + Clone>(
     }
 }
 
-/// The session that a request belongs to: a register's is its own commit number.
+/// The session that a request belongs to: for a register this is its own commit number.
 fn session_of(request: &Request, commit: u64) -> u64
     ensures { let e : Entry = record { commit = commit; time = 0; request = request.now } in result ≡ session_of e }
 {
@@ -208,8 +206,8 @@ fn reply_with(request: &Request, commit: u64, body: ReplyBody) -> Reply
     reply
 }
 
-/// Executes an entry's request, and makes the row that its client's session gets: the request moves into it, next to the
-/// reply. Where an allocation fails the entry comes back and the ledger is unchanged.
+/// Executes an entry's request, and makes the row that its client's session gets: the request moves into it, next to the reply. If an allocation
+/// fails the entry is returned and the ledger is unchanged.
 pub(crate) fn row_for<A: Allocator + Clone>(
     global: Global,
     ledger: &mut Ledger<A>,
@@ -248,10 +246,10 @@ fn write_reply<W: Sink>(writer: &mut W, reply: &Reply) -> Delivery
     }
 }
 
-/// Executes a request that is New compared with its client's row, and puts it into the row, next to the reply, which is written. What
-/// the row had for it is where the request was. Where an allocation fails all is as it was.
+/// Executes a request that is New compared with its client's row, puts it and its reply into the row, and writes the reply. The row's old request is
+/// then in the place of the request. If an allocation fails everything is as it was.
 ///
-/// The request and its row are changed in place, since some 250 bytes would else be moved three times.
+/// The request and its row are changed in place, because some 250 bytes would otherwise be moved three times.
 pub(crate) fn serve_row<A: Allocator + Clone, W: Sink>(
     global: Global,
     ledger: &mut Ledger<A>,

@@ -1,4 +1,4 @@
-//! The judging of a request that comes at a moment: the entry of a new one is made, and of any other the class is named.
+//! Judges a request that comes at a moment: makes the entry of a new one, and names the class of any other.
 ghost use Rattle.std.specs.Prelude.{◌≡◌};
 ghost use Rattle.tb_records.specs.Messages.{IsLawful};
 ghost use Rattle.tb_sessions.specs.Judged.{class_of};
@@ -15,9 +15,9 @@ use tb_sessions::Class;
 pub enum Judged {
     /// A new one, with its entry, which may come next.
     New(Entry),
-    /// A new one, for which the end of time leaves no time.
+    /// A new one, but there is no time left for it.
     NoTime,
-    /// No new one: its class, and the request back.
+    /// Not a new one: its class, and the request.
     Known(Class, Request),
 }
 
@@ -32,7 +32,7 @@ impl<A: Allocator + Clone> Machine<A> {
         self.judge_as(class, moment, request)
     }
 
-    /// As `judge`, of a request whose class is known.
+    /// As `judge`, for a request whose class is known.
     pub(crate) fn judge_as(&self, class: Class, moment: u64, request: Request) -> Judged
         requires { class ≡ class_of self.now.rows request }
         ensures judged { IsJudged result self.now (moment, request) }

@@ -13,8 +13,8 @@ use tb_ledger::Ledger;
 use tb_records::{Account, ClientsMax, LAST_MOMENT, Profile, Reply, Request, Transfer};
 use tb_sessions::{Class, Row, Sessions};
 
-/// A ledger and the sessions of its clients, after a history. Requests, replies and the rows of the sessions take their
-/// memory of the global allocator, the records of `A`.
+/// A ledger and the sessions of its clients, after a history. Requests, replies and the rows of the sessions are allocated by the global allocator,
+/// the records by `A`.
 #[derive(Drop)]
 pub struct Machine<A: Allocator + Clone> {
     pub(crate) global: Global,
@@ -66,8 +66,8 @@ impl<A: Allocator + Clone> Machine<A> {
         })
     }
 
-    /// The time of a request of n events that comes at a moment: the larger of the moment and the last entry's time and
-    /// n, or 1 where there is no event. None where that is above `2^63 - 1`.
+    /// The time of a request of n events that comes at a moment: the larger of the moment and the last entry's time plus n, or plus 1 if it has no
+    /// event. `None` if that is above `2^63 - 1`.
     pub fn next_time(&self, now: u64, n: u64) -> Option<u64>
         ensures { let time = max now (self.now.books.time + max n 1) in
             MatchOption result (LAST_MOMENT < time) (λ t. (t ≡ time) × (t ≤ LAST_MOMENT)) }
@@ -80,14 +80,14 @@ impl<A: Allocator + Clone> Machine<A> {
         Some(time)
     }
 
-    /// The profile that it goes by.
+    /// The profile in use.
     pub fn profile(&self) -> Profile
         ensures { result ≡ profile_of self.now.books }
     {
         self.ledger.profile()
     }
 
-    /// Goes over from profile 1 to profile 2: all stays as it is, and no id has failed yet. Takes no memory.
+    /// Changes from profile 1 to profile 2: everything stays as it is, and no id has failed yet. Allocates no memory.
     pub fn move_to_two(&mut self)
         requires { profile_of self.old.books ≡ Profile.One }
         ensures { self.new ≡ to_two self.old }
@@ -117,7 +117,7 @@ impl<A: Allocator + Clone> Machine<A> {
         self.sessions.classify(request)
     }
 
-    /// The reply to a client's last request; None of a client without a session.
+    /// The reply to a client's last request; `None` for a client without a session.
     pub fn reply_of(&self, client: u128) -> Option<&Reply>
         ensures { let stored = stored_reply self.now client in
             MatchOption result (stored ≡ None) (λ reply. stored ≡ Some reply.now) }
@@ -136,29 +136,29 @@ impl<A: Allocator + Clone> Machine<A> {
         self.sessions.stored(client)
     }
 
-    /// The account as it is now; None where there is none with this id.
+    /// The account as it is now; `None` if there is no account with this id.
     pub fn account(&self, id: u128) -> Option<Account>
         ensures { result ≡ account_now self.now.books id }
     {
         self.ledger.account(id)
     }
 
-    /// Accounts are so many that a search for one waits for memory at most of its levels.
+    /// Whether there are so many accounts that a search for one waits for memory at most of its levels.
     pub fn has_many_accounts(&self) -> bool
         ensures { IsTrue result ↔ 65536 ≤ length self.now.books.accounts }
     {
         self.ledger.has_many_accounts()
     }
 
-    /// Brings the accounts of eight ids into the cache, for entries that need them next. Where accounts are few, nothing is
-    /// searched for. The machine stays.
+    /// Brings the accounts of eight ids into the cache, for entries that need them next. If there are few accounts, nothing is searched for. The
+    /// machine stays as it is.
     pub fn touch(&mut self, ids: &[u128; 8])
         ensures { self.new ≡ self.old }
     {
         self.ledger.touch(ids);
     }
 
-    /// The transfer as it was recorded; None where there is none with this id.
+    /// The transfer as it was recorded; `None` if there is no transfer with this id.
     pub fn transfer(&self, id: u128) -> Option<Transfer>
         ensures { result ≡ transfer_at self.now.books id }
     {
@@ -188,8 +188,8 @@ impl<A: Allocator + Clone> Machine<A> {
         self.ledger.time() + events.max(1)
     }
 
-    /// Says that an entry may come next: its commit is the next one, its time at least the least allowed and at most
-    /// `2^63 - 1`, and its request is New.
+    /// Returns whether an entry may come next: its commit is the next one, its time at least the least allowed and at most `2^63 - 1`, and its
+    /// request is New.
     pub fn fits(&self, entry: &Entry) -> bool
         ensures { result ≡ fits self.now entry.now }
     {

@@ -12,7 +12,7 @@ use std::alloc::Global;
 use tb_records::dumps::{holds_item, read_head_from, read_item_from};
 use tb_records::{DumpFault, DumpItem, Profile, Sink, Source, send_reply};
 
-/// Enters an entry, where it may come next.
+/// Enters an entry, if it may come next.
 fn enter_next(machine: &mut Machine<Global>, entry: Entry) -> Result<(), DumpFault>
     ensures { EntersNext result machine.old machine.new entry }
 {
@@ -37,7 +37,7 @@ fn replay_entry<W: Sink>(
     Ok(())
 }
 
-/// Goes over to profile 2, where that does not serve yet.
+/// Changes to profile 2, if it is not in use yet.
 fn replay_mark(machine: &mut Machine<Global>) -> Result<(), DumpFault>
     ensures { ReplaysMark result machine.old machine.new }
 {
@@ -50,7 +50,7 @@ fn replay_mark(machine: &mut Machine<Global>) -> Result<(), DumpFault>
     }
 }
 
-/// Replays an entry, or goes over to profile 2 at a mark.
+/// Replays an entry, or changes to profile 2 at a mark.
 fn replay_item<W: Sink>(
     machine: &mut Machine<Global>,
     writer: &mut W,
@@ -77,8 +77,8 @@ fn replay_item<W: Sink>(
     }
 }
 
-/// Replays what comes next in a dump: false where nothing does. The reader is asked only where nothing is held back, or
-/// a whole item is buffered.
+/// Replays the next item of a dump; returns false if there is no next item. The reader is called only if no output is held back, or a whole item is
+/// buffered.
 fn replay_next<R: Source, W: Sink>(
     alloc: Global,
     machine: &mut Machine<Global>,
@@ -96,7 +96,7 @@ fn replay_next<R: Source, W: Sink>(
     Ok(true)
 }
 
-/// Gives out the replies where the next item of a dump may have to be waited for.
+/// Flushes the replies if the reader may have to wait for the next item of a dump.
 fn pass_on_before_item<R: Source, W: Sink>(reader: &R, writer: &mut W)
     ensures sent { Sent [] (W.output writer.old) (W.output writer.new) }
     ensures prompt { IsPromptForItem (R.input reader.now) (W.output writer.new) }
@@ -106,9 +106,9 @@ fn pass_on_before_item<R: Source, W: Sink>(reader: &R, writer: &mut W)
     }
 }
 
-/// Replays a dump: reads its head and its entries one by one, enters each that may come next into a machine, writes the
-/// reply to it, and answers the number of replies written, of which none is held back any more. On a fault the replies to all earlier entries are written, and
-/// the rest of the dump is unread; where the writer failed, a prefix of the next reply was written too.
+/// Replays a dump: reads its head and its entries one by one, enters each that may come next into a machine, and writes the reply to it. Returns the
+/// number of replies written, none of which is still held back. On a fault the replies to all earlier entries are written, and the rest of the dump
+/// is unread; if the writer failed, a prefix of the next reply was written too.
 pub fn replay<R: Source, W: Sink>(
     alloc: Global,
     reader: &mut R,
@@ -136,7 +136,7 @@ pub fn replay<R: Source, W: Sink>(
             return Ok(replies);
         }
     }
-    // Each entry takes a nanosecond of the time that there is: no history has so many.
+    // Each entry takes at least one nanosecond of the time that is left: no history has so many.
     let _entries = machine.commit();
     unreachable!()
 }

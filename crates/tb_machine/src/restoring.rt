@@ -1,5 +1,5 @@
-//! An entry as a journal keeps it: its commit number, its time, and the frame of its request. The restoring of a machine from such
-//! entries, one after another.
+//! An entry as a journal keeps it: its commit number, its time, and the frame of its request. A machine is restored from such entries, one after
+//! another.
 ghost use Rattle.std.specs.Prelude.{◌≡◌, ◌++◌, OnOk, OnErr};
 ghost use Rattle.tb_machine.specs.Restoring.{cause_of, unfit_name, Restores};
 ghost use Rattle.tb_machine.specs.Dumps.{dumped};
@@ -14,7 +14,7 @@ use tb_records::{FrameFault, LAST_MOMENT, read_request, write_request};
 use tb_sessions::Class;
 use thiserror::Error;
 
-/// Why an entry of a journal isn't restored.
+/// Why an entry of a journal is not restored.
 #[derive(Clone, Copy, Debug, PartialEq, Eq, Error)]
 pub enum Unfit {
     /// Its commit number is not the next one.
@@ -52,17 +52,17 @@ impl fmt::Display for Unfit {
     }
 }
 
-/// An entry that isn't restored: its place in the journal, 1, 2, 3 and so on, and why.
+/// An entry that is not restored: its place in the journal, 1, 2, 3 and so on, and why.
 #[derive(Clone, Copy, Debug, PartialEq, Eq, Error)]
 #[error("entry {place}: {cause}")]
 pub struct RestoreFault {
     /// The place.
     pub place: u64,
-    /// The cause: the first test that the entry fails, in the order of the causes.
+    /// The cause: the first check that the entry fails, in the order of the causes.
     pub cause: Unfit,
 }
 
-/// The first test that an entry fails which may not come next.
+/// The first check that an entry fails, if it may not come next.
 fn cause_of<A: Allocator + Clone>(machine: &Machine<A>, entry: &Entry) -> Option<Unfit>
     ensures { result ≡ cause_of machine.now entry.now }
 {
@@ -78,8 +78,8 @@ fn cause_of<A: Allocator + Clone>(machine: &Machine<A>, entry: &Entry) -> Option
     }
 }
 
-/// Enters the next entry of a journal, where it follows from those before it: its request moves into its client's row. On a
-/// fault the machine is as it was.
+/// Enters the next entry of a journal, if it follows from those before it: its request moves into its client's row. On a fault the machine is as it
+/// was.
 pub fn restore<A: Allocator + Clone>(
     machine: &mut Machine<A>,
     entry: Entry,
@@ -99,8 +99,7 @@ pub fn restore<A: Allocator + Clone>(
     }
 }
 
-/// Appends the record of an entry. AllocError where there is no memory for all of it: the vector keeps its bytes, and gets
-/// none.
+/// Appends the record of an entry. `AllocError` if there is no memory for all of it: the vector keeps its bytes, and gets no new ones.
 pub fn write_entry(entry: &Entry, out: &mut Vec<u8>) -> Result<(), AllocError>
     ensures ok { OnOk result (out.new.items ≡ out.old.items ++ dumped entry.now) }
     ensures fits { OnOk result (IsRecord (dumped entry.now) entry.now) }
@@ -119,8 +118,8 @@ pub fn write_entry(entry: &Entry, out: &mut Vec<u8>) -> Result<(), AllocError>
     }
 }
 
-/// The entry whose record the bytes are. Short where they end within it, BadLength where more follow, else the fault of the
-/// frame. NoMemory comes only where the frame has no fault.
+/// The entry whose record the bytes are. `Short` if they end within it, `BadLength` if more bytes follow, otherwise the fault of the frame.
+/// `NoMemory` is returned only if the frame has no fault.
 pub fn read_entry(alloc: Global, bytes: &[u8]) -> Result<Entry, FrameFault>
     ensures answer { RecordAnswers result bytes.now }
     ensures only { (entry : Entry) → IsRecord bytes.now entry → OnlyEntry result entry }

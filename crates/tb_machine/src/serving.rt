@@ -1,4 +1,4 @@
-//! The serving of a script: moments and requests are read, executed and answered, one after another.
+//! Serves a script: moments and requests are read and executed and get their replies, one after another.
 ghost use Rattle.std.specs.Prelude.{◌≡◌, true, false, [], IfOk, OnOk, Some};
 ghost use Rattle.std.specs.Option.{is_some};
 ghost use Rattle.tb_records.specs.ReplyFrames.{reply_bytes, IsReply};
@@ -27,11 +27,11 @@ use thiserror::Error;
 /// Why the serving of a script ends before the script does.
 #[derive(Clone, Copy, Debug, PartialEq, Eq, Error)]
 pub enum RunFault {
-    /// The next pair can't be read, or the reply to it can't be written.
+    /// The next pair cannot be read, or the reply to it cannot be written.
     Frame(FrameFault),
     /// There is no memory for the machine, or for the next entry.
     NoMemory,
-    /// The next request is new, and the end of time leaves no time for it.
+    /// The next request is new, but there is no time left for it.
     TimeExhausted,
     /// `2^64 - 1` replies are written.
     TooLong,
@@ -50,7 +50,7 @@ impl RunFault {
         }
     }
 
-    /// The fault's name, as a message shows it: of a frame's fault that fault's own.
+    /// The fault's name, as a message shows it: for a frame's fault this is that fault's own name.
     pub fn name(self) -> &'static str
         ensures { result.now ≡ run_fault_name self }
     {
@@ -94,7 +94,7 @@ impl fmt::Display for RunFault {
     }
 }
 
-/// The status of the answer to a request of a class: a repeat gets its reply, and a new request none yet.
+/// The status of the answer to a request of a class: a repeat gets its reply, and a new request has no reply yet.
 pub fn status_of(class: Class) -> Status
     ensures { result ≡ status_of class }
 {
@@ -169,9 +169,9 @@ fn answer_as<A: Allocator + Clone, W: Sink>(
     }
 }
 
-/// Serves a request that comes at a moment: a new one is entered first, and the reply is written. Where a new one finds no
-/// time or no memory, nothing is written and the machine is as it was; where the writer failed, a new one has been entered
-/// all the same, and sent again it is a repeat that gets its reply.
+/// Serves a request that comes at a moment: a new one is entered first, and the reply is written. If there is no time or no memory for a new one,
+/// nothing is written and the machine is as it was. If the writer failed, a new one has been entered all the same: sent again it is a repeat that
+/// gets its reply.
 pub fn serve_pair<A: Allocator + Clone, W: Sink>(
     machine: &mut Machine<A>,
     writer: &mut W,
@@ -199,8 +199,8 @@ pub fn serve_pair<A: Allocator + Clone, W: Sink>(
     }
 }
 
-/// Serves the next pair of a script: false where there is none. The reader is asked only where nothing is held back, or a
-/// whole pair is buffered.
+/// Serves the next pair of a script; returns false if there is no next pair. The reader is called only if no output is held back, or a whole pair is
+/// buffered.
 fn serve_next<A: Allocator + Clone, R: Source, W: Sink>(
     alloc: Global,
     machine: &mut Machine<A>,
@@ -218,8 +218,7 @@ fn serve_next<A: Allocator + Clone, R: Source, W: Sink>(
     Ok(true)
 }
 
-/// Gives out what is answered where the next pair may have to be waited for, so that a client that waits for its reply
-/// has it.
+/// Flushes the replies if the reader may have to wait for the next pair, so that a client that waits for its reply has it.
 pub(crate) fn pass_on_before_waiting<R: Source, W: Sink>(reader: &R, writer: &mut W)
     ensures sent { Sent [] (W.output writer.old) (W.output writer.new) }
     ensures prompt { IsPromptForPair (R.input reader.now) (W.output writer.new) }
@@ -262,10 +261,10 @@ fn run_in<A: Allocator + Clone, R: Source, W: Sink>(
     Err(RunFault::TooLong)
 }
 
-/// Serves a script of pairs, a moment and the frame of a request each, until it ends, and answers the number of replies
-/// written, of which none is held back any more. If the whole input is such pairs, each new one has a time and nothing fails,
-/// all is read, and exactly the replies are written. On a fault the replies to all earlier pairs are written, and the rest of
-/// the script is unread; where the writer failed, a prefix of the next reply was written too.
+/// Serves a script of pairs, a moment and the frame of a request each, until it ends. Returns the number of replies written, none of which is still
+/// held back. If the whole input is such pairs, each new one has a time and nothing fails, the whole input is read, and exactly the replies are
+/// written. On a fault the replies to all earlier pairs are written, and the rest of the script is unread; if the writer failed, a prefix of the next
+/// reply was written too.
 pub fn run<R: Source, W: Sink>(
     alloc: Global,
     profile: Profile,
@@ -279,8 +278,8 @@ pub fn run<R: Source, W: Sink>(
         (W.output writer.old) (W.output writer.new) }
     ensures passed { IfOk result (λ _. (W.output writer.new).held ≡ false) }
 {
-    // Blocks of a pool lie side by side, and go back all at once. Those of one over malloc begin 16 bytes past a cache line, as
-    // malloc's do, and each pool below moves them by 16 more: so over three others a node begins at a line.
+    // Blocks of a pool are adjacent, and are freed all at once. Those of a pool over malloc begin 16 bytes past a cache line, as malloc's do, and
+    // each pool below moves them by 16 more: so over three others a node begins at a line.
     let first = Bump::new(alloc);
     let second = Bump::new(&first);
     let third = Bump::new(&second);

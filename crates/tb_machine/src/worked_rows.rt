@@ -1,4 +1,4 @@
-//! Worked examples: scripts, and what the definitions answer to them, computed. A call does nothing; its promise is the row.
+//! Examples: scripts, and the replies that the definitions give to them, computed. A call does nothing; its promise is the example.
 ghost use Rattle.tb_machine.specs.WorkedRows.{FirstRequests, Refusals, GreatestSum, Eviction, EndOfTime, EvictionStorm, UnfitEntries, MarkedHistory, ScriptInParts, CopiesInAScript, BoundedMoments, RegisterRun};
 
 /// A register, the same again, two accounts, their lookup, a transfer.
@@ -11,7 +11,7 @@ pub fn refusals()
     ensures { Refusals }
 {}
 
-/// The greatest sum of an account, and a transfer by which it would overflow.
+/// The greatest sum of an account, and a transfer that would overflow it.
 pub fn greatest_sum()
     ensures { GreatestSum }
 {}
@@ -31,7 +31,7 @@ pub fn eviction_storm()
     ensures { EvictionStorm }
 {}
 
-/// Entries that do not follow one register, each with the first test that it fails.
+/// Entries that do not follow one register, each with the first check that it fails.
 pub fn unfit_entries()
     ensures { UnfitEntries }
 {}

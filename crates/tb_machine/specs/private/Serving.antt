@@ -1,4 +1,4 @@
--- What the steps of the server do with one pair: for private functions alone.
+-- What the steps of the server do with one pair. Only private functions use it.
 use Rattle.std.specs.Prelude.{false, ◌≡◌, ◌+◌, ◌++◌, ◌≤◌, max, ℕ, List, Option, Result, Ok, Err, IfOk, MatchResult}
 use Rattle.std.specs.declared.alloc.AllocError.{AllocError}
 use Rattle.tb_records.specs.declared.faults.FrameFault.TheVariants.{Device}
@@ -27,7 +27,7 @@ use Rattle.tb_records.specs.declared.replies.Status.TheVariants as status
 use Rattle.tb_records.specs.declared.bodies.ReplyBody.{ReplyBody}
 use Rattle.tb_records.specs.declared.limits.TheConstants.{ITEMS_MAX, LAST_MOMENT}
 
--- nothing is held back where the next pair, or the next item of a dump, may have to be waited for
+-- no output is held back unless the next pair, or the next item of a dump, is buffered
 abbrev pub IsPromptForPair : Input → Output → Type 0
 IsPromptForPair input output = holds_pair input.at_hand ≡ false → output.held ≡ false
 
@@ -46,7 +46,7 @@ made_entry commit time r = record { commit = commit; time = time; request = r }
 abbrev pub reply_with : Entry → ReplyBody → Answer
 reply_with e body = answered e.request.client (session_of e) e.request.request (operation e.request.body) status.Reply e.commit body
 
--- the row that an entry leaves its client, where the ledger is so before it
+-- the row of an entry's client after the entry, if these are the books before it
 abbrev pub row_in : Books → Entry → Row
 row_in B e = record {
   client = e.request.client;
@@ -56,7 +56,7 @@ row_in B e = record {
   commit = e.commit;
 }
 
--- what an entry asks of the ledger before it, and of its reply
+-- what an entry requires of the ledger before it, and of its reply
 abbrev pub MayBeExecuted : Books → Entry → Type 0
 MayBeExecuted B e =
     (item_count e.request.body ≤ ITEMS_MAX)
@@ -64,24 +64,24 @@ MayBeExecuted B e =
     × (e.time ≤ LAST_MOMENT)
     × IsRight (row_in B e).reply
 
--- a body was executed at a time, and what its reply says was answered; where there was no memory nothing happened
+-- a body was executed at a time, and the body of its reply was returned; if there was no memory nothing happened
 abbrev pub ExecutesBody : Result ReplyBody AllocError → Books → Body → ℕ → Books → Type 0
 ExecutesBody result B body time later = MatchResult result (λ answer. (later ≡ executed B body time) × (answer ≡ found B body time)) (λ _. later ≡ B)
 
--- an entry's request was executed, and its client's row made; where there was no memory the entry came back
+-- an entry's request was executed, and its client's row made; if there was no memory the entry is returned
 abbrev pub MakesRow : Result Row Entry → Books → Entry → Books → Type 0
 MakesRow result B e later = MatchResult result (λ row. (later ≡ executed B e.request.body e.time) × (row ≡ row_in B e)) (λ back. (back ≡ e) × (later ≡ B))
 
--- where an entry was executed, its reply was written, or a prefix of it
+-- if an entry was executed, its reply was written, or a prefix of it
 pub record DeliversReply (served : Result Delivery AllocError) (reply : Answer) (before after : Output) : Type 0 where
   pub delivery : IfOk served (λ delivery. IsDelivered delivery (reply_bytes reply) before after × IfWhole delivery (IsReply reply))
 
--- what became of a request, by what the call at its client's row answers
+-- what happened to a request, by what the call at its client's row returned
 abbrev pub served_as : Result Delivery AllocError → Served
 served_as (Ok delivery) = served.Executed delivery
 served_as (Err refused) = served.NoMemory
 
--- the server's answer to a pair that was served by its client's row; of any other its class is reported, and nothing changed
+-- the server's result for a pair that was served by its client's row; for any other pair its class is reported, and nothing changes
 abbrev pub ServesPair : Served → State → State → Pair → Output → Output → Type 0
 ServesPair (served.Executed delivery.Whole) S T p before after = AnswersPair (Ok tt) S T p before after
 ServesPair (served.Executed (delivery.Cut f)) S T p before after = AnswersPair (Err (fault.Frame f)) S T p before after
@@ -92,7 +92,7 @@ abbrev pub IfUnserved : Served → Type 0 → Type 0
 IfUnserved (served.Unserved class) P = P
 IfUnserved other P = Unit {0}
 
--- an entry was entered and written, behind a mark where one is due; or there was no memory for it, and nothing was written
+-- an entry was entered and written, after a mark if one is due; or there was no memory for it, and nothing was written
 abbrev pub DumpsEntry : Option ℕ → Result (Unit {0}) RunFault → State → State → Entry → Output → Output → Type 0
 DumpsEntry at (Ok done) S T e before after = (T ≡ step (changed_profile (marks_at at S.commit) S) e) × Sent (mark_before (marks_at at S.commit) ++ dumped e) before after
 DumpsEntry at (Err (fault.Frame f)) S T e before after = (f ≡ Device) × CutOff (mark_before (marks_at at S.commit) ++ dumped e) before after

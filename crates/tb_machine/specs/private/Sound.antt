@@ -1,11 +1,11 @@
--- What a machine keeps of its numbers: each entry took time, and each row's session began before its last reply.
+-- What holds of a machine's numbers: each entry took time, and each row's session began no later than its last reply.
 use Rattle.std.specs.Prelude.{ℕ, ◌<◌, ◌≤◌}
 use Rattle.tb_records.specs.Ordered.{Each}
 use Rattle.tb_records.specs.declared.limits.TheConstants.{LAST_MOMENT}
 use Rattle.tb_sessions.specs.declared.rows.Row.{Row}
 use Rattle.tb_machine.specs.Histories.{State}
 
--- a row of a session that began before its last reply, which was given up to a commit
+-- a row whose session began no later than its last reply, whose commit number is at most `last`
 pub record IsNumbered (last : ℕ) (row : Row) : Type 0 where
   pub began : 0 < row.session
   pub replied : row.session ≤ row.commit
