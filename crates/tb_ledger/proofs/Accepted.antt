@@ -65,7 +65,7 @@ plain_account B a ok =
     let credits_posted = same_numbers a.credits_posted 0 new.1.1.1.1.0 in
     λ i. record a { debits_pending = debits_pending i; debits_posted = debits_posted i; credits_pending = credits_pending i; credits_posted = credits_posted i; reserved = reserved i }
 
--- a transfer's groups, where it is accepted: what either kind is asked first, and what its own kind is
+-- the groups of tests of an accepted transfer: the first ones of either kind, and those of its own kind
 id_passes : (B : Books) (t : Transfer) (time : ℕ) → transfer_verdict B t time ≡ 0 → id_code B t ≡ 0
 id_passes B t time ok = (none_fails (id_code B t ∷ (if resolves t then resolve_code B t else single_code B t time) ∷ []) ok).0
 

@@ -22,7 +22,7 @@ uses_both m n a b c first then_more = record {
   keeps_failed = then_more.keeps_failed ∙ first.keeps_failed;
 }
 
--- where there is capacity for n events, there is for k more after m of them
+-- if there is capacity for n events, there is for k more after m of them
 pub has_left : (Has : ℕ → Capacity → Type 0) → ((m n : ℕ) (before after : Capacity) → Has (m + n) before → Uses m before after → Has n after)
     → (m k n : ℕ) (before after : Capacity) → m + k ≤ n → Has n before → Uses m before after → Has k after
 has_left Has leaves_rest m k n before after within has uses =
@@ -36,7 +36,7 @@ listed_spare row ts = elim (times_out row) as (λ b. ts.spare ≤ 1 + (if b then
 pub unlisted_spare : (row : TransferRow) (ts : Stored Timeout) → ts.spare ≤ (unlisted row ts).spare
 unlisted_spare row ts = elim (times_out row) as (λ b. ts.spare ≤ (if b then without_timeout (timeout_of row) ts else ts).spare) [ true ↦ omega arith | false ↦ omega arith ]
 
--- an expiry uses none
+-- an expiry uses no capacity
 pub uses_kept : {A : Type 0} (rows later : Rows A) → KeepsRecords rows later → Uses 0 (capacity_of rows) (capacity_of later)
 uses_kept rows later keeps = record {
   accounts = omega (arith, keeps.accounts_capacity);

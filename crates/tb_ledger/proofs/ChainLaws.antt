@@ -1,4 +1,4 @@
--- Chains: what a loop through one knows of the events behind it, and what is left of them.
+-- Chains: what a loop through a chain knows of the later events, and what is left of them.
 use Rattle.tb_ledger.proofs.Common.{◌≡◌, ℕ, suc, ◌+◌, ◌-◌, ◌<◌, ◌≤◌, ◌==◌, ◌&&◌, Bool, true, false, List, [], ◌∷◌, ◌++◌, length, replicate, take, drop, get_or, Option, Some, None, if◌then◌else◌, refl, sym, ap, subst, ◌∙◌, length-append, arith, nat_tests, at_drop_more, at_drop_all, length-replicate, length-drop, Books, Kind, Timed, Failure, timed_from, timed, joined, chains, chain_length, code_in_chain, failure_from, all_recorded, undone_code, undone, chain_outcome, chain_after, chains_after, batch_after, results_from}
 use Rattle.tb_ledger.proofs.CodeLaws.{results-one}
 

@@ -29,7 +29,7 @@ module _ (accounts : List AccountRow) (transfers : List TransferRow) (failed : L
   abbrev B : Books
   B = books_of accounts transfers failed keeps_failed time
 
-  -- a pending transfer's row holds where the books say so
+  -- a pending transfer's row holds if the books say so
   pub holds_stand : (t : TransferRow) → HasState transfers time t → row_holds t ≡ holds B t.recorded
   holds_stand t has = elim (pending t.recorded) as (λ b. (b ≡ true → t.state ≡ state_of B t.recorded) → (b && is_open t.state) ≡ (b && is_open (state_of B t.recorded))) [ true ↦ λ is. ap is_open (is refl) | false ↦ λ is. refl ] has.state_is
 

@@ -2,7 +2,7 @@
 use Rattle.tb_ledger.proofs.Common.{◌≡◌, Bool, true, false, cond, List, [], ◌∷◌, ◌++◌, refl, sym, ap, subst, ◌∙◌, append-nil, Each, Kind, Timed, joined, chains, in_turn, IsChain, ends_linked, AreEnded, IsCutting, CutsOneWay}
 
 module _ {E : Type 0} (kind : Kind E) where
-  -- a chain at the front, with more behind it
+  -- a chain at the front, with more after it
   front_of : (b : List (Timed E)) (later : List (Timed E)) → IsChain kind b → ends_linked kind b ≡ false → chains kind (b ++ later) ≡ b ∷ chains kind later
   front_of [] later is ended = absurd is
   front_of (x ∷ []) later is ended = rw ended refl

@@ -63,7 +63,7 @@ holds_put key known admitted es rows has row k later at here others absent is =
     (own-inserted key row (key row) es refl own) (rising-put key row (values_of es) none has.knows.table.rising)
     (known-put key (MayBeKey known) (MayBeKey admitted) (key row) row (values_of es) refl here others has.knows.may)))
 
--- a row changed in place, or none
+-- a row changed in place, or no row
 module _ {F V R : Type 0} (key : V → ℕ) (c : Mut F (MutBor V × Unit {0}) (R × (MutBor V × Unit {0}))) (keeps : KeepsKey key c) (id : ℕ) (known : AbsentIds) (m m' : Map ℕ V) (rows : List V) (has : Holds key known (entries m) rows) (f f' : F) where
   pub record Updates (o : Option R) : Type 0 where
     pub knows : KnowsAbsent key known (entries m')
@@ -79,7 +79,7 @@ module _ {F V R : Type 0} (key : V → ℕ) (c : Mut F (MutBor V × Unit {0}) (R
   updates None ch none =
       record { knows = rw none.2 has.knows; changed = tt; absent = (sym (found_in key known (entries m) rows has id) ∙ none.0, rw none.2 has.is) }
 
--- two rows changed in place, or none
+-- two rows changed in place, or no row
 module _ {F V R : Type 0} (key : V → ℕ) (c : Mut F (MutBor V × (MutBor V × Unit {0})) (R × (MutBor V × (MutBor V × Unit {0})))) (keeps : KeepsKeys key c) (a b : ℕ) (known : AbsentIds) (m m' : Map ℕ V) (rows : List V) (has : Holds key known (entries m) rows) (f f' : F) where
   pub record UpdatesTwo (o : Option R) : Type 0 where
     pub knows : KnowsAbsent key known (entries m')
@@ -144,7 +144,7 @@ first-later time e (x ∷ es) ordered is later =
     let here : time < x.0.0 = rw same later in
     (here, each-both (λ d. timeout_key (timeout_at x) < timeout_key d) (λ d. d.id ≤ AMOUNT_MAX) (λ d. time < d.at) (timeouts_of es) (λ d above fits. omega arith) ordered.rising.0 ordered.fit.1)
 
--- pairs of numbers compare as one number does, where the second part fits
+-- pairs of numbers compare as one number does, if the second part fits
 pub pair-number : (a b c d : ℕ) → b ≤ AMOUNT_MAX → d ≤ AMOUNT_MAX → ordering_then (nat_cmp a c) (nat_cmp b d) ≡ nat_cmp (timeout_key (record { at = a; id = b })) (timeout_key (record { at = c; id = d }))
 pair-number a b c d b_fits d_fits = by (ltb a c) refl (eqb a c) refl (ltb b d) refl (eqb b d) refl (ltb x y) refl (eqb x y) refl
   where
@@ -177,7 +177,7 @@ pub timeouts-agree : {V : Type 0} (k : ℕ × ℕ) (es : List ((ℕ × ℕ) × V
 timeouts-agree k es fits all = each-map (λ e. (timeout_at e).id ≤ AMOUNT_MAX) (Agrees (λ x y. ordering_then (nat_cmp x.0 y.0) (nat_cmp x.1 y.1)) timeout_at timeout_key k (timeout_key (record { at = k.0; id = k.1 }))) es
     (λ e its. pair-number k.0 k.1 e.0.0 e.0.1 fits its) (each-back (λ d. d.id ≤ AMOUNT_MAX) timeout_at es all)
 
--- a search that met no node was among none
+-- a search that visited no node had no nodes
 pub no_visits : {V : Type 0} (cmp : ℕ → Ordering) (tree : Search (ℕ × V)) → path_length cmp tree ≡ 0 → length (values_of (entries_of tree)) ≡ 0
 no_visits cmp leaf is = refl
 no_visits cmp (fork l e r) is = absurd (omega (arith, is))

@@ -111,7 +111,7 @@ pub ahead_marked : (T : ℕ) (records : List Transfer) (p : TransferRow) (transf
 ahead_marked T records p transfers marked found lapsed is ahead =
     rw is (each-replaced_all transfer_row_key (WillBe T records) (settled Expired p) transfers (marked_will T records p lapsed (each-find (WillBe T records) (λ q. transfer_row_key q == transfer_row_key p) p transfers ahead found)) ahead)
 
--- the ledger at a later time, where pending transfers have ended
+-- the ledger at a later time, after pending transfers have ended
 pub books_then : {A : Type 0} (rows later : Rows A) → KeepsRecords rows later → books_in later ≡ record (books_in rows) { time = later.time }
 books_then rows later keeps = λ i. record { accounts = keeps.accounts i; transfers = keeps.transfers i; failed = (if keeps.keeps_failed i then Some ((keeps.failed i).items) else None); time = later.time }
 

@@ -1,4 +1,4 @@
--- The index of expiries, where a transfer comes and where one holds no more.
+-- The index of expiries when a transfer is added and when one no longer holds.
 use Rattle.tb_ledger.proofs.Common.{◌≡◌, ◌≢◌, ℕ, ◌+◌, ◌-◌, ◌<◌, ◌≤◌, Bool, true, false, cond, not, ◌&&◌, eqb, ltb, leb, ◌==◌, if◌then◌else◌, List, [], ◌∷◌, length, find, Some, None, refl, sym, ap, subst, ◌∙◌, arith, nat_tests, put, replaced, taken_out, Each, Rising, each-map, each-both, each-find, each-put, each-replaced, each-all, none-found, find-put_here, find-put_other, find-replaced_other, taken_out-put, rising-put, rising-taken_out, each-taken_out, State, TransferRow, Timeout, pending, is_open, expires_at, timeout_key, AreTimeouts, freed, with_timeout, without_timeout, transfer_row_key, times_out, lapses, settled, timeout_of, listed, unlisted, IsListed, IsTimeout, IsIndex, CanList, Stored, AMOUNT_MAX}
 
 -- records taken out and put back
@@ -224,7 +224,7 @@ module _ (transfers : List TransferRow) (ts : Stored Timeout) (index : IsIndex t
                     let ids : timeout_of y ≡ timeout_of p = cc in
                     absurd (differs (ap (λ d. d.id) ids))
 
-  -- where no timeout is due, no transfer lapses
+  -- if no timeout is due, no transfer lapses
   pub none_lapses : (time : ℕ) → Each (λ d. time < d.at) ts.items → Each (λ r. lapses time r ≡ false) transfers
   none_lapses time later = each-map (λ r. times_out r ≡ true → IsListed ts.items r) (λ r. lapses time r ≡ false) transfers waits index.all_listed
     where

@@ -2,7 +2,7 @@
 use Rattle.tb_ledger.proofs.Common.{◌≡◌, ℕ, ◌+◌, ◌<◌, Bool, true, false, ◌&&◌, cond, if◌then◌else◌, eqb, ◌==◌, List, [], ◌∷◌, find, sum_by, Some, option_map, refl, sym, ap, ◌∙◌, arith, nat_tests, sum_by-cons, Account, Transfer, Each, Rising, sum_by-through, each-map, Books, holds, moves, as_it_stands, debit, credit, account_key, ledger_at, Sound, Balances}
 use Rattle.tb_ledger.proofs.Sums.{sum_by-none, sum_by-equal, sum_by-add}
 
--- what an account of a ledger has of a transfer that names the account k, where q
+-- the part of a transfer of the account k that an account of a ledger has, if q
 abbrev pub part : ℕ → ℕ → Bool → ℕ → Account → ℕ
 part ledger k q n a = if a.ledger == ledger then (if (k == a.id) && q then n else 0) else 0
 

@@ -3,7 +3,7 @@ use Rattle.tb_ledger.proofs.Common.{◌≡◌, ℕ, ◌+◌, ◌<◌, ◌≤◌,
 use Rattle.tb_ledger.proofs.CodeLaws.{results-append, length-results_from}
 use Rattle.tb_ledger.proofs.ChainLaws.{length-batch, chains-cut}
 
--- at most a result for each event
+-- at most one result for each event
 pub length-results : {E : Type 0} (kind : Kind E) (B : Books) (events : List E) (T : ℕ) → length (results (batch_after kind B events T).codes) ≤ length events
 length-results kind B events T = omega (arith, length-results_from 0 (batch_after kind B events T).codes, length-batch kind B events T)
 

@@ -2,7 +2,7 @@
 use Rattle.tb_ledger.proofs.Common.{◌≡◌, ℕ, ◌==◌, Bool, true, if◌then◌else◌, List, [], find, Some, None, refl, sym, subst, ap, ◌∙◌, arith, put, Rising, rising-put, AccountRow, TransferRow, Timeout, Rows, capacity_of, Uses, books_in, books_of, AreRowsKept, AreLedgerRows, Noted, chained, unwound, IsUndoneTo, LeadsBack}
 use Rattle.tb_ledger.proofs.SoundLaws.{sound_failed}
 
--- rows that are as others were, but for spare rows that n events may have used
+-- rows that are as others were, except for spare rows that n events may have used
 pub record AreBack {A : Type 0} (n : ℕ) (start later : Rows A) : Type 0 where
   pub kept : AreRowsKept later
   pub books : books_in later ≡ books_in start

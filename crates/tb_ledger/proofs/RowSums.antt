@@ -95,7 +95,7 @@ module _ (side : Transfer → ℕ) (closes : Transfer → Bool) (transfers : Lis
           fit = has.fit;
         }
 
-  -- a transfer is recorded; where it is pending, it holds
+  -- a transfer is recorded; if it is pending, it holds
   module _ (t : Transfer) where
     abbrev row : TransferRow
     row = record { recorded = t; state = Open }

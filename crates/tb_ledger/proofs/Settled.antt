@@ -167,7 +167,7 @@ module _ {A : Type 0} (rows : Rows A) (ledger : AreRowsKept rows) where
     fresh_still = no_row transfer_key (λ t. t.recorded) r.id left
         (ap (find (λ t. transfer_key t == r.id)) (map-replaced transfer_row_key (λ t. t.recorded) (settled (state_given_by r) p) p rows.transfers.items by_key refl) ∙ it.fresh)
 
-    -- its timeout leaves the index, and a post or void brings none
+    -- its timeout leaves the index, and a post or void adds no timeout
     pub listed_before : times_out p ≡ true → IsListed rows.timeouts.items p
     listed_before = each-find (λ t. times_out t ≡ true → IsListed rows.timeouts.items t) (λ q. q.recorded.id == r.pending_id) p rows.transfers.items ledger.index.all_listed it.found
 

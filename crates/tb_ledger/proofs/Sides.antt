@@ -123,7 +123,7 @@ module _ (side other : Transfer → ℕ) (limited : Account → Bool) where
     abbrev with_it : Books
     with_it = record B { transfers = put transfer_key r B.transfers }
 
-    -- the sum of what moved grows by it, where it moves
+    -- the posted sum grows by the amount if the transfer moves it
     pub posted_more : (id : ℕ) → posted_on side with_it id ≡ (if (side r == id) && moves r then r.amount else 0) + posted_on side B id
     posted_more id = sum_by-put transfer_key (λ t. if (side t == id) && moves t then t.amount else 0) r B.transfers
 
@@ -165,7 +165,7 @@ module _ (side other : Transfer → ℕ) (limited : Account → Bool) where
     at_most true n m le = le
     at_most false n m le = omega arith
 
-    -- both sums where it fits
+    -- both sums if it fits
     pub kept_added : ledger_at B.accounts (side r) ≡ Some r.ledger
         → pending_on side B (side r) + posted_on side B (side r) + r.amount ≤ AMOUNT_MAX
         → ((a : Account) → account_at B (side r) ≡ Some a → limited a ≡ true → pending_on side B (side r) + posted_on side B (side r) + r.amount ≤ posted_on other B (side r))

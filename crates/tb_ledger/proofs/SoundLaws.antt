@@ -1,4 +1,4 @@
--- Sound books stay sound: at each event, at each entry, at each batch. Of sound books sums fit, limits hold, ledgers balance.
+-- Sound books stay sound: at each event, at each entry, at each batch. In sound books sums fit, limits hold, ledgers balance.
 use Rattle.tb_ledger.proofs.Common.{◌≡◌, ◌≢◌, ℕ, ◌≤◌, Bool, true, false, if◌then◌else◌, ◌==◌, List, [], Option, Some, None, option_map, refl, sym, ap, subst, ◌∙◌, arith, option_map_or, Account, Transfer, Profile, One, Two, put, found_key, rising-put, each-put, each-find, Books, empty_books, debits_limited, credits_limited, resolves, stands_closed, account_at, account_now, as_it_stands, transfer_at, debit, credit, account_verdict, recorded_account, transfer_verdict, recorded_transfer, filled, filled_from, balanced_between, account_events, transfer_events, is_final, batch_after, account_key, transfer_key, ledger_at, Sound, KeepsLimits, Balances, FoundPending}
 use Rattle.tb_ledger.proofs.Accepted.{flag_stays, new_account, found_pair, found_pending, found_stamped}
 use Rattle.tb_ledger.proofs.Sides.{kept_later, kept_account, kept_added, kept_resolved}

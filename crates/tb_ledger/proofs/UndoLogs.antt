@@ -30,7 +30,7 @@ leads_by us more u x later pushed back can = record {
 pub leads_both : (x y z : Chained) (us vs ws : List Undo) → LeadsBack x y us vs → LeadsBack y z vs ws → LeadsBack x z us ws
 leads_both x y z us vs ws first second = record { undone = second.undone ∙ first.undone; can_unwind = λ can. second.can_unwind (first.can_unwind can) }
 
--- one change more is noted, or none is
+-- one more change is noted, or no change
 pub grown_by : {back : List Undo → List Undo → Type 0} (u : Undo) (undo_log grown : Noted) → grown ≡ with_noted u undo_log → (grown.changes ≡ undo_log.changes ++ u ∷ [] → back undo_log.changes grown.changes) → GrowsUndoLog 1 back undo_log grown
 grown_by {back = back} u undo_log grown is leads = by undo_log.noting refl is
   where

@@ -92,12 +92,12 @@ closed_by_rows rows kept t p d c d_is c_is code is =
     let credit = closed_stands_at rows kept p.credit_account_id ∙ ap (λ o. option_map_or row_closed o false) c_is in
     is ∙ sym (ap (λ b. first_of (closed_tests t b (closed_at (books_in rows) p.credit_account_id))) debit ∙ ap (λ b. first_of (closed_tests t (row_closed d) b)) credit)
 
--- tests behind the first
+-- the tests after the first
 abbrev later : List Test → List Test
 later [] = []
 later (test ∷ tests) = tests
 
--- the state counts only where the transfer is pending
+-- the state counts only if the transfer is pending
 named_same : (t p : Transfer) (s s' : State) → (pending p ≡ true → s ≡ s') → first_of (named_tests t p s) ≡ first_of (named_tests t p s')
 named_same t p s s' same = elim (pending p) as (λ b. (b ≡ true → s ≡ s') → (if not b then 26 else first_of (later (named_tests t p s))) ≡ (if not b then 26 else first_of (later (named_tests t p s')))) [ true ↦ λ same. ap (λ s. first_of (later (named_tests t p s))) (same refl) | false ↦ λ same. refl ] same
 

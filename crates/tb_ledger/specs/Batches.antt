@@ -1,4 +1,4 @@
--- Chains and batches: a chain happens whole or not at all.
+-- Chains and batches: a chain is applied as a whole or not at all.
 use Rattle.std.specs.Prelude.{ℕ, suc, Bool, not, ◌==◌, ◌≡◌, ◌+◌, ◌-◌, refl, List, [], ◌∷◌, ◌++◌, map, filter, length, replicate, Option, Some, None, if◌then◌else◌}
 use Rattle.std.specs.List.{list_any, enumerate_from}
 use Rattle.std.specs.Option.{option_map}
@@ -18,7 +18,7 @@ use Rattle.tb_records.specs.Ordered.{put}
 use Rattle.tb_ledger.specs.Books.{Books}
 use Rattle.tb_ledger.specs.Verdicts.{account_verdict, recorded_account, transfer_verdict, recorded_transfer}
 
--- a kind of event: is it linked to the next, its verdict, and the books after it is recorded or refused
+-- a kind of event: whether it is linked to the next, its verdict, and the books after it is recorded or refused
 pub record Kind (E : Type 0) : Type 0 where
   pub linked : E → Bool
   pub verdict : Books → E → ℕ → ℕ
@@ -33,7 +33,7 @@ account_events = record {
   refused = λ B a code. B;
 }
 
--- verdicts that a transfer's id doesn't outlive, by profile 2
+-- verdicts after which a transfer's id stays refused, by profile 2
 abbrev pub final_results : List CreateTransferResult
 final_results =
     DebitAccountNotFound
@@ -56,7 +56,7 @@ transfer_events = record {
   refused = λ B t code. if is_final code then record B { failed = option_map (put (λ id. id) t.id) B.failed } else B;
 }
 
--- an event's code where another of its chain failed, and where the batch ends within its chain
+-- an event's code if another event of its chain failed, and its code if the batch ends within its chain
 abbrev pub chain_failed : ℕ
 chain_failed = transfer_result_code LinkedEventFailed
 
@@ -67,7 +67,7 @@ chain_open = transfer_result_code LinkedEventChainOpen
 abbrev pub Timed : Type 0 → Type 0
 Timed E = E × ℕ
 
--- the first event of a chain that isn't accepted
+-- the first event of a chain that is not accepted
 pub record Failure (E : Type 0) : Type 0 where
   pub place : ℕ
   pub event : E
@@ -88,7 +88,7 @@ abbrev pub timed : {E : Type 0} → ℕ → List E → List (Timed E)
 timed T events = timed_from (T + 1 - length events) events
 
 module _ {E : Type 0} (kind : Kind E) where
-  -- the chains: each but its last event is linked, and only the last chain may end linked
+  -- the chains: in each all events except the last are linked, and only the last chain may end linked
   abbrev pub joined : Timed E → List (List (Timed E)) → List (List (Timed E))
   joined x [] = (x ∷ []) ∷ []
   joined x (chain ∷ chains) = (x ∷ chain) ∷ chains
@@ -102,12 +102,12 @@ module _ {E : Type 0} (kind : Kind E) where
   chain_length [] = 0
   chain_length (e ∷ es) = if kind.linked e then suc (chain_length es) else 1
 
-  -- an event and what comes after it in its chain: linked with nothing after it, the chain is open
+  -- an event and what comes after it in its chain: if it is linked and nothing follows, the chain is open
   abbrev pub code_in_chain : Books → Timed E → List (Timed E) → ℕ
   code_in_chain B x [] = if kind.linked x.0 then chain_open else kind.verdict B x.0 x.1
   code_in_chain B x _ = kind.verdict B x.0 x.1
 
-  -- the first event that isn't accepted after those before it
+  -- the first event that is not accepted after those before it
   abbrev pub failure_from : ℕ → Books → List (Timed E) → Option (Failure E)
   failure_from place B [] = None
   failure_from place B (x ∷ xs) =
@@ -120,7 +120,7 @@ module _ {E : Type 0} (kind : Kind E) where
   all_recorded B [] = B
   all_recorded B (x ∷ xs) = all_recorded (kind.recorded B x.0 x.1) xs
 
-  -- the code of an event that another event's failure undoes, and of all that come after
+  -- the code of an event that another event's failure undoes, and the codes of all events after it
   abbrev pub undone_code : Timed E → List (Timed E) → ℕ
   undone_code x [] = if kind.linked x.0 then chain_open else chain_failed
   undone_code x _ = chain_failed
@@ -151,12 +151,12 @@ module _ {E : Type 0} (kind : Kind E) where
   abbrev pub batch_after : Books → List E → ℕ → Outcome
   batch_after B events T = chains_after (record B { time = T }) (chains (timed T events))
 
--- the reply: index and code of each event whose code isn't 0
+-- the reply: index and code of each event whose code is not 0
 abbrev pub results : List ℕ → List EventResult
 results codes = map (λ x. record { index = x.0; result = x.1 }) (filter (λ x. not (x.1 == 0)) (enumerate_from 0 codes))
 
--- rows
+-- examples
 
--- the results of accounts have these two codes too
+-- the results of accounts also have these two codes
 pub one_code_for_both : (account_result_code account_results.LinkedEventFailed ≡ chain_failed) × (account_result_code account_results.LinkedEventChainOpen ≡ chain_open)
 one_code_for_both = (refl, refl)

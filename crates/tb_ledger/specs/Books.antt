@@ -1,4 +1,4 @@
--- The books of a ledger, and what is read from them. Records never change, and no number here is kept: each is added up afresh.
+-- The books of a ledger, and what is read from them. Records never change, and no sum is stored: each is computed from the records.
 use Rattle.std.specs.Prelude.{ℕ, Bool, true, false, not, ◌&&◌, ◌||◌, ◌==◌, ◌+◌, ◌*◌, nat_le, List, [], Option, Some, None, if◌then◌else◌, find, sum_by, bit_or}
 use Rattle.std.specs.List.{list_any, filter_map}
 use Rattle.std.specs.Option.{option_map}
@@ -17,7 +17,7 @@ use Rattle.tb_ledger.specs.declared.tables.transfers.State.TheVariants.{Open, Po
 pub record Books : Type 0 where
   pub accounts : List Account  -- as created, by rising id
   pub transfers : List Transfer  -- as recorded, by rising id
-  pub failed : Option (List ℕ)  -- ids of transfers that failed for good, by rising id; none are kept by profile 1
+  pub failed : Option (List ℕ)  -- ids of transfers that failed permanently, by rising id; profile 1 keeps none
   pub time : ℕ  -- of the last entry, in nanoseconds
 
 -- the books of a new ledger
@@ -25,7 +25,7 @@ abbrev pub empty_books : Profile → Books
 empty_books One = record { accounts = []; transfers = []; failed = None; time = 0 }
 empty_books Two = record { accounts = []; transfers = []; failed = Some []; time = 0 }
 
--- the profile that books go by
+-- the profile of books
 abbrev pub profile_by : Option (List ℕ) → Profile
 profile_by None = One
 profile_by (Some ids) = Two
@@ -45,7 +45,7 @@ debits_limited a = account_has account.DebitsMustNotExceedCredits a
 abbrev pub credits_limited : Account → Bool
 credits_limited a = account_has account.CreditsMustNotExceedDebits a
 
--- of an account as it is now: it is closed
+-- an account as it is now is closed
 abbrev pub closed : Account → Bool
 closed a = account_has account.Closed a
 
@@ -79,7 +79,7 @@ closing_credit t = transfer_has transfer.ClosingCredit t
 abbrev pub closing : Transfer → Bool
 closing t = closing_debit t || closing_credit t
 
--- what is there
+-- existing records
 
 abbrev pub account_at : Books → ℕ → Option Account
 account_at B id = find (λ a. a.id == id) B.accounts
@@ -126,11 +126,11 @@ is_expired _ = false
 abbrev pub holds : Books → Transfer → Bool
 holds B t = pending t && is_open (state_of B t)
 
--- a transfer that moves money for good
+-- a transfer that posts its amount
 abbrev pub moves : Transfer → Bool
 moves t = not (pending t) && not (voids t)
 
--- the amounts of the transfers that count, of those with the account id on a side
+-- the sum of the amounts of the transfers that count and have the account id on a side
 abbrev pub sum_on : (Transfer → ℕ) → (Transfer → Bool) → Books → ℕ → ℕ
 sum_on side counts B id = sum_by (λ t. if (side t == id) && counts t then t.amount else 0) B.transfers
 

@@ -1,4 +1,4 @@
--- What it is to cut a batch into its chains.
+-- How a batch is cut into its chains.
 use Rattle.std.specs.Prelude.{◌≡◌, ◌↔◌, Bool, true, false, List, [], ◌∷◌, ◌++◌}
 use Rattle.tb_records.specs.Ordered.{Each}
 use Rattle.tb_ledger.specs.Batches.{Kind, Timed, chains}
@@ -9,7 +9,7 @@ in_turn [] = []
 in_turn (chain ∷ rest) = chain ++ in_turn rest
 
 module _ {E : Type 0} (kind : Kind E) where
-  -- a chain isn't empty, and all its events but the last are linked
+  -- a chain is not empty, and all its events except the last are linked
   abbrev pub IsChain : List (Timed E) → Type 0
   IsChain [] = ⊥
   IsChain (x ∷ []) = Unit {0}
@@ -21,7 +21,7 @@ module _ {E : Type 0} (kind : Kind E) where
   ends_linked (x ∷ []) = kind.linked x.0
   ends_linked (x ∷ y ∷ ys) = ends_linked (y ∷ ys)
 
-  -- the last event of each chain but the final one isn't linked
+  -- the last event of each chain except the final one is not linked
   abbrev pub AreEnded : List (List (Timed E)) → Type 0
   AreEnded [] = Unit {0}
   AreEnded (chain ∷ []) = Unit {0}
@@ -33,6 +33,6 @@ module _ {E : Type 0} (kind : Kind E) where
     pub are_chains : Each IsChain cutting
     pub are_ended : AreEnded cutting
 
-  -- the only one
+  -- it is the only one
   abbrev pub CutsOneWay : Type 0
   CutsOneWay = (events : List (Timed E)) (cutting : List (List (Timed E))) → IsCutting events cutting ↔ (cutting ≡ chains kind events)

@@ -1,4 +1,4 @@
--- What the ledger keeps of the books, and that it is what the books say.
+-- What the ledger stores for the books, and that it agrees with the books.
 use Rattle.std.specs.Prelude.{ℕ, Bool, true, false, not, ◌≡◌, ◌<◌, ◌≤◌, ◌+◌, ◌-◌, ◌&&◌, ◌||◌, ◌==◌, List, [], map, sum_by, if◌then◌else◌, find, IsSome, bit_or, Some, None}
 use Rattle.tb_records.specs.declared.limits.TheConstants.{NANOSECONDS_PER_SECOND, AMOUNT_MAX, LAST_MOMENT}
 use Rattle.tb_records.specs.declared.records.Account.{Account}
@@ -23,7 +23,7 @@ account_row_key a = a.created.id
 abbrev pub transfer_row_key : TransferRow → ℕ
 transfer_row_key t = t.recorded.id
 
--- the books that are kept: by profile 2 with the failed ids
+-- the books that are stored: by profile 2 with the failed ids
 abbrev pub books_of : List AccountRow → List TransferRow → List ℕ → Bool → ℕ → Books
 books_of accounts transfers failed keeps_failed time = record {
   accounts = map (λ a. a.created) accounts;
@@ -35,7 +35,7 @@ books_of accounts transfers failed keeps_failed time = record {
 abbrev pub books_in : {A : Type 0} → Rows A → Books
 books_in rows = books_of rows.accounts.items rows.transfers.items rows.failed.items rows.keeps_failed rows.time
 
--- of the books, what the states of transfers are read from
+-- the part of the books from which the states of transfers are read
 abbrev pub books_at : List TransferRow → ℕ → Books
 books_at transfers time = books_of [] transfers [] false time
 
@@ -61,7 +61,7 @@ row_holds t = pending t.recorded && is_open t.state
 abbrev pub bit : Bool → ℕ
 bit b = if b then 1 else 0
 
--- what a transfer gives to a side of the account id
+-- what a transfer adds to a side of the account id
 abbrev pub pending_share : (Transfer → ℕ) → ℕ → TransferRow → ℕ
 pending_share side id t = share side id t.recorded (row_holds t)
 
@@ -71,14 +71,14 @@ posted_share side id t = share side id t.recorded (moves t.recorded)
 abbrev pub closing_share : (Transfer → ℕ) → (Transfer → Bool) → ℕ → TransferRow → ℕ
 closing_share side closes id t = if (side t.recorded == id) && (row_holds t && closes t.recorded) then 1 else 0
 
--- a side of the account id: its sums, and whether a transfer holds it closed (then one does)
+-- a side of the account id: its sums, and whether a transfer holds it closed (at most one does)
 pub record HasSide (side : Transfer → ℕ) (closes : Transfer → Bool) (transfers : List TransferRow) (id : ℕ) (s : Side) : Type 0 where
   pub pending : s.pending ≡ sum_by (pending_share side id) transfers
   pub posted : s.posted ≡ sum_by (posted_share side id) transfers
   pub held_closed : bit s.held_closed ≡ sum_by (closing_share side closes id) transfers
   pub fit : s.pending + s.posted ≤ AMOUNT_MAX
 
--- the debit side by some rows, the credit side by others: between two changes of a pair
+-- the debit side by some rows, the credit side by others: the state between the two changes of a pair
 pub record HasBoth (ds cs : List TransferRow) (a : AccountRow) : Type 0 where
   pub debits : HasSide debit closing_debit ds a.created.id a.debits
   pub credits : HasSide credit closing_credit cs a.created.id a.credits
@@ -86,7 +86,7 @@ pub record HasBoth (ds cs : List TransferRow) (a : AccountRow) : Type 0 where
 abbrev pub HasSums : List TransferRow → AccountRow → Type 0
 HasSums transfers a = HasBoth transfers transfers a
 
--- a pending transfer's state is that of the books, and what a post or void names is there
+-- a pending transfer's state is that of the books, and the transfer that a post or void names exists
 pub record HasState (transfers : List TransferRow) (time : ℕ) (t : TransferRow) : Type 0 where
   pub state_is : pending t.recorded ≡ true → t.state ≡ state_of (books_at transfers time) t.recorded
   pub named : resolves t.recorded ≡ true → IsSome (find (λ p. p.recorded.id == t.recorded.pending_id) transfers)
@@ -95,14 +95,14 @@ pub record AreKept (accounts : List AccountRow) (transfers : List TransferRow) (
   pub sums : Each (HasSums transfers) accounts
   pub states : Each (HasState transfers time) transfers
 
--- a transfer that holds until its timeout ends it, or it is resolved
+-- a transfer that holds until it is resolved or its timeout ends it
 abbrev pub times_out : TransferRow → Bool
 times_out t = row_holds t && not (t.recorded.timeout == 0)
 
 abbrev pub timeout_of : TransferRow → Timeout
 timeout_of t = record { at = expires_at t.recorded; id = t.recorded.id }
 
--- its timeout is among others
+-- its timeout is in the list
 pub record IsListed (timeouts : List Timeout) (t : TransferRow) : Type 0 where
   pub in_range : expires_at t.recorded ≤ LAST_MOMENT
   pub there : find (λ d. timeout_key d == timeout_key (timeout_of t)) timeouts ≡ Some (timeout_of t)
@@ -114,20 +114,20 @@ pub record IsTimeout (transfers : List TransferRow) (d : Timeout) : Type 0 where
   pub is_timed : times_out t ≡ true
   pub same : timeout_of t ≡ d
 
--- the index of expiries: a timeout for each transfer that times out, and for no other, in order
+-- the index of expiries: exactly a timeout for each transfer that times out, in order
 pub record IsIndex (transfers : List TransferRow) (timeouts : List Timeout) : Type 0 where
   pub all_listed : Each (λ t. times_out t ≡ true → IsListed timeouts t) transfers
   pub all_timed : Each (IsTimeout transfers) timeouts
   pub ordered : AreTimeouts timeouts
 
--- timeouts and their spare rows, with that of t where it times out, and without it
+-- timeouts and their spare rows, with that of t if it times out, and without it
 abbrev pub listed : TransferRow → Stored Timeout → Stored Timeout
 listed t ts = if times_out t then with_timeout (timeout_of t) ts else ts
 
 abbrev pub unlisted : TransferRow → Stored Timeout → Stored Timeout
 unlisted t ts = if times_out t then without_timeout (timeout_of t) ts else ts
 
--- where t times out, there is capacity for its timeout, which isn't there
+-- if t times out, there is capacity for its timeout, which is not in the list
 pub record CanList (t : TransferRow) (ts : Stored Timeout) : Type 0 where
   pub in_range : expires_at t.recorded ≤ LAST_MOMENT
   pub capacity : 0 < ts.spare
@@ -149,11 +149,11 @@ pub record AreLedgerRows (accounts : List AccountRow) (transfers : List Transfer
 abbrev pub AreRowsKept : {A : Type 0} → Rows A → Type 0
 AreRowsKept rows = AreLedgerRows rows.accounts.items rows.transfers.items rows.failed.items rows.keeps_failed rows.timeouts.items rows.time
 
--- of a transfer with this stamp no timeout has passed yet, since the shortest one is a second
+-- no timeout of a transfer with this stamp has passed yet, because the shortest timeout is a second
 abbrev pub PrecedesTimeouts : {A : Type 0} → Rows A → ℕ → Type 0
 PrecedesTimeouts rows stamp = rows.time < stamp + NANOSECONDS_PER_SECOND
 
--- the changes of a side: a transfer comes, and the amount of a pending one leaves
+-- the changes of a side: a transfer is added, and the amount of a pending one is removed
 
 abbrev pub gained : (Transfer → Bool) → Transfer → Side → Side
 gained closes t s = record {
@@ -165,7 +165,7 @@ gained closes t s = record {
 abbrev pub released : (Transfer → Bool) → Transfer → Side → Side
 released closes p s = record { pending = s.pending - p.amount; posted = s.posted; held_closed = s.held_closed && not (closes p) }
 
--- p leaves, and r, which resolves it, comes
+-- p is removed, and r, which resolves it, is added
 abbrev pub released_and_gained : (Transfer → Bool) → Transfer → Transfer → Side → Side
 released_and_gained closes p r s = gained closes r (released closes p s)
 
@@ -187,7 +187,7 @@ accounts_released p accounts = changed account_row_key p.credit_account_id (on_c
 abbrev pub accounts_released_and_gained : Transfer → Transfer → List AccountRow → List AccountRow
 accounts_released_and_gained p r accounts = changed account_row_key r.credit_account_id (on_credits (released_and_gained closing_credit p r)) (changed account_row_key r.debit_account_id (on_debits (released_and_gained closing_debit p r)) accounts)
 
--- the row of a new transfer: where it is pending, it is open
+-- the row of a new transfer: if it is pending, it is open
 abbrev pub new_transfer_row : Transfer → TransferRow
 new_transfer_row t = record { recorded = t; state = Open }
 
@@ -195,11 +195,11 @@ new_transfer_row t = record { recorded = t; state = Open }
 abbrev pub state_given_by : Transfer → State
 state_given_by r = if posts r then Posted else Voided
 
--- a side can take t: the sums fit, and where t closes it, nothing holds it closed
+-- a side can take t: the sums fit, and if t closes it, nothing holds it closed
 abbrev pub CanTake : (Transfer → Bool) → Transfer → Side → Type 0
 CanTake closes t s = (s.pending + s.posted + t.amount ≤ AMOUNT_MAX) × ((pending t && closes t) ≡ true → s.held_closed ≡ false)
 
--- an account without sums and without what is reserved, as each one is created
+-- an account without sums and reserved bytes, as each one is created
 abbrev pub blank : Account → Account
 blank a = record a { debits_pending = 0; debits_posted = 0; credits_pending = 0; credits_posted = 0; reserved = 0 }
 

@@ -13,16 +13,17 @@ pub record IsHeld (B : Books) (p : Transfer) : Type 0 where
   pub unresolved : Each (λ r. resolves r ≡ true → r.pending_id ≢ p.id) B.transfers
   pub in_time : p.timeout ≢ 0 → B.time < expires_at p
 
--- just these count in the pending sums
+-- exactly these count in the pending sums
 abbrev pub HeldWhileOpen : Type 0
 HeldWhileOpen = (B : Books) (p : Transfer) → (holds B p ≡ true) ↔ IsHeld B p
 
--- on one side of the accounts: the record f of a post or void of p takes p's whole amount out of the pending sum, and that of a post puts its own into the posted one
+-- on one side of the accounts: the record f of a post or void of p removes p's whole amount from the pending sum, and that of a post adds its own
+-- amount to the posted sum
 pub record SettlesSide (side : Transfer → ℕ) (B : Books) (f p : Transfer) : Type 0 where
   pub pending_leaves : (id : ℕ) → pending_on side (record B { transfers = put transfer_key f B.transfers }) id + (if side p == id then p.amount else 0) ≡ pending_on side B id
   pub posted_comes : (id : ℕ) → posted_on side (record B { transfers = put transfer_key f B.transfers }) id ≡ posted_on side B id + (if (side p == id) && posts f then f.amount else 0)
 
--- the post or void t is accepted, and r is its record: the pending transfer that t names is there and holds, and r settles it on both sides
+-- the post or void t is accepted, and r is its record: the pending transfer that t names exists and holds, and r settles it on both sides
 pub record SettlesNamed (B : Books) (t r : Transfer) : Type 0 where
   pub p : Transfer
   pub named : transfer_at B t.pending_id ≡ Some p
@@ -30,6 +31,6 @@ pub record SettlesNamed (B : Books) (t r : Transfer) : Type 0 where
   pub debits : SettlesSide debit B r p
   pub credits : SettlesSide credit B r p
 
--- every post or void that is accepted, as it is recorded
+-- every accepted post or void, as it is recorded
 abbrev pub SettlesBoth : Type 0
 SettlesBoth = (B : Books) (t : Transfer) (time : ℕ) → IdsRise B → resolves t ≡ true → transfer_verdict B t time ≡ 0 → SettlesNamed B t (recorded_transfer B t time)

@@ -10,7 +10,7 @@ debit t = t.debit_account_id
 abbrev pub credit : Transfer → ℕ
 credit t = t.credit_account_id
 
--- what a transfer gives to a sum of the account id on a side
+-- what a transfer adds to a sum of the account id on a side
 abbrev pub share : (Transfer → ℕ) → ℕ → Transfer → Bool → ℕ
 share side id t counts = if (side t == id) && counts then t.amount else 0
 

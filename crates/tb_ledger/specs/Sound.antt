@@ -1,4 +1,4 @@
--- What all books of a ledger keep: each transfer's two accounts are there, each account's sums fit and keep to its limits.
+-- What holds of all books of a ledger: each transfer's two accounts exist, each account's sums fit and respect its limits.
 use Rattle.std.specs.Prelude.{◌≡◌, ◌≢◌, ℕ, Bool, true, ◌==◌, ◌+◌, ◌≤◌, List, Option, Some, find}
 use Rattle.std.specs.Option.{option_map}
 use Rattle.tb_records.specs.declared.records.Account.{Account}
@@ -8,30 +8,30 @@ use Rattle.tb_records.specs.declared.limits.TheConstants.{AMOUNT_MAX}
 use Rattle.tb_ledger.specs.Books.{Books, debits_limited, credits_limited, account_at}
 use Rattle.tb_ledger.specs.Sides.{debit, credit, pending_on, posted_on}
 
--- the keys by which accounts and transfers are in order
+-- the keys by which accounts and transfers are ordered
 abbrev pub account_key : Account → ℕ
 account_key a = a.id
 
 abbrev pub transfer_key : Transfer → ℕ
 transfer_key t = t.id
 
--- ids rise in the books: each is there once, of accounts, of transfers, and of failed ids where these are kept
+-- ids rise in the books: each is unique among accounts, among transfers, and among failed ids if these are kept
 pub record IdsRise (B : Books) : Type 0 where
   pub accounts : Rising account_key B.accounts
   pub transfers : Rising transfer_key B.transfers
   pub failed : (ids : List ℕ) → B.failed ≡ Some ids → Rising (λ id. id) ids
 
--- the ledger of the account of an id, if it is there
+-- the ledger of the account with this id, if it exists
 abbrev pub ledger_at : List Account → ℕ → Option ℕ
 ledger_at accounts id = option_map (λ a. a.ledger) (find (λ a. a.id == id) accounts)
 
--- on one side: each transfer's account is there and of its ledger, sums fit in 128 bits, and a limited account keeps to its limit
+-- on one side: each transfer's account exists and is in its ledger, sums fit in 128 bits, and a limited account respects its limit
 pub record SideKept (side other : Transfer → ℕ) (limited : Account → Bool) (B : Books) : Type 0 where
   pub named : Each (λ t. ledger_at B.accounts (side t) ≡ Some t.ledger) B.transfers
   pub fit : (id : ℕ) → pending_on side B id + posted_on side B id ≤ AMOUNT_MAX
   pub within : (id : ℕ) (a : Account) → account_at B id ≡ Some a → limited a ≡ true → pending_on side B id + posted_on side B id ≤ posted_on other B id
 
--- account ids rise, no transfer debits the account that it credits, and both sides are kept
+-- account ids rise, no transfer debits the account that it credits, and both sides are sound
 pub record Sound (B : Books) : Type 0 where
   pub rising : Rising account_key B.accounts
   pub apart : Each (λ t. debit t ≢ credit t) B.transfers

@@ -1,5 +1,5 @@
--- The verdict on an account and on a transfer: the code of the first test of a table that holds, and 0 where none does.
--- The groups of tests are in the order in which an event meets them.
+-- The verdict on an account and on a transfer: the code of the first test of a table that holds, and 0 if none holds. The groups of tests are in the
+-- order in which they are applied to an event.
 use Rattle.std.specs.Prelude.{ℕ, Bool, true, false, not, ◌&&◌, ◌==◌, ◌+◌, ◌-◌, ◌*◌, min, nat_lt, List, [], ◌∷◌, Option, Some, None, if◌then◌else◌}
 use Rattle.std.specs.List.{list_any}
 use Rattle.std.specs.Option.{option_map_or}
@@ -33,7 +33,7 @@ abbrev pub first_of : List Test → ℕ
 first_of [] = 0
 first_of (test ∷ tests) = if test.1 then test.0 else first_of tests
 
--- groups of tests one after another: the first code that isn't 0
+-- groups of tests one after another: the first code that is not 0
 abbrev pub first_code : List ℕ → ℕ
 first_code [] = 0
 first_code (code ∷ codes) = if code == 0 then first_code codes else code
@@ -52,7 +52,7 @@ account_own_tests a =
     ∷ account_test account.IdMustNotBeIntMax (a.id == AMOUNT_MAX)
     ∷ []
 
--- where the id is there, e is the account as it is now
+-- if the id exists, e is the account as it is now
 abbrev pub account_exists_tests : Option Account → Account → List Test
 account_exists_tests None a = []
 account_exists_tests (Some e) a =
@@ -83,7 +83,7 @@ account_verdict B a = first_code (first_of (account_own_tests a) ∷ first_of (a
 abbrev pub recorded_account : Account → ℕ → Account
 recorded_account a time = record a { timestamp = time }
 
--- a transfer: what either kind is asked first
+-- a transfer: the first tests of either kind
 
 abbrev pub transfer_own_tests : Transfer → List Test
 transfer_own_tests t =
@@ -93,7 +93,7 @@ transfer_own_tests t =
     ∷ transfer_test transfer.IdMustNotBeIntMax (t.id == AMOUNT_MAX)
     ∷ []
 
--- a post or void has the value of its pending transfer p where its own is 0
+-- a post or void has the value of its pending transfer p if its own is 0
 abbrev pub given_or : ℕ → ℕ → ℕ
 given_or x y = if x == 0 then y else x
 
@@ -115,7 +115,7 @@ filled_from p t = record t {
 abbrev pub filled : Books → Transfer → Transfer
 filled B t = if resolves t then option_map_or (λ p. filled_from p t) (transfer_at B t.pending_id) t else t
 
--- where the id is there, e is the recorded transfer; f is the event, filled
+-- if the id exists, e is the recorded transfer; f is the event, filled
 abbrev pub transfer_exists_tests : Option Transfer → Transfer → List Test
 transfer_exists_tests None f = []
 transfer_exists_tests (Some e) f =
@@ -133,7 +133,7 @@ transfer_exists_tests (Some e) f =
     ∷ transfer_test transfer.Exists true
     ∷ []
 
--- by profile 2, an id that failed for good
+-- by profile 2, an id that failed permanently
 abbrev pub failed_tests : Option (List ℕ) → Transfer → List Test
 failed_tests failed t = transfer_test transfer.IdAlreadyFailed (option_map_or (list_any (λ id. id == t.id)) failed false) ∷ []
 
@@ -154,11 +154,11 @@ resolve_own_tests t =
     ∷ transfer_test transfer.TimeoutReservedForPendingTransfer (is_not t.timeout 0)
     ∷ []
 
--- x is given, and it isn't y
+-- x is given, and differs from y
 abbrev pub differs : ℕ → ℕ → Bool
 differs x y = is_not x 0 && is_not x y
 
--- p is the pending transfer that t names, and s its state; the amount is the filled one
+-- p is the pending transfer that t names, and s is its state; the amount is the filled one
 abbrev pub named_tests : Transfer → Transfer → State → List Test
 named_tests t p s =
     transfer_test transfer.PendingTransferNotPending (not (pending p))

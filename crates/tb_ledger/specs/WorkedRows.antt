@@ -1,4 +1,4 @@
--- Worked examples: what the definitions answer to requests of which the answers are known.
+-- Examples: the results of the definitions for requests whose results are known.
 use Rattle.std.specs.Prelude.{◌≡◌, ℕ, ◌+◌, max, List, [], ◌∷◌, map, ◌++◌, length, Option, Some, None}
 use Rattle.std.specs.Option.{option_map}
 use Rattle.tb_records.specs.declared.records.Account.{Account}
@@ -61,7 +61,7 @@ abbrev pub codes_of : Books → List Transfer → List ℕ
 codes_of B [] = []
 codes_of B (t ∷ later) = (request B (t ∷ [])).codes ++ codes_of (request B (t ∷ [])).books later
 
--- each gets the code next to it: of transfers, each in a request of its own; of accounts, all in one request
+-- each gets the code next to it: transfers each in a request of its own, accounts all in one request
 abbrev pub RowsAnswered : Books → List (Row Transfer) → Type 0
 RowsAnswered B rows = codes_of B (events rows) ≡ codes rows
 
@@ -138,7 +138,7 @@ posted =
     ∷ (resolving 25 24 0 4, 0)
     ∷ []
 
--- what names a transfer that a post resolved, a void resolved, or that was never pending
+-- posts and voids that name a transfer that a post resolved, that a void resolved, or that was never pending
 abbrev pub voided : List (Row Transfer)
 voided =
     (resolving 26 20 0 4, 33)
@@ -192,7 +192,7 @@ closed_books profile = worked_books (start_books profile) closing_requests
 abbrev pub open_again : Profile → Books
 open_again profile = (request (closed_books profile) (resolving 45 40 0 8 ∷ [])).books
 
--- the refused transfer 41, again once the account is open: by profile 2 its id failed for good
+-- the refused transfer 41 again, once the account is open: by profile 2 its id failed permanently
 abbrev pub again : Profile → ℕ
 again One = 0
 again Two = 68
@@ -249,13 +249,13 @@ Accounts profile =
     CreatedAs (start_books profile) nine_accounts
     × RowsAnswered (limited_accounts profile) ((transfer 80 3 1 1 0, 54) ∷ (transfer 81 1 4 1 0, 55) ∷ (transfer 82 3 1 0 0, 0) ∷ [])
 
--- flags above the known ones: imported, and each bit that has no name
+-- flags above the known ones: imported, and each bit without a name
 abbrev pub ReservedFlags : Profile → Type 0
 ReservedFlags profile =
     CreatedAs (start_books profile) ((account 3 16, 5) ∷ (account 3 64, 5) ∷ (account 3 128, 5) ∷ (account 3 32768, 5) ∷ (account 3 8, 0) ∷ [])
     × RowsAnswered (start_books profile) ((transfer 1 1 2 1 256, 4) ∷ (transfer 1 1 2 1 512, 4) ∷ (transfer 1 1 2 1 32768, 4) ∷ (transfer 1 1 2 1 258, 4) ∷ (transfer 1 1 2 1 2, 0) ∷ [])
 
--- sums that don't fit: after a transfer of the largest amount, and after a pending one
+-- sums that do not fit: after a transfer of the largest amount, and after a pending one
 
 abbrev pub start_of_three : Profile → Books
 start_of_three profile = (create (start_books profile) (account 3 0 ∷ [])).books
@@ -295,7 +295,7 @@ FailedIds =
 abbrev pub code_at : Books → ℕ → Transfer → List ℕ
 code_at B T t = (batch_after transfer_events B (t ∷ []) T).codes
 
--- a pending transfer of the time 100 and a timeout of one second: due at 1000000100
+-- a pending transfer with the time 100 and a timeout of one second: due at 1000000100
 abbrev pub held_for_a_second : Profile → Books
 held_for_a_second profile = (batch_after transfer_events (start_books profile) (with_timeout 1 (transfer 60 1 2 40 2) ∷ []) 100).books
 

@@ -1,4 +1,4 @@
-//! A batch: its chains, one after another, and all of a chain or nothing of it.
+//! A batch: its chains, one after another; a chain is applied as a whole or not at all.
 ghost use Rattle.std.specs.Prelude.{◌≡◌, ℕ, ◌+◌, ◌==◌, true, false, IfErr, ◌^◌, ◌<◌, ◌≤◌, ◌&&◌, length};
 ghost use Rattle.tb_ledger.specs.Batches.{chain_length};
 ghost use Rattle.tb_ledger.specs.private.Capacity.{Capacity, capacity_of, Uses};
@@ -20,7 +20,7 @@ pub trait Event: Copy {
     ghost use Rattle.tb_ledger.specs.Batches.{Kind, chain_failed, chain_open};
     ghost use Rattle.tb_ledger.specs.private.Capacity.{Capacity};
 
-    /// Why an event isn't accepted.
+    /// Why an event is not accepted.
     type Refusal: Copy;
 
     ghost kind: { Kind Self };
@@ -31,7 +31,7 @@ pub trait Event: Copy {
     // the tables can still take n events
     ghost HasCapacity: { ℕ → Capacity → Type 0 };
 
-    // next to the failed ids, a refusal of the event by a code can be noted
+    // given the failed ids, a refusal of the event with a code can be noted
     ghost IsNew: { Option (List ℕ) → Self → ℕ → Type 0 };
 
     /// The event is linked to the next one.
@@ -42,7 +42,7 @@ pub trait Event: Copy {
     fn code(refusal: Self::Refusal) -> u32
         ensures { result ≡ code_of refusal };
 
-    /// The refusal of an event that another one's failure undoes.
+    /// The refusal of an event that another event's failure undoes.
     fn undone() -> Self::Refusal
         ensures { code_of result ≡ chain_failed };
 
@@ -50,18 +50,18 @@ pub trait Event: Copy {
     fn chain_open() -> Self::Refusal
         ensures { code_of result ≡ chain_open };
 
-    /// Looks for the ids of the first eight events interleaved, where there are so many. The rows stay.
+    /// Looks for the ids of the first eight events interleaved, if there are so many. The rows stay.
     fn look_ahead<A: Allocator + Clone>(events: &[Self], rows: &mut Rows<A>)
         ensures { rows.new ≡ rows.old };
 
-    /// Judges the event as of its timestamp, and records it where it passes. The undo log leads back to before it.
+    /// Judges the event as of its timestamp, and records it if it is accepted. The undo log leads back to the state before it.
     fn take<A: Allocator + Clone>(&self, work: &mut Work<A>, time: u64) -> Result<(), Self::Refusal>
         requires ready { IsPrepared HasCapacity work.old time }
         ensures takes { TakesEvent kind code_of work.old self.now time result work.new }
         ensures fresh { IfErr result
             (λ refusal. IsNew (books_in work.old.rows).failed self.now (code_of refusal)) };
 
-    /// Notes what the event's refusal leaves behind.
+    /// Notes the lasting effect of the event's refusal.
     fn refuse<A: Allocator + Clone>(&self, rows: &mut Rows<A>, refusal: Self::Refusal)
         requires kept { AreRowsKept rows.old }
         requires capacity { HasCapacity 1 (capacity_of rows.old) }
@@ -79,7 +79,7 @@ pub trait Event: Copy {
     ghost open_is_new: { (failed : Option (List ℕ)) (e : Self) → IsNew failed e chain_open };
 }
 
-/// The number of events in the first chain: up to the first that isn't linked.
+/// The number of events in the first chain: up to the first that is not linked.
 pub(crate) fn chain_length<E: Event>(events: &[E]) -> usize
     ensures count { result ≡ chain_length E.kind events.now }
     ensures within { result ≤ length events.now }
@@ -95,8 +95,8 @@ pub(crate) fn chain_length<E: Event>(events: &[E]) -> usize
     n
 }
 
-/// Runs one chain: all of it is recorded, or nothing of it but what the refusal of the failed event leaves. Each event that isn't
-/// accepted adds its result.
+/// Runs one chain: all of it is recorded, or nothing except the lasting effect of the failed event's refusal. Each event that is not accepted adds
+/// its result.
 pub(crate) fn run_chain<E: Event, A: Allocator + Clone>(
     work: &mut Work<A>,
     chain: &[E],
@@ -110,7 +110,7 @@ pub(crate) fn run_chain<E: Event, A: Allocator + Clone>(
         work.old.results work.new.results }
     ensures leaves { LeavesAfter (length chain.now) work.old work.new }
 {
-    // an event that is refused changes nothing, so one that is alone has nothing to undo
+    // a refused event changes nothing, so a chain of one event has nothing to undo
     work.undo_log.start(chain.len() > 1);
     let mut i = 0;
     let mut stamp = time;
@@ -131,7 +131,7 @@ pub(crate) fn run_chain<E: Event, A: Allocator + Clone>(
     }
 }
 
-/// Takes an event of a chain. Linked with nothing after it, the chain is open.
+/// Takes an event of a chain. If it is linked and nothing follows, the chain is open.
 fn take_in_chain<E: Event, A: Allocator + Clone>(
     event: &E,
     last: bool,
@@ -150,7 +150,7 @@ fn take_in_chain<E: Event, A: Allocator + Clone>(
     }
 }
 
-/// Looks ahead before a chain of `n` events that has one whose index is a multiple of eight.
+/// Looks ahead before a chain of `n` events if one of them has an index that is a multiple of eight.
 fn look_ahead<E: Event, A: Allocator + Clone>(rows: &mut Rows<A>, rest: &[E], index: u32, n: usize)
     ensures { rows.new ≡ rows.old }
 {
@@ -160,7 +160,7 @@ fn look_ahead<E: Event, A: Allocator + Clone>(rows: &mut Rows<A>, rest: &[E], in
     }
 }
 
-/// Runs the chains of a batch, whose first event has the timestamp `time`. Each event that isn't accepted adds its result.
+/// Runs the chains of a batch, whose first event has the timestamp `time`. Each event that is not accepted adds its result.
 pub(crate) fn run_batch<E: Event, A: Allocator + Clone>(work: &mut Work<A>, events: &[E], time: u64)
     requires ready { IsPreparedFor E.HasCapacity (length events.now) work.old time }
     requires index_fits { length events.now < 2 ^ 32 }

@@ -15,7 +15,7 @@ use crate::tables::transfers::{State, TransferRow};
 use std::alloc::Allocator;
 use tb_records::{Transfer, TransferFlag};
 
-/// Takes what a pending transfer holds from the rows of its accounts.
+/// Removes what a pending transfer holds from the rows of its accounts.
 fn release_rows(debit: &mut AccountRow, credit: &mut AccountRow, p: &Transfer)
     ensures debit { debit.new ≡ on_debits (released closing_debit p.now) debit.old }
     ensures credit { credit.new ≡ on_credits (released closing_credit p.now) credit.old }
@@ -24,7 +24,7 @@ fn release_rows(debit: &mut AccountRow, credit: &mut AccountRow, p: &Transfer)
     credit.set_credits(release_side(credit.credits(), p, p.has(TransferFlag::ClosingCredit)));
 }
 
-/// Takes what a pending transfer holds from both of its accounts, in place.
+/// Removes what a pending transfer holds from both of its accounts, in place.
 #[inline(never)]
 fn release<A: Allocator + Clone>(accounts: &mut Table<AccountRow, A>, p: &Transfer)
     requires apart { p.now.debit_account_id ≢ p.now.credit_account_id }
@@ -43,8 +43,8 @@ fn release<A: Allocator + Clone>(accounts: &mut Table<AccountRow, A>, p: &Transf
     }
 }
 
-/// Marks the row of a transfer as expired. The row from before is large, so it goes into a place of its own, and not through
-/// the search that calls this.
+/// Marks the row of a transfer as expired. The row from before is large, so it is copied to a place of its own, and not returned through the search
+/// that calls this.
 fn expire_row(row: &mut TransferRow, before: &mut Option<TransferRow>)
     ensures before { before.new ≡ Some row.old }
     ensures row { row.new ≡ settled Expired row.old }
@@ -53,7 +53,7 @@ fn expire_row(row: &mut TransferRow, before: &mut Option<TransferRow>)
     row.set_state(State::Expired);
 }
 
-/// Marks the transfer that a timeout names as expired, in place, and answers the row from before.
+/// Marks the transfer that a timeout names as expired, in place, and returns the row from before.
 #[inline(never)]
 fn mark_expired<A: Allocator + Clone>(
     transfers: &mut Table<TransferRow, A>,
@@ -76,7 +76,7 @@ fn mark_expired<A: Allocator + Clone>(
     }
 }
 
-/// The accounts of a row that is there.
+/// The accounts of a row that exists.
 fn accounts_of(row: &Option<&TransferRow>) -> (u128, u128) {
     match row {
         Some(row) => row.accounts(),
@@ -105,7 +105,7 @@ fn touch_next<A: Allocator + Clone>(rows: &mut Rows<A>)
     rows.accounts.touch_pairs(later);
 }
 
-/// Looks ahead after `ended` transfers have expired: after the first and each eighth from there, where transfers are many.
+/// Looks ahead after `ended` transfers have expired: after the first and every eighth from there, if there are many transfers.
 fn look_ahead<A: Allocator + Clone>(rows: &mut Rows<A>, ended: usize)
     ensures { rows.new ≡ rows.old }
 {
@@ -114,7 +114,7 @@ fn look_ahead<A: Allocator + Clone>(rows: &mut Rows<A>, ended: usize)
     }
 }
 
-/// Moves the ledger on to `time`, a pending transfer after the other whose timeout has passed.
+/// Moves the ledger on to `time`, expiring one after another the pending transfers whose timeout has passed.
 #[inline(never)]
 fn expire_due<A: Allocator + Clone>(rows: &mut Rows<A>, time: u64)
     requires kept { AreRowsKept rows.old }
@@ -134,8 +134,8 @@ fn expire_due<A: Allocator + Clone>(rows: &mut Rows<A>, time: u64)
     rows.time = time;
 }
 
-/// Moves the ledger on to `time`: pending transfers whose timeout has passed hold no more. It takes as many steps as there are
-/// of these. Most entries find none.
+/// Moves the ledger on to `time`: pending transfers whose timeout has passed no longer hold their amounts. It takes as many steps as there are of
+/// these. For most entries there are none.
 #[inline(always)]
 pub fn expire<A: Allocator + Clone>(rows: &mut Rows<A>, time: u64)
     requires kept { AreRowsKept rows.old }

@@ -1,5 +1,5 @@
-//! The kinds of event: each is judged by the tables as they are now, and changes them where it passes. Each group of tests is answered
-//! before the next looks anything up.
+//! The kinds of event: each is judged by the current tables, and changes them if it is accepted. Each group of tests is decided before the next looks
+//! anything up.
 
 mod account;
 pub(crate) mod resolving;

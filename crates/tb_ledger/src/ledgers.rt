@@ -18,12 +18,11 @@ use std::alloc::{AllocError, Allocator, Global};
 use std::marker::Model;
 use tb_records::{Account, EventResult, Profile, Transfer};
 
-/// A ledger of accounts and transfers. Its value is its books: the accounts as they were created, the transfers as they
-/// were recorded, by profile 2 the ids that failed for good, and the time of the last entry. Sums, closed accounts and the
-/// states of pending transfers all follow from these.
+/// A ledger of accounts and transfers. Its value is its books: the accounts as they were created, the transfers as they were recorded, by profile 2
+/// the ids that failed permanently, and the time of the last entry. Sums, closed accounts and the states of pending transfers all follow from these.
 ///
-/// Amounts are in the ledger's smallest unit, times in nanoseconds. What takes memory makes all its capacity before the first
-/// change, so where it answers that there is none, the ledger is as it was.
+/// Amounts are in the ledger's smallest unit, times in nanoseconds. A call that allocates memory makes all its capacity before the first change, so
+/// if it returns that there is none, the ledger is as it was.
 #[derive(Drop)]
 pub struct Ledger<A: Allocator + Clone> {
     alloc: A,
@@ -42,7 +41,7 @@ impl<A: Allocator + Clone> Model for Ledger<A> {
     ghost invariant = { λ l. AreRowsKept l.work.rows };
 }
 
-/// Makes capacity for `n` transfers: for their timeouts too, and for as many failed ids where these are kept.
+/// Makes capacity for `n` transfers: for their timeouts too, and for as many failed ids if these are kept.
 fn reserve_transfers<A: Allocator + Clone>(
     rows: &mut Rows<A>,
     alloc: &A,
@@ -61,8 +60,8 @@ fn reserve_transfers<A: Allocator + Clone>(
     Ok(())
 }
 
-/// Enters a batch at the time `t`, with the capacity for its records: makes memory for its results and its changes first, expires
-/// to `t`, then takes the events.
+/// Enters a batch at the time `t`, with the capacity for its records: allocates memory for its results and its changes first, expires to `t`, then
+/// takes the events.
 fn enter<E: Event, A: Allocator + Clone>(
     work: &mut Work<A>,
     alloc: &A,
@@ -89,7 +88,7 @@ fn enter<E: Event, A: Allocator + Clone>(
 }
 
 impl<A: Allocator + Clone> Ledger<A> {
-    /// A ledger with no accounts and no transfers, at the time 0. It takes its memory from `alloc`, and none yet.
+    /// A ledger with no accounts and no transfers, at the time 0. It allocates from `alloc`, and nothing yet.
     pub fn new_in(alloc: A, profile: Profile) -> Self
         ensures { result ≡ empty_books profile }
     {
@@ -99,8 +98,8 @@ impl<A: Allocator + Clone> Ledger<A> {
         }
     }
 
-    /// The time of the last entry, in nanoseconds: 0 before the first. In the books of every ledger ids rise: those of accounts,
-    /// of transfers, and by profile 2 the failed ones.
+    /// The time of the last entry, in nanoseconds: 0 before the first. In the books of every ledger ids rise: those of accounts, of transfers, and by
+    /// profile 2 the failed ones.
     pub fn time(&self) -> u64
         ensures time { result ≡ self.now.time }
         ensures ids_rise { IdsRise self.now }
@@ -108,7 +107,7 @@ impl<A: Allocator + Clone> Ledger<A> {
         self.work.rows.time
     }
 
-    /// The profile that it goes by.
+    /// The profile in use.
     pub fn profile(&self) -> Profile
         ensures { result ≡ profile_of self.now }
     {
@@ -119,7 +118,7 @@ impl<A: Allocator + Clone> Ledger<A> {
         }
     }
 
-    /// Goes over from profile 1 to profile 2: the books stay as they are, and no id has failed yet. Takes no memory.
+    /// Changes from profile 1 to profile 2: the books stay as they are, and no id has failed yet. Allocates no memory.
     pub fn move_to_two(&mut self)
         requires { profile_of self.old ≡ Profile.One }
         ensures { self.new ≡ moved_to_two self.old }
@@ -127,7 +126,7 @@ impl<A: Allocator + Clone> Ledger<A> {
         self.work.rows.keeps_failed = true;
     }
 
-    /// The account of an id as it is now: its four sums, and flag closed where it is closed. None where it isn't there.
+    /// The account of an id as it is now: its four sums, and flag closed if it is closed. `None` if it does not exist.
     pub fn account(&self, id: u128) -> Option<Account>
         ensures { result ≡ account_now self.now id }
     {
@@ -137,8 +136,7 @@ impl<A: Allocator + Clone> Ledger<A> {
         }
     }
 
-    /// What [`Ledger::account`] answers, and the number of accounts that the search looked at: at most the height of a balanced
-    /// tree of them all.
+    /// The result of [`Ledger::account`], and the number of accounts that the search looked at: at most the height of a balanced tree of them all.
     pub fn probe_account(&self, id: u128) -> (Option<Account>, u32)
         ensures account { result.0 ≡ account_now self.now id }
         ensures visits { IsShortSearch (length self.now.accounts) result.1 }
@@ -150,15 +148,15 @@ impl<A: Allocator + Clone> Ledger<A> {
         }
     }
 
-    /// Accounts are so many that a search for one waits for memory at most of its levels.
+    /// Whether there are so many accounts that a search for one waits for memory at most of its levels.
     pub fn has_many_accounts(&self) -> bool
         ensures { IsTrue result ↔ 65536 ≤ length self.now.accounts }
     {
         self.work.rows.accounts.is_large()
     }
 
-    /// Brings the accounts of eight ids into the cache, for calls that need them next. Their searches go on interleaved, so that
-    /// waits for memory overlap. Where accounts are few, nothing is searched for. The books stay.
+    /// Brings the accounts of eight ids into the cache, for calls that need them next. Their searches are interleaved, so that waits for memory
+    /// overlap. If there are few accounts, nothing is searched for. The books stay.
     pub fn touch(&mut self, ids: &[u128; 8])
         ensures { self.new ≡ self.old }
     {
@@ -167,7 +165,7 @@ impl<A: Allocator + Clone> Ledger<A> {
         }
     }
 
-    /// The transfer of an id as it was recorded: a post or void filled, a balancing one lowered. None where it isn't there.
+    /// The transfer of an id as it was recorded: a post or void filled, a balancing one lowered. `None` if it does not exist.
     pub fn transfer(&self, id: u128) -> Option<Transfer>
         ensures { result ≡ transfer_at self.now id }
     {
@@ -177,8 +175,7 @@ impl<A: Allocator + Clone> Ledger<A> {
         }
     }
 
-    /// Moves the time on to `t`: each pending transfer whose timeout has passed by then expires, and its amount leaves the
-    /// pending sums.
+    /// Moves the time on to `t`: each pending transfer whose timeout has passed by then expires, and its amount is removed from the pending sums.
     pub fn expire(&mut self, t: u64)
         requires later { self.old.time < t }
         requires in_range { t ≤ LAST_MOMENT }
@@ -187,9 +184,9 @@ impl<A: Allocator + Clone> Ledger<A> {
         expire(&mut self.work.rows, t);
     }
 
-    /// Creates accounts, as an entry of the time `t`: expires to `t`, then takes the events, of which the one at index i of n
-    /// has the timestamp `t - n + i + 1`. Answers the index and result code of each event that isn't accepted, by rising
-    /// index. A chain of linked events happens whole or not at all.
+    /// Creates accounts, as an entry with the time `t`: expires to `t`, then takes the events; the one at index i of n has the timestamp `t - n + i +
+    /// 1`. Returns the index and result code of each event that is not accepted, by rising index. A chain of linked events is applied as a whole or
+    /// not at all.
     pub fn create_accounts(
         &mut self,
         global: Global,
@@ -208,8 +205,8 @@ impl<A: Allocator + Clone> Ledger<A> {
         enter(&mut self.work, &self.alloc, global, t, events)
     }
 
-    /// Creates transfers, as an entry of the time `t`, in the way of [`Ledger::create_accounts`]: single transfers, pending
-    /// ones, and the posts and voids of these. By profile 2 the id of a transfer that fails for good is kept.
+    /// Creates transfers, as an entry with the time `t`, in the way of [`Ledger::create_accounts`]: single transfers, pending ones, and the posts and
+    /// voids of these. By profile 2 the id of a transfer that fails permanently is kept.
     pub fn create_transfers(
         &mut self,
         global: Global,
@@ -228,7 +225,7 @@ impl<A: Allocator + Clone> Ledger<A> {
         enter(&mut self.work, &self.alloc, global, t, events)
     }
 
-    /// Accounts as they are now, in the order of the ids: one that isn't there is left out, one asked twice is answered twice.
+    /// Accounts as they are now, in the order of the ids: an id without an account is skipped, one that is requested twice is returned twice.
     pub fn lookup_accounts(&self, global: Global, ids: &[u128]) -> Result<Vec<Account>, AllocError>
         ensures { IfOk result (λ v. v.items ≡ found_accounts self.now ids.now) }
     {
@@ -237,8 +234,7 @@ impl<A: Allocator + Clone> Ledger<A> {
         Ok(found)
     }
 
-    /// Transfers as they were recorded, in the order of the ids: one that isn't there is left out, one asked twice is
-    /// answered twice.
+    /// Transfers as they were recorded, in the order of the ids: an id without a transfer is skipped, one that is requested twice is returned twice.
     pub fn lookup_transfers(
         &self,
         global: Global,
@@ -251,7 +247,7 @@ impl<A: Allocator + Clone> Ledger<A> {
         Ok(found)
     }
 
-    /// Appends what [`Ledger::lookup_accounts`] answers, to a vector with capacity for as many accounts as there are ids.
+    /// Appends the result of [`Ledger::lookup_accounts`] to a vector with capacity for as many accounts as there are ids.
     pub fn fill_accounts(&self, ids: &[u128], out: &mut Vec<Account>)
         requires { vec_len out.old + length ids.now ≤ vec_capacity out.old }
         ensures items { out.new.items ≡ out.old.items ++ found_accounts self.now ids.now }
@@ -260,7 +256,7 @@ impl<A: Allocator + Clone> Ledger<A> {
         lookups::fill(&self.work.rows.accounts, ids, out);
     }
 
-    /// Appends what [`Ledger::lookup_transfers`] answers, to a vector with capacity for as many transfers as there are ids.
+    /// Appends the result of [`Ledger::lookup_transfers`] to a vector with capacity for as many transfers as there are ids.
     pub fn fill_transfers(&self, ids: &[u128], out: &mut Vec<Transfer>)
         requires { vec_len out.old + length ids.now ≤ vec_capacity out.old }
         ensures items { out.new.items ≡ out.old.items ++ found_transfers self.now ids.now }

@@ -1,4 +1,4 @@
-//! Lookups of many ids, eight at a time: their searches go on interleaved, so that their waits for memory overlap.
+//! Lookups of many ids, eight at a time: their searches are interleaved, so that their waits for memory overlap.
 ghost use Rattle.std.specs.Prelude.{◌≡◌, ◌+◌, ◌≤◌, ◌++◌, length, vec_len, vec_capacity};
 ghost use Rattle.std.specs.List.{filter_map};
 ghost use Rattle.std.specs.Option.{option_copied, option_map};
@@ -10,7 +10,7 @@ use crate::tables::transfers::TransferRow;
 use std::alloc::Allocator;
 use tb_records::{Account, Transfer};
 
-/// A row that a lookup gives as a record.
+/// A row that a lookup returns as a record.
 pub trait Found: Keyed {
     type Record;
 
@@ -44,7 +44,7 @@ impl Found for TransferRow {
     }
 }
 
-/// Appends the records of the rows that are there.
+/// Appends the records of the rows that exist.
 fn push_found<V: Found>(rows: &[Option<&V>], out: &mut Vec<V::Record>)
     requires { vec_len out.old + length rows.now ≤ vec_capacity out.old }
     ensures items { out.new.items
@@ -59,7 +59,7 @@ fn push_found<V: Found>(rows: &[Option<&V>], out: &mut Vec<V::Record>)
     }
 }
 
-/// Appends the records of the ids by eights, and answers the ids that are left, fewer than eight.
+/// Appends the records of the ids by eights, and returns the ids that are left, fewer than eight.
 fn fill_eights<'a, V: Found, A: Allocator + Clone>(
     table: &Table<V, A>,
     ids: &'a [u128],
@@ -79,7 +79,7 @@ fn fill_eights<'a, V: Found, A: Allocator + Clone>(
     rest
 }
 
-/// Appends the records of the ids, in their order: one that isn't there is left out.
+/// Appends the records of the ids, in their order: an id without a row is skipped.
 pub(crate) fn fill<V: Found, A: Allocator + Clone>(
     table: &Table<V, A>,
     ids: &[u128],

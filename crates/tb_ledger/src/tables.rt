@@ -1,4 +1,4 @@
-//! What a ledger keeps: rows by their keys, an index of timeouts, and the batch that it is at.
+//! What a ledger keeps: rows by their keys, an index of timeouts, and the batch in progress.
 
 pub(crate) mod absent_ids;
 pub(crate) mod accounts;

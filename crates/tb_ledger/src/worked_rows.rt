@@ -1,5 +1,5 @@
-//! Worked examples, computed: what the definitions answer to requests of which the answers are known, by either profile.
-//! Its functions do nothing. Each states rows, and is proved by computing them.
+//! Examples, computed: the results of the definitions for requests whose results are known, by either profile. The functions do nothing. Each states
+//! examples, and is proved by computing them.
 ghost use Rattle.tb_ledger.specs.WorkedRows.{Created, Balancing, PostsAndVoids, Lookups, Closing, Chains, Accounts, ReservedFlags, Overflow, FailedIds, Expiry};
 ghost use Rattle.tb_records.specs.declared.limits.Profile.TheVariants.{One, Two};
 
@@ -9,34 +9,33 @@ pub fn created()
     ensures two { Created Two }
 {}
 
-/// A balancing transfer records the lowered amount, 0 where nothing is left, and its repeat exists unless it asks for less.
+/// A balancing transfer records the lowered amount, 0 if nothing is left, and its repeat exists unless it asks for less.
 pub fn balancing()
     ensures one { Balancing One }
     ensures two { Balancing Two }
 {}
 
-/// A post of the whole, of a part, of nothing; a void; and posts and voids of what is resolved already or not
-/// pending.
+/// A post of the whole, of a part, of nothing; a void; and posts and voids of transfers that are resolved already or not pending.
 pub fn posts_and_voids()
     ensures one { PostsAndVoids One }
     ensures two { PostsAndVoids Two }
 {}
 
-/// What is found of accounts and transfers: whole records, in the order of the ids; what isn't there is left out, and what is asked
-/// twice comes twice.
+/// The accounts and transfers that are found: whole records, in the order of the ids; an absent id is skipped, and one requested twice is returned
+/// twice.
 pub fn lookups()
     ensures one { Lookups One }
     ensures two { Lookups Two }
 {}
 
-/// A closing transfer closes its account for all but voids, until it is voided itself. An account that is asked again exists, with
-/// the flags that it has as it is now.
+/// A closing transfer closes its account for everything except voids, until it is voided itself. An account that is sent again exists, with its
+/// current flags.
 pub fn closing()
     ensures one { Closing One }
     ensures two { Closing Two }
 {}
 
-/// A chain happens whole or not at all; one that the batch cuts off is open.
+/// A chain is applied as a whole or not at all; a chain that the batch cuts off is open.
 pub fn chains()
     ensures one { Chains One }
     ensures two { Chains Two }
@@ -48,7 +47,7 @@ pub fn accounts()
     ensures two { Accounts Two }
 {}
 
-/// A flag above the known ones is refused, imported among them.
+/// A flag above the known ones is refused, also imported.
 pub fn reserved_flags()
     ensures one { ReservedFlags One }
     ensures two { ReservedFlags Two }
@@ -60,7 +59,7 @@ pub fn overflow()
     ensures two { Overflow Two }
 {}
 
-/// By profile 2 an id that failed for good is refused again, also where its chain was undone; by profile 1 it is free.
+/// By profile 2 an id that failed permanently is refused again, also if its chain was undone; by profile 1 it is free.
 pub fn failed_ids()
     ensures { FailedIds }
 {}

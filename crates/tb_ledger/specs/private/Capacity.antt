@@ -1,8 +1,8 @@
--- What the tables can still take without asking for memory.
+-- What the tables can still take without an allocation.
 use Rattle.std.specs.Prelude.{ℕ, ◌≡◌, ◌+◌, ◌≤◌, Bool, true}
 use Rattle.tb_ledger.specs.declared.tables.rows.Rows.{Rows}
 
--- of each table the spare rows, and whether failed ids are kept
+-- the spare rows of each table, and whether failed ids are kept
 pub record Capacity : Type 0 where
   pub accounts : ℕ
   pub transfers : ℕ
@@ -23,13 +23,13 @@ capacity_of rows = record {
 abbrev pub HasAccounts : ℕ → Capacity → Type 0
 HasAccounts n c = n ≤ c.accounts
 
--- for n more transfers: each may have a timeout, or fail for good
+-- for n more transfers: each may have a timeout, or fail permanently
 pub record HasTransfers (n : ℕ) (c : Capacity) : Type 0 where
   pub transfers : n ≤ c.transfers
   pub timeouts : n ≤ c.timeouts
   pub failed : c.keeps_failed ≡ true → n ≤ c.failed
 
--- n events have used no more than n rows of each table
+-- n events have used at most n rows of each table
 pub record Uses (n : ℕ) (before after : Capacity) : Type 0 where
   pub accounts : before.accounts ≤ n + after.accounts
   pub transfers : before.transfers ≤ n + after.transfers

@@ -16,7 +16,7 @@ use Rattle.tb_records.specs.declared.transfer_results.CreateTransferResult.TheVa
 abbrev pub as_recorded : Transfer → ℕ → ℕ → Transfer
 as_recorded t amount time = record t { amount = amount; timestamp = time }
 
--- t passes between the rows d and c of its accounts: both take its amount, and are noted as they were
+-- t is accepted between the rows d and c of its accounts: both take its amount, and the rows from before are noted
 abbrev pub Passes : Transfer → ℕ → Noted → AccountRow → AccountRow → ℕ → AccountRow → AccountRow → Noted → Type 0
 Passes t time undo_log d c amount d' c' grown =
     (amount ≡ balanced_amount (row_now d) (row_now c) t)
@@ -24,7 +24,7 @@ Passes t time undo_log d c amount d' c' grown =
     × (c' ≡ on_credits (gained closing_credit (as_recorded t amount time)) c)
     × NotesPair d c undo_log grown
 
--- t is judged by both rows: it passes, or it is refused and all stays
+-- t is judged by both rows: it is accepted, or it is refused and nothing changes
 abbrev pub ExchangesRows : Transfer → ℕ → Noted → AccountRow → AccountRow → Result ℕ CreateTransferResult → AccountRow → AccountRow → Noted → Type 0
 ExchangesRows t time undo_log d c result d' c' grown =
     Judges transfer_result_code result (pair_code (Some (row_now d)) (Some (row_now c)) t time)
@@ -34,7 +34,7 @@ ExchangesRows t time undo_log d c result d' c' grown =
 abbrev pub account_row_at : List AccountRow → ℕ → Option AccountRow
 account_row_at accounts id = find (λ a. a.created.id == id) accounts
 
--- t passes between two of a table of accounts
+-- t is accepted between two accounts of a table
 pub record PassesIn (t : Transfer) (time : ℕ) (undo_log : Noted) (accounts : List AccountRow) (amount : ℕ) (later : List AccountRow) (grown : Noted) : Type 0 where
   pub debit : AccountRow
   pub credit : AccountRow
@@ -44,12 +44,12 @@ pub record PassesIn (t : Transfer) (time : ℕ) (undo_log : Noted) (accounts : L
   pub written : later ≡ accounts_gained (as_recorded t amount time) accounts
   pub notes : NotesPair debit credit undo_log grown
 
--- t is judged by the table, where an account may not be there
+-- t is judged by the table, in which an account may be missing
 abbrev pub ExchangesIn : Transfer → ℕ → Noted → List AccountRow → Result ℕ CreateTransferResult → List AccountRow → Noted → Type 0
 ExchangesIn t time undo_log accounts result later grown =
     Judges transfer_result_code result (pair_code (option_map row_now (account_row_at accounts t.debit_account_id)) (option_map row_now (account_row_at accounts t.credit_account_id)) t time)
     × MatchResult result (λ amount. PassesIn t time undo_log accounts amount later grown) (λ _. (later ≡ accounts) × (grown ≡ undo_log))
 
--- which account isn't there, where one isn't: the debit account first
+-- which account is missing: the debit account first
 abbrev pub missing_account : List AccountRow → Transfer → CreateTransferResult
 missing_account accounts t = if is_some (account_row_at accounts t.debit_account_id) then CreditAccountNotFound else DebitAccountNotFound

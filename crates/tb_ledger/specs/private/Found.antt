@@ -1,9 +1,9 @@
--- How a function answers a verdict, and what an accepted post or void found in the books.
+-- How a function returns a verdict, and what an accepted post or void found in the books.
 use Rattle.std.specs.Prelude.{◌≡◌, ◌≢◌, ℕ, true, false, ◌&&◌, ◌≤◌, Some, Result, Ok, Err}
 use Rattle.tb_records.specs.declared.records.Transfer.{Transfer}
 use Rattle.tb_ledger.specs.Books.{Books, pending, posts, voids, holds, transfer_at}
 
--- the verdict is the code: what passes has 0, and what is refused has the code of its refusal, which is another
+-- the verdict is the code: an accepted event has 0, and a refused one the code of its refusal, which is not 0
 abbrev pub Judges : {X R : Type 0} → (R → ℕ) → Result X R → ℕ → Type 0
 Judges code_of (Ok x) code = code ≡ 0
 Judges code_of (Err refusal) code = (code ≡ code_of refusal) × (code_of refusal ≢ 0)

@@ -1,4 +1,4 @@
--- What the rows of an account and of a transfer say.
+-- What the rows of an account and of a transfer represent.
 use Rattle.tb_records.specs.declared.records.Account.{Account}
 use Rattle.tb_records.specs.declared.records.Transfer.{Transfer}
 use Rattle.tb_ledger.specs.declared.tables.accounts.Side.{Side}

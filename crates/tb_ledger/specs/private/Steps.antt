@@ -1,4 +1,4 @@
--- What events ask of a batch in progress, and what they leave.
+-- What events require of a batch in progress, and what they leave.
 use Rattle.std.specs.Prelude.{ℕ, ◌≡◌, ◌+◌, ◌*◌, ◌^◌, ◌<◌, ◌≤◌, ◌==◌, true, map, length, find, Some, None, Result, OnOk, OnErr, Bool, ◌&&◌, if◌then◌else◌, List, ◌∷◌, ◌++◌, drop, replicate}
 use Rattle.tb_records.specs.declared.records.Transfer.{Transfer}
 use Rattle.tb_ledger.specs.declared.tables.rows.Rows.{Rows}
@@ -34,7 +34,7 @@ pub record IsPreparedFor {A : Type 0} (HasCapacity : ℕ → Capacity → Type 0
   pub log : UNDOS_PER_EVENT * n ≤ work.undo_log.capacity
   pub results : length work.results.items + n ≤ work.results.capacity
 
--- after one event: rows that are kept, from which the log leads back; failed ids, the time and the results so far stay
+-- after one event: valid rows, from which the log leads back; failed ids, the time and the results so far stay
 pub record Leaves {A : Type 0} (work later : Work A) : Type 0 where
   pub kept : AreRowsKept later.rows
   pub grows : GrowsUndoLog UNDOS_PER_EVENT (LeadsBack (chained work.rows) (chained later.rows)) work.undo_log later.undo_log
@@ -43,7 +43,7 @@ pub record Leaves {A : Type 0} (work later : Work A) : Type 0 where
   pub capacity : Uses 1 (capacity_of work.rows) (capacity_of later.rows)
   pub results : later.results ≡ work.results
 
--- after n events: rows that are kept, at the same time, and n results more at most
+-- after n events: valid rows, at the same time, and at most n more results
 pub record LeavesAfter {A : Type 0} (n : ℕ) (work later : Work A) : Type 0 where
   pub kept : AreRowsKept later.rows
   pub time : later.rows.time ≡ work.rows.time
@@ -52,23 +52,23 @@ pub record LeavesAfter {A : Type 0} (n : ℕ) (work later : Work A) : Type 0 whe
   pub results_len : length later.results.items ≤ length work.results.items + n
   pub results_capacity : later.results.capacity ≡ work.results.capacity
 
--- a code decides on an event: where it passes it leaves these books, and where it is refused it changes nothing
+-- a code decides on an event: if it is accepted it leaves these books, and if it is refused it changes nothing
 pub record Decides {R A : Type 0} (code_of : R → ℕ) (code : ℕ) (books : Books) (work : Work A) (result : Result (Unit {0}) R) (later : Work A) : Type 0 where
   pub judged : Judges code_of result code
   pub done : OnOk result (books_in later.rows ≡ books)
   pub refused : OnErr result (later ≡ work)
   pub leaves : Leaves work later
 
--- an event is taken at a time: its verdict decides, and where it passes it is recorded
+-- an event is taken at a time: its verdict decides, and if it is accepted it is recorded
 abbrev pub TakesEvent : {E R A : Type 0} → Kind E → (R → ℕ) → Work A → E → ℕ → Result (Unit {0}) R → Work A → Type 0
 TakesEvent kind code_of work event time = Decides code_of (kind.verdict (books_in work.rows) event time) (kind.recorded (books_in work.rows) event time) work
 
--- an event of a chain is taken at a time: where it is linked and the last one the chain is open, else its verdict decides
+-- an event of a chain is taken at a time: if it is linked and the last one the chain is open, otherwise its verdict decides
 abbrev pub TakesInChain : {E R A : Type 0} → Kind E → (R → ℕ) → Bool → Work A → E → ℕ → Result (Unit {0}) R → Work A → Type 0
 TakesInChain kind code_of last work event time =
     Decides code_of (if last && kind.linked event then chain_open else kind.verdict (books_in work.rows) event time) (kind.recorded (books_in work.rows) event time) work
 
--- a post or void, filled and stamped, of the pending transfer p: its accounts decide whether they are open, and where it passes it is recorded
+-- a post or void of the pending transfer p, filled and stamped: its accounts decide whether they are open, and if it is accepted it is recorded
 abbrev pub TakesResolution : {A : Type 0} → Work A → TransferRow → Transfer → Result (Unit {0}) CreateTransferResult → Work A → Type 0
 TakesResolution work p r =
     let B = books_in work.rows in
@@ -81,18 +81,19 @@ chain_from kind B stamp events = chain_after kind B (timed_from stamp events)
 abbrev pub chains_from : {E : Type 0} → Kind E → Books → ℕ → List E → Outcome
 chains_from kind B stamp events = chains_after kind B (chains kind (timed_from stamp events))
 
--- the codes of a chain whose event at this place was refused: chain_failed before it, its own, and those of events that another one's failure undoes
+-- the codes of a chain whose event at this place was refused: chain_failed before it, its own code, and those of events that another event's failure
+-- undoes
 abbrev pub broken_codes : {E : Type 0} → Kind E → ℕ → ℕ → List E → List ℕ
 broken_codes kind place code events = replicate place chain_failed ++ code ∷ undone kind (timed_from 0 (drop (place + 1) events))
 
--- a refusal that is noted touches failed ids alone
+-- a refusal that is noted changes only failed ids
 pub record StaysButFailed {A : Type 0} (rows later : Rows A) : Type 0 where
   pub accounts : later.accounts ≡ rows.accounts
   pub transfers : later.transfers ≡ rows.transfers
   pub timeouts : later.timeouts ≡ rows.timeouts
   pub time : later.time ≡ rows.time
 
--- r is a post or void, filled, whose id is free, and p the row of the pending transfer that it names
+-- r is a post or void, filled, whose id is free, and p is the row of the pending transfer that it names
 pub record IsResolution {A : Type 0} (rows : Rows A) (p : TransferRow) (r : Transfer) : Type 0 where
   pub fresh : transfer_at (books_in rows) r.id ≡ None
   pub found : find (λ row. row.recorded.id == r.pending_id) rows.transfers.items ≡ Some p
@@ -100,7 +101,7 @@ pub record IsResolution {A : Type 0} (rows : Rows A) (p : TransferRow) (r : Tran
   pub is_resolver : resolves r ≡ true
   pub pending : FoundPending (books_in rows) r
 
--- pending transfers have ended: records and failed ids stay, and the timeouts that are gone have given back their rows
+-- pending transfers have ended: records and failed ids stay, and the removed timeouts have returned their rows
 pub record KeepsRecords {A : Type 0} (rows later : Rows A) : Type 0 where
   pub accounts : map (λ a. a.created) later.accounts.items ≡ map (λ a. a.created) rows.accounts.items
   pub transfers : map (λ t. t.recorded) later.transfers.items ≡ map (λ t. t.recorded) rows.transfers.items

@@ -7,7 +7,7 @@ use Rattle.avl_tree.specs.Map.{Map, entries}
 use Rattle.tb_ledger.specs.declared.tables.timeouts.Timeout.{Timeout}
 use Rattle.tb_ledger.specs.Tables.{freed, pairs_in, Stored}
 
--- timeouts are by time, and by id where times are the same
+-- timeouts are ordered by time, and by id if times are equal
 abbrev pub timeout_key : Timeout → ℕ
 timeout_key d = d.at * 340282366920938463463374607431768211456 + d.id
 
@@ -21,7 +21,7 @@ timeouts_of es = map timeout_at es
 abbrev pub timeouts_in : {V : Type 0} → Option (Map (ℕ × ℕ) V) → List Timeout
 timeouts_in m = timeouts_of (pairs_in m)
 
--- by rising key, and ids are ids
+-- by rising key, and ids are in range
 pub record AreTimeouts (ds : List Timeout) : Type 0 where
   pub rising : Rising timeout_key ds
   pub fit : Each (λ d. d.id ≤ AMOUNT_MAX) ds
@@ -34,12 +34,12 @@ with_timeout d ts = record { items = put timeout_key d ts.items; spare = ts.spar
 abbrev pub without_timeout : Timeout → Stored Timeout → Stored Timeout
 without_timeout d ts = record { items = taken_out timeout_key (timeout_key d) ts.items; spare = ts.spare + freed (find (λ e. timeout_key e == timeout_key d) ts.items) }
 
--- a timeout that is due at the time was taken out, or none is due
+-- a timeout that is due at the time was removed, or no timeout is due
 abbrev pub TakesDue : ℕ → Stored Timeout → Option Timeout → Stored Timeout → Type 0
 TakesDue time ts None later = (later ≡ ts) × Each (λ d. time < d.at) ts.items
 TakesDue time ts (Some d) later = (d.at ≤ time) × (find (λ e. timeout_key e == timeout_key d) ts.items ≡ Some d) × (later ≡ without_timeout d ts)
 
--- the first of timeouts, where it is due at the time; else none is due
+-- the first of the timeouts, if it is due at the time; otherwise no timeout is due
 abbrev pub IsFirstDue : ℕ → List Timeout → Option Timeout → Type 0
 IsFirstDue time ds None = Each (λ d. time < d.at) ds
 IsFirstDue time ds (Some d) = (d.at ≤ time) × (slice_get ds 0 ≡ Some d)

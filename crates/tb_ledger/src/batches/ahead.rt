@@ -1,5 +1,5 @@
-//! The accounts that the next eight transfers need are searched for before the first of them is taken, interleaved, so that waits for
-//! memory overlap. The rows stay.
+//! The accounts that the next eight transfers need are searched for before the first of them is taken, interleaved, so that waits for memory overlap.
+//! The rows stay.
 ghost use Rattle.std.specs.Prelude.{◌≡◌};
 
 use crate::tables::rows::Rows;
@@ -7,7 +7,7 @@ use crate::tables::transfers::TransferRow;
 use std::alloc::Allocator;
 use tb_records::Transfer;
 
-/// The accounts of a transfer: those of the pending one that it names, where that is there.
+/// The accounts of a transfer: those of the pending transfer that it names, if that exists.
 fn accounts_of(t: &Transfer, pending: &Option<&TransferRow>) -> (u128, u128) {
     match pending {
         Some(p) => p.accounts(),
@@ -30,7 +30,7 @@ fn named_by(eight: &[Transfer; 8]) -> [u128; 8] {
     ]
 }
 
-/// The rows of the pending transfers that eight transfers name. Where none is a post or void, nothing is searched for.
+/// The rows of the pending transfers that eight transfers name. If none of the eight is a post or void, nothing is searched for.
 fn pending_rows<'a, A: Allocator + Clone>(
     rows: &'a Rows<A>,
     eight: &[Transfer; 8],
@@ -42,7 +42,7 @@ fn pending_rows<'a, A: Allocator + Clone>(
     }
 }
 
-/// The accounts of eight transfers, and of the pending ones that they name: of four, and of the other four.
+/// The accounts of eight transfers, or of the pending ones that they name: of the first four, and of the other four.
 fn accounts_of_eight<A: Allocator + Clone>(
     rows: &Rows<A>,
     eight: &[Transfer; 8],
@@ -64,7 +64,7 @@ fn accounts_of_eight<A: Allocator + Clone>(
     (first, later)
 }
 
-/// Brings the rows of the accounts that eight transfers need into the cache, where accounts are many.
+/// Brings the rows of the accounts that eight transfers need into the cache, if there are many accounts.
 pub(crate) fn touch_accounts<A: Allocator + Clone>(rows: &mut Rows<A>, eight: &[Transfer; 8])
     ensures { rows.new ≡ rows.old }
 {

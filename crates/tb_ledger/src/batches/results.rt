@@ -1,4 +1,4 @@
-//! The results of a chain that breaks.
+//! The results of a broken chain.
 ghost use Rattle.std.specs.Prelude.{◌≡◌, ◌≢◌, ◌+◌, ◌^◌, ◌<◌, ◌≤◌, ◌&&◌, ◌++◌, [], ◌∷◌, length, replicate, if◌then◌else◌};
 ghost use Rattle.tb_ledger.specs.Batches.{chain_failed, chain_open, timed_from, undone};
 ghost use Rattle.tb_ledger.specs.private.Steps.{broken_codes};
@@ -22,7 +22,7 @@ fn push_result<E: Event>(results: &mut Results, index: u32, refusal: E::Refusal)
     });
 }
 
-/// Adds the results of a broken chain, whose event at `place` has failed by the refusal.
+/// Adds the results of a broken chain, whose event at `place` has failed with the refusal.
 pub(crate) fn break_off<E: Event>(
     results: &mut Results,
     chain: &[E],
@@ -44,7 +44,7 @@ pub(crate) fn break_off<E: Event>(
     push_undone(results, &chain[place + 1..], index + place as u32 + 1);
 }
 
-/// Adds the results of `n` events that another one's failure undoes.
+/// Adds the results of `n` events that another event's failure undoes.
 fn push_failed<E: Event>(results: &mut Results, index: u32, n: usize)
     requires capacity { length results.old.items + n ≤ results.old.capacity }
     requires fits { index + n < 2 ^ 32 }
@@ -72,7 +72,7 @@ fn push_undone<E: Event>(results: &mut Results, rest: &[E], index: u32)
     }
 }
 
-/// The refusal of an event that another one's failure undoes.
+/// The refusal of an event that another event's failure undoes.
 fn undone_by<E: Event>(event: &E, last: bool) -> E::Refusal
     ensures { E.code_of result ≡ (if last && E.kind.linked event.now then chain_open else chain_failed) }
 {

@@ -1,4 +1,4 @@
-//! An account that is added: what is wrong with it, and its row where it passes.
+//! An account that is added: what is wrong with it, and its row if it is accepted.
 ghost use Rattle.std.specs.Prelude.{◌≡◌, Some, ◌<◌, ◌==◌, length, ◌-◌, find, None};
 ghost use Rattle.tb_ledger.specs.private.Found.{Judges};
 ghost use Rattle.tb_ledger.specs.Kept.{books_in, AreRowsKept, row_now, account_row_key, blank, new_row};
@@ -48,7 +48,7 @@ impl Event for Account {
         CreateAccountResult::LinkedEventChainOpen
     }
 
-    // accounts are few: their ids are looked for one at a time
+    // there are few accounts: their ids are looked up one at a time
     fn look_ahead<A: Allocator + Clone>(events: &[Account], rows: &mut Rows<A>) {
         let _ = events.len();
         let _ = rows.time;
@@ -91,7 +91,7 @@ pub(crate) fn judge_account<A: Allocator + Clone>(
     }
 }
 
-/// What of an account is wrong by itself.
+/// What is wrong with an account by itself.
 fn account_own(a: &Account) -> Result<(), CreateAccountResult>
     ensures { Judges account_result_code result (first_of (account_own_tests a.now)) }
 {

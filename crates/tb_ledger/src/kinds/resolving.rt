@@ -1,5 +1,5 @@
-//! A post or void: what is wrong with it and with the pending transfer that it names, which is closed where it passes. Both
-//! accounts' sums are settled. Where its own values are 0, those of the pending transfer count.
+//! A post or void: what is wrong with it and with the pending transfer that it names, which is closed if the post or void is accepted. The sums of
+//! both accounts are settled. If its own values are 0, those of the pending transfer count.
 ghost use Rattle.std.specs.Prelude.{◌≡◌, ◌≢◌, ◌^◌, ◌<◌, ◌==◌, true, length, find, Some, IsSome, IfOk, IfErr};
 ghost use Rattle.tb_ledger.specs.Batches.{transfer_events};
 ghost use Rattle.tb_ledger.specs.Books.{resolves};
@@ -25,7 +25,7 @@ use crate::tables::work::{Undo, UndoLog, Work};
 use std::alloc::Allocator;
 use tb_records::{CreateTransferResult, Transfer, TransferFlag};
 
-/// Judges a post or void whose id is free, and records it, filled and stamped, where it passes.
+/// Judges a post or void whose id is free, and records it, filled and stamped, if it is accepted.
 pub(crate) fn take_resolving<A: Allocator + Clone>(
     work: &mut Work<A>,
     t: &Transfer,
@@ -44,8 +44,8 @@ pub(crate) fn take_resolving<A: Allocator + Clone>(
     settle(work, &pending, &recorded)
 }
 
-/// Judges a post or void, filled and stamped, of the pending transfer `p` by the accounts, and records it where it passes. A void
-/// passes closed accounts too.
+/// Judges a post or void of the pending transfer `p`, filled and stamped, by the accounts, and records it if it is accepted. A void is accepted on
+/// closed accounts too.
 fn settle<A: Allocator + Clone>(
     work: &mut Work<A>,
     p: &TransferRow,
@@ -65,8 +65,7 @@ fn settle<A: Allocator + Clone>(
     Ok(())
 }
 
-/// Judges a post or void by its accounts, and settles both where it passes. Where changes are noted the undo log gets both rows from
-/// before.
+/// Judges a post or void by its accounts, and settles both if it is accepted. If changes are noted the undo log gets both rows from before.
 fn settle_accounts<A: Allocator + Clone>(
     accounts: &mut Table<AccountRow, A>,
     undo_log: &mut UndoLog<A>,
@@ -92,8 +91,8 @@ fn settle_accounts<A: Allocator + Clone>(
     }
 }
 
-/// Judges a post or void by the rows of its accounts, and settles both where it passes. The rows from before go to the undo log from
-/// here, and not through the search that calls this.
+/// Judges a post or void by the rows of its accounts, and settles both if it is accepted. The rows from before are put into the undo log here, and
+/// not returned through the search that calls this.
 fn settle_rows<A: Allocator + Clone>(
     debit: &mut AccountRow,
     credit: &mut AccountRow,
@@ -124,7 +123,7 @@ fn settle_rows<A: Allocator + Clone>(
     Ok(())
 }
 
-/// Gives a pending transfer its state, and takes its timeout where it has one.
+/// Gives a pending transfer its state, and removes its timeout if it has one.
 fn close_row<A: Allocator + Clone>(
     transfers: &mut Table<TransferRow, A>,
     timeouts: &mut Timeouts<A>,
@@ -166,15 +165,15 @@ fn state_given(r: &Transfer) -> State
     }
 }
 
-/// A post or void that passes as far as its accounts are open: the row of the pending transfer that it names, and its record,
-/// filled and not yet stamped.
+/// A post or void that is accepted if its accounts are open: the row of the pending transfer that it names, and its record, filled and not yet
+/// stamped.
 #[derive(Clone, Copy)]
 pub(crate) struct Resolution<'a> {
     pub pending: &'a TransferRow,
     pub filled: Transfer,
 }
 
-/// The verdict on a post or void, once its id is free, but for closed accounts: what it resolves, where it passes.
+/// The verdict on a post or void whose id is free, except for closed accounts: what it resolves, if it is accepted.
 pub(crate) fn judge_resolving<'a, A: Allocator + Clone>(
     rows: &'a Rows<A>,
     t: &Transfer,
@@ -210,7 +209,7 @@ pub(crate) fn judge_resolving<'a, A: Allocator + Clone>(
     }
 }
 
-/// What is wrong by itself with a post or void.
+/// What is wrong with a post or void by itself.
 fn resolve_own(t: &Transfer) -> Result<(), CreateTransferResult>
     ensures { Judges transfer_result_code result (first_of (resolve_own_tests t.now)) }
 {
@@ -269,7 +268,7 @@ fn resolve_named(t: &Transfer, p: &Transfer, state: State) -> Result<(), CreateT
     }
 }
 
-/// It is given, and it isn't the other's.
+/// It is given, and differs from the other.
 fn differs(x: u128, other: u128) -> bool
     ensures { result ≡ differs x other }
 {
@@ -297,7 +296,7 @@ pub(crate) fn judge_closed(
     Ok(())
 }
 
-/// A post or void with the values of the pending transfer that it names where its own are 0.
+/// A post or void with the values of the pending transfer that it names wherever its own are 0.
 pub(crate) fn filled(t: &Transfer, p: &Transfer) -> Transfer
     ensures { result ≡ filled_from p.now t.now }
 {
@@ -326,7 +325,7 @@ pub(crate) fn filled(t: &Transfer, p: &Transfer) -> Transfer
     }
 }
 
-/// The amount of a post or void: a post of the largest number and a void of 0 take the whole.
+/// The amount of a post or void: a post of the largest number and a void of 0 take the whole amount.
 pub(crate) fn filled_with(t: &Transfer, p: &Transfer) -> u128
     ensures { result ≡ filled_amount p.now t.now }
 {
@@ -338,14 +337,14 @@ pub(crate) fn filled_with(t: &Transfer, p: &Transfer) -> u128
     }
 }
 
-/// The value given, or the pending transfer's where none is given.
+/// The value given, or the pending transfer's if none is given.
 fn given(x: u128, other: u128) -> u128
     ensures { result ≡ given_or x other }
 {
     if x == 0 { other } else { x }
 }
 
-/// A side never holds less than a pending transfer that is open; where it did, nothing would be left.
+/// A side never holds less than an open pending transfer does; if it did, nothing would be left.
 pub(crate) fn release_side(s: Side, p: &Transfer, closes: bool) -> Side
     ensures { result ≡ released (λ _. closes) p.now s }
 {
@@ -356,8 +355,8 @@ pub(crate) fn release_side(s: Side, p: &Transfer, closes: bool) -> Side
     }
 }
 
-/// The pending amount leaves before what is posted of it comes. A side that can settle has sums that fit; where they did not,
-/// they would stop at the greatest number.
+/// The pending amount is removed before the posted part of it is added. A side that can settle has sums that fit; if they did not, they would stop at
+/// the greatest number.
 pub(crate) fn settle_side(
     s: Side,
     p: &Transfer,

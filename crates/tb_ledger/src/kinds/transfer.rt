@@ -1,5 +1,5 @@
-//! A transfer of either kind: what is wrong with it, or with its id. Where it passes it is a post or void, or between two accounts.
-//! By profile 2 the id of one that fails for good is noted.
+//! A transfer of either kind: what is wrong with it, or with its id. An accepted transfer is a post or void, or a transfer between two accounts. By
+//! profile 2 the id of a transfer that fails permanently is noted.
 ghost use Rattle.std.specs.List.{list_any};
 ghost use Rattle.std.specs.Option.{option_map_or};
 ghost use Rattle.std.specs.Prelude.{◌≡◌, ◌≤◌, ◌==◌, true, false, ◌^◌, ◌<◌, Some, OnOk, nat_lt, if◌then◌else◌};
@@ -99,7 +99,7 @@ impl Event for Transfer {
     ghost open_is_new = { λ failed t final. absurd (false≢true final) };
 }
 
-/// By profile 2, notes the id of a transfer that has failed for good.
+/// By profile 2, notes the id of a transfer that has failed permanently.
 pub(crate) fn note_failed<A: Allocator + Clone>(
     rows: &mut Rows<A>,
     t: &Transfer,
@@ -124,7 +124,7 @@ pub(crate) fn note_failed<A: Allocator + Clone>(
     rows.failed.insert_reserved(t.id);
 }
 
-/// By profile 2 a transfer's id doesn't outlive this refusal.
+/// By profile 2 a transfer's id stays refused after this refusal.
 fn is_for_good(refusal: CreateTransferResult) -> bool
     ensures { result ≡ is_final (transfer_result_code refusal) }
 {
@@ -147,8 +147,7 @@ pub(crate) fn resolving(t: &Transfer) -> bool
     t.is_resolving()
 }
 
-/// What is wrong with a transfer of either kind, or with its id. One that passes has known flags alone, which are all in the low
-/// byte.
+/// What is wrong with a transfer of either kind, or with its id. An accepted transfer has only known flags, which are all in the low byte.
 pub(crate) fn judge_id<A: Allocator + Clone>(
     rows: &Rows<A>,
     t: &Transfer,
@@ -163,7 +162,7 @@ pub(crate) fn judge_id<A: Allocator + Clone>(
     }
 }
 
-/// What of a transfer is wrong whatever its kind.
+/// What is wrong with a transfer, whatever its kind.
 fn transfer_own(t: &Transfer) -> Result<(), CreateTransferResult>
     ensures judged { Judges transfer_result_code result (first_of (transfer_own_tests t.now)) }
     ensures plain { OnOk result (t.now.flags < 2 ^ 8) }
@@ -242,7 +241,7 @@ fn transfer_there(f: &Transfer, e: &Transfer) -> CreateTransferResult
     CreateTransferResult::Exists
 }
 
-/// The amount differs; of a balancing transfer, which may have moved less than it asks, it is below the recorded one.
+/// The amount differs; for a balancing transfer, which may have moved less than requested, it is below the recorded one.
 fn other_amount(f: &Transfer, e: &Transfer) -> bool
     ensures { result
         ≡ (if balancing f.now then
@@ -257,7 +256,7 @@ fn other_amount(f: &Transfer, e: &Transfer) -> bool
     }
 }
 
-/// By profile 2, whether the transfer's id has failed for good.
+/// By profile 2, whether the transfer's id has failed permanently.
 fn judge_failed<A: Allocator + Clone>(
     rows: &Rows<A>,
     t: &Transfer,
@@ -271,7 +270,7 @@ fn judge_failed<A: Allocator + Clone>(
     Ok(())
 }
 
-/// By profile 2: the transfer's id has failed for good.
+/// By profile 2: the transfer's id has failed permanently.
 fn failed_before<A: Allocator + Clone>(rows: &Rows<A>, t: &Transfer) -> bool
     ensures { result ≡ option_map_or (list_any (λ id. id == t.now.id)) (books_in rows.now).failed false }
 {

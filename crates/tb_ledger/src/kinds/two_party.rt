@@ -21,7 +21,7 @@ use tb_records::{
     AccountFlag, CreateTransferResult, LAST_MOMENT, NANOSECONDS_PER_SECOND, Transfer, TransferFlag,
 };
 
-/// Judges a transfer between two accounts whose id is free, and records it, balanced and stamped, where it passes.
+/// Judges a transfer between two accounts whose id is free, and records it, balanced and stamped, if it is accepted.
 pub(crate) fn take_two_party<A: Allocator + Clone>(
     work: &mut Work<A>,
     t: &Transfer,
@@ -45,8 +45,8 @@ pub(crate) fn take_two_party<A: Allocator + Clone>(
     Ok(())
 }
 
-/// Judges a transfer between two accounts, and changes their rows where it passes: the amount that it moves. Where changes are noted
-/// the undo log gets both rows from before.
+/// Judges a transfer between two accounts, and changes their rows if it is accepted; returns the amount that it moves. If changes are noted the undo
+/// log gets both rows from before.
 fn exchange<A: Allocator + Clone>(
     accounts: &mut Table<AccountRow, A>,
     undo_log: &mut UndoLog<A>,
@@ -66,8 +66,8 @@ fn exchange<A: Allocator + Clone>(
     }
 }
 
-/// Judges a transfer by the rows of its accounts, and changes both where it passes: the amount that it moves. The rows from before go
-/// to the undo log from here, and not through the search that calls this.
+/// Judges a transfer by the rows of its accounts, and changes both if it is accepted; returns the amount that it moves. The rows from before are put
+/// into the undo log here, and not returned through the search that calls this.
 fn exchange_rows<A: Allocator + Clone>(
     debit: &mut AccountRow,
     credit: &mut AccountRow,
@@ -93,7 +93,7 @@ fn exchange_rows<A: Allocator + Clone>(
     Ok(amount)
 }
 
-/// Which account isn't there.
+/// Which account is missing.
 fn missing<A: Allocator + Clone>(
     accounts: &Table<AccountRow, A>,
     t: &Transfer,
@@ -107,7 +107,7 @@ fn missing<A: Allocator + Clone>(
     }
 }
 
-/// What is wrong by itself with a transfer that is no post or void.
+/// What is wrong by itself with a transfer that is not a post or void.
 pub(crate) fn two_party_own(t: &Transfer) -> Result<(), CreateTransferResult>
     ensures { Judges transfer_result_code result (first_of (two_party_own_tests t.now)) }
 {
@@ -145,7 +145,7 @@ pub(crate) fn two_party_own(t: &Transfer) -> Result<(), CreateTransferResult>
     Ok(())
 }
 
-/// A transfer between two accounts that are there: the amount that it moves, where it passes.
+/// A transfer between two accounts that exist: the amount that it moves, if it is accepted.
 pub(crate) fn between(
     d: &AccountRow,
     c: &AccountRow,
@@ -182,7 +182,7 @@ fn pair(d: &AccountRow, c: &AccountRow, t: &Transfer) -> Result<(), CreateTransf
     Ok(())
 }
 
-/// What a balancing transfer moves between two accounts: at most what keeps its sides balanced.
+/// The amount that a balancing transfer moves between two accounts: at most what keeps its sides balanced.
 fn balanced(d: &AccountRow, c: &AccountRow, t: &Transfer) -> u128
     ensures { result ≡ balanced_amount (row_now d.now) (row_now c.now) t.now }
 {
@@ -299,7 +299,7 @@ pub(super) fn pending_part(t: &Transfer) -> u128
     if t.is_pending() { t.amount } else { 0 }
 }
 
-/// What a transfer moves for good.
+/// What a transfer posts.
 pub(super) fn posted_part(t: &Transfer) -> u128
     ensures { result ≡ (if moves t.now then t.now.amount else 0) }
 {

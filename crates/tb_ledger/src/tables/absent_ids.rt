@@ -4,14 +4,14 @@ ghost use Rattle.std.specs.List.{list_any};
 ghost use Rattle.std.specs.Option.{is_some, option_copied};
 ghost use Rattle.tb_ledger.specs.Tables.{MayBeKey, unfound, without_id};
 
-/// A bound of the keys, and ids that are none.
+/// A bound of the keys, and ids that are not keys.
 #[derive(Drop)]
 pub struct AbsentIds {
     /// No key is above it.
     pub top: u128,
     /// Ids were looked for.
     pub sought: bool,
-    /// Those of them that are no keys; 0 means none.
+    /// Those of them that are not keys; 0 means no id.
     pub absent: [u128; 8],
 }
 
@@ -22,7 +22,7 @@ fn is_among(ids: &[u128; 8], id: u128) -> bool
     0 < id && ids.contains(&id)
 }
 
-/// The id, or 0 where it is the other one.
+/// The id, or 0 if it is the other one.
 fn unless(id: u128, other: u128) -> u128
     ensures { result ≡ (if id == other then 0 else id) }
 {
@@ -46,14 +46,14 @@ fn without_id(ids: &[u128; 8], id: u128) -> [u128; 8]
     ]
 }
 
-/// The id, or 0 where its row was found.
+/// The id, or 0 if its row was found.
 fn if_unfound<V: Copy>(id: u128, row: &Option<&V>) -> u128
     ensures { result ≡ (if is_some (option_copied row.now) then 0 else id) }
 {
     if row.is_some() { 0 } else { id }
 }
 
-/// The ids whose rows were not found, with 0 for each other.
+/// The ids whose rows were not found, with 0 for each id whose row was found.
 pub fn unfound<V: Copy>(ids: &[u128; 8], rows: &[Option<&V>; 8]) -> [u128; 8]
     ensures { result ≡ unfound ids.now (map option_copied rows.now) }
 {
@@ -72,7 +72,7 @@ pub fn unfound<V: Copy>(ids: &[u128; 8], rows: &[Option<&V>; 8]) -> [u128; 8]
 }
 
 impl AbsentIds {
-    /// Of no keys.
+    /// There are no keys.
     pub fn new() -> Self {
         AbsentIds {
             top: 0,
@@ -81,7 +81,7 @@ impl AbsentIds {
         }
     }
 
-    /// The id is no key.
+    /// The id is not a key.
     pub fn excludes(&self, id: u128) -> bool
         ensures { result ≡ true → (k : ℕ) → MayBeKey self.now k → k ≢ id }
     {
@@ -94,7 +94,7 @@ impl AbsentIds {
         is_among(&self.absent, id)
     }
 
-    /// At least half of the ids may be keys, since they are not above all.
+    /// At least half of the ids may be keys, because they are not above all keys.
     pub fn is_worth_seeking(&self, ids: &[u128; 8]) -> bool {
         4 <= ids.iter().filter(|id| **id <= self.top).count()
     }

@@ -14,8 +14,8 @@ pub struct Side {
     pub held_closed: bool,
 }
 
-/// An account as it was created, and its two sides as they are now. An account is created with sums of 0 and nothing reserved, so
-/// its sums are where its record has them, and both sides' holds in place of what is reserved: a row is as long as a record.
+/// An account as it was created, and its two sides as they are now. An account is created with sums of 0 and nothing reserved. So its sums are at
+/// their place in the record, and both sides' holds in the place of the reserved bytes: a row is as long as a record.
 #[derive(Clone, Copy, Default)]
 pub struct AccountRow {
     id: u128,
@@ -131,14 +131,14 @@ impl AccountRow {
         self.ledger
     }
 
-    /// It is closed: created so, or held so by a pending transfer.
+    /// It is closed: created closed, or held closed by a pending transfer.
     pub fn is_closed(&self) -> bool
         ensures { result ≡ row_closed self.now }
     {
         AccountFlag::Closed.is_in(self.flags) || self.debits_held || self.credits_held
     }
 
-    /// Its flags as it is now.
+    /// Its current flags.
     pub fn flags_now(&self) -> u16
         ensures { result ≡ (row_now self.now).flags }
     {
@@ -149,7 +149,7 @@ impl AccountRow {
         }
     }
 
-    /// The account as it is now: with its present sums, and closed where it was created so or a pending transfer holds it so.
+    /// The account as it is now: with its current sums, and closed if it was created closed or a pending transfer holds it closed.
     pub fn as_it_stands(&self) -> Account
         ensures { result ≡ row_now self.now }
     {

@@ -14,7 +14,7 @@ use crate::tables::work::{Undo, UndoLog};
 use std::alloc::Allocator;
 use tb_records::{NANOSECONDS_PER_SECOND, Transfer};
 
-/// The row of a transfer that is new: a pending one is open.
+/// The row of a new transfer: a pending one is open.
 pub(crate) fn new_transfer_row(recorded: Transfer) -> TransferRow
     requires plain { recorded.flags < 2 ^ 8 }
     ensures row { result ≡ new_transfer_row recorded }
@@ -23,7 +23,7 @@ pub(crate) fn new_transfer_row(recorded: Transfer) -> TransferRow
     TransferRow::new(&recorded)
 }
 
-/// Adds the row of a transfer, and its timeout where it has one.
+/// Adds the row of a transfer, and its timeout if it has one.
 pub(crate) fn add_row<A: Allocator + Clone>(
     transfers: &mut Table<TransferRow, A>,
     timeouts: &mut Timeouts<A>,
@@ -49,7 +49,7 @@ pub(crate) fn add_row<A: Allocator + Clone>(
     list(timeouts, row);
 }
 
-/// It holds until its timeout ends it, or it is resolved.
+/// It holds until it is resolved or its timeout ends it.
 fn times_out(row: &TransferRow) -> bool
     ensures { result ≡ times_out row.now }
 {
@@ -79,7 +79,7 @@ pub fn list<A: Allocator + Clone>(timeouts: &mut Timeouts<A>, row: &TransferRow)
     }
 }
 
-/// Takes the timeout of a transfer that has one and was open.
+/// Removes the timeout of a transfer that has one and was open.
 pub fn unlist<A: Allocator + Clone>(timeouts: &mut Timeouts<A>, row: &TransferRow)
     requires { times_out row.now ≡ true → expires_at row.now.recorded ≤ LAST_MOMENT }
     ensures timeouts { timeouts.new ≡ unlisted row.now timeouts.old }

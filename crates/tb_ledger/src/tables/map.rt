@@ -9,15 +9,14 @@ use avl_tree::AvlMap;
 use std::alloc::{AllocError, Allocator};
 use std::marker::Model;
 
-/// A row that names itself by a key.
+/// A row that has a key.
 pub trait Keyed: Copy + Default {
     ghost key: { Self → ℕ };
 
     fn key(&self) -> u128
         ensures { result ≡ key self.now };
 
-    /// A number made of a field in each of its cache lines, so that whoever asks for it has all of the row in the cache. Nothing
-    /// follows from its value.
+    /// A number computed from a field in each of its cache lines, so that computing it brings the whole row into the cache. Its value has no meaning.
     fn mixed(&self) -> u128;
 }
 
@@ -33,14 +32,13 @@ impl Keyed for u128 {
     }
 }
 
-/// Rows by rising key. A table takes memory only where it is asked to reserve.
+/// Rows by rising key. A table allocates memory only on a call of `reserve`.
 #[derive(Drop)]
 pub struct Table<V: Keyed, A: Allocator + Clone> {
     rows: Option<AvlMap<u128, V, A>>,
-    /// What is known of their keys. It stays where rows are taken out.
+    /// What is known of their keys. It stays if rows are removed.
     absent_ids: AbsentIds,
-    /// The exclusive or of what rows that were touched gave: a search whose answer goes nowhere may be left out of the program. Nothing
-    /// reads it.
+    /// The exclusive or of the results for rows that were touched: the compiler may remove a search whose result is unused. Nothing reads it.
     touched: u128,
 }
 
@@ -54,13 +52,13 @@ impl<V: Keyed, A: Allocator + Clone> Model for Table<V, A> {
     ghost invariant = { λ t. KnowsAbsent V.key t.absent_ids (pairs_in t.rows) };
 }
 
-/// So many rows are no longer in a core's own memory, where a search for one of them hardly waits.
+/// So many rows no longer fit a core's private cache, in which a search for one of them hardly waits.
 const MANY_ROWS: usize = 4096;
 
-/// So many rows no longer fit the caches, where a search for a row waits for memory at most of its levels.
+/// So many rows no longer fit the caches: a search for a row then waits for memory at most of its levels.
 const LARGE_ROWS: usize = 65_536;
 
-/// Reads all cache lines of the rows that are there.
+/// Reads all cache lines of the rows that exist.
 fn read_whole<V: Keyed>(rows: &[Option<&V>; 8]) -> u128 {
     let mut mixed = 0;
     for row in rows {
@@ -72,7 +70,7 @@ fn read_whole<V: Keyed>(rows: &[Option<&V>; 8]) -> u128 {
 }
 
 impl<V: Keyed, A: Allocator + Clone> Table<V, A> {
-    /// An empty table. No memory is taken.
+    /// An empty table. No memory is allocated.
     pub fn new() -> Self
         ensures { result ≡ record { items = []; spare = 0 } }
     {
@@ -83,7 +81,7 @@ impl<V: Keyed, A: Allocator + Clone> Table<V, A> {
         }
     }
 
-    /// The row with the key. One that is known to be none is not searched for.
+    /// The row with the key. A key that is known to be absent is not searched for.
     pub fn get(&self, id: u128) -> Option<&V>
         ensures { option_copied result ≡ find (λ row. V.key row == id) self.now.items }
     {
@@ -96,7 +94,7 @@ impl<V: Keyed, A: Allocator + Clone> Table<V, A> {
         }
     }
 
-    /// The rows with eight keys, each as [`Table::get`] gives it. The searches go on interleaved.
+    /// The rows with eight keys, each as [`Table::get`] returns it. The searches are interleaved.
     pub fn get_many<'a>(&'a self, ids: &[u128; 8]) -> [Option<&'a V>; 8]
         ensures { map option_copied result
             ≡ map (λ id. find (λ row. V.key row == id) self.now.items) ids.now }
@@ -107,8 +105,7 @@ impl<V: Keyed, A: Allocator + Clone> Table<V, A> {
         }
     }
 
-    /// A search for the ids interleaved spares time: the rows are so many that a search for one waits for memory, and most of the
-    /// ids may be there.
+    /// An interleaved search for the ids saves time: there are so many rows that a search for one waits for memory, and most of the ids may exist.
     fn is_worth_seeking(&self, ids: &[u128; 8]) -> bool {
         match &self.rows {
             Some(rows) => MANY_ROWS <= rows.len() && self.absent_ids.is_worth_seeking(ids),
@@ -116,8 +113,8 @@ impl<V: Keyed, A: Allocator + Clone> Table<V, A> {
         }
     }
 
-    /// Looks for eight ids interleaved, and keeps in mind those that aren't there: the next search for one of them is spared. Where
-    /// rows are few, or most ids are above all keys, nothing is looked for.
+    /// Looks for eight ids interleaved, and remembers the absent ones: the next search for one of them is saved. If there are few rows, or most ids
+    /// are above all keys, nothing is looked for.
     pub fn seek(&mut self, ids: &[u128; 8])
         ensures { self.new ≡ self.old }
     {
@@ -130,7 +127,7 @@ impl<V: Keyed, A: Allocator + Clone> Table<V, A> {
         self.absent_ids.sought = true;
     }
 
-    /// The rows are so many that touching those needed next saves more than it costs.
+    /// There are so many rows that touching those needed next saves more than it costs.
     pub fn is_large(&self) -> bool
         ensures { IsTrue result ↔ 65536 ≤ length self.now.items }
     {
@@ -156,7 +153,7 @@ impl<V: Keyed, A: Allocator + Clone> Table<V, A> {
         self.touch(&[a.0, a.1, b.0, b.1, c.0, c.1, d.0, d.1]);
     }
 
-    /// The row with the key, and the number of nodes that the search met.
+    /// The row with the key, and the number of nodes that the search visited.
     pub fn probe(&self, id: u128) -> (Option<&V>, u32)
         ensures row { option_copied result.0 ≡ find (λ row. V.key row == id) self.now.items }
         ensures visits { IsShortSearch (length self.now.items) result.1 }
@@ -167,7 +164,7 @@ impl<V: Keyed, A: Allocator + Clone> Table<V, A> {
         }
     }
 
-    /// Makes capacity for `n` more rows, and for no more. Where there is no memory the rows stay, and no capacity is lost.
+    /// Makes capacity for exactly `n` more rows. If there is no memory the rows stay, and no capacity is lost.
     pub fn reserve(&mut self, alloc: &A, n: usize) -> Result<(), AllocError>
         ensures rows { self.new.items ≡ self.old.items }
         ensures ok { OnOk result (n ≤ self.new.spare) }
@@ -185,7 +182,7 @@ impl<V: Keyed, A: Allocator + Clone> Table<V, A> {
         }
     }
 
-    /// Inserts a row whose key isn't there, where there is capacity.
+    /// Inserts a row whose key does not exist, if there is capacity.
     pub fn insert_reserved(&mut self, row: V)
         requires capacity { 0 < self.old.spare }
         requires absent { find (λ y. V.key y == V.key row) self.old.items ≡ None }
@@ -199,7 +196,7 @@ impl<V: Keyed, A: Allocator + Clone> Table<V, A> {
         rows.insert_reserved(row.key(), row);
     }
 
-    /// Puts a row in place of the one that has its key. Where none has it, the table stays.
+    /// Puts a row in the place of the row with the same key. If there is none, the table stays.
     pub fn replace(&mut self, row: V)
         ensures table { self.new ≡ record self.old { items = replaced V.key row self.old.items } }
         ensures rising { Rising V.key self.old.items }
@@ -210,7 +207,7 @@ impl<V: Keyed, A: Allocator + Clone> Table<V, A> {
         let _ = rows.set(row.key(), row);
     }
 
-    /// Calls the closure at the row with the key, which it may change but for the key. Where none has it, nothing happens.
+    /// Calls the closure at the row with the key; the closure may change the row except its key. If there is no such row, nothing happens.
     pub fn update<R, F: FnMut(&mut V) -> R>(&mut self, id: u128, f: &mut F) -> Option<R>
         requires callable { F.IsAlwaysCallable f.old }
         requires keeps { KeepsKey V.key F.FnMut }
@@ -227,7 +224,8 @@ impl<V: Keyed, A: Allocator + Clone> Table<V, A> {
         rows.update(&id, f)
     }
 
-    /// Calls the closure at the rows of two keys, which it may change but for the keys. Where one has none, nothing happens.
+    /// Calls the closure at the rows of two keys; the closure may change the rows except their keys. If one of the rows does not exist, nothing
+    /// happens.
     pub fn update_two<R, F: FnMut(&mut V, &mut V) -> R>(
         &mut self,
         a: u128,
@@ -249,7 +247,7 @@ impl<V: Keyed, A: Allocator + Clone> Table<V, A> {
         rows.update_two(&a, &b, f)
     }
 
-    /// Takes the row with the key out. Where none has it, the table stays.
+    /// Removes the row with the key. If there is no such row, the table stays.
     pub fn remove(&mut self, id: u128)
         ensures rows { self.new.items ≡ taken_out V.key id self.old.items }
         ensures capacity { self.new.spare

@@ -15,18 +15,18 @@ use tb_records::Profile;
 pub struct Rows<A: Allocator + Clone> {
     pub accounts: Table<AccountRow, A>,
     pub transfers: Table<TransferRow, A>,
-    /// The ids of transfers that failed for good; by profile 1 it stays empty.
+    /// The ids of transfers that failed permanently; by profile 1 it stays empty.
     pub failed: Table<u128, A>,
     /// By profile 2 such ids are kept.
     pub keeps_failed: bool,
-    /// A timeout for each open pending transfer that has one, and for no other.
+    /// Exactly one timeout for each open pending transfer that has one.
     pub timeouts: Timeouts<A>,
-    /// Of the last entry, in nanoseconds.
+    /// The time of the last entry, in nanoseconds.
     pub time: u64,
 }
 
 impl<A: Allocator + Clone> Rows<A> {
-    /// The rows of a new ledger. No memory is taken.
+    /// The rows of a new ledger. No memory is allocated.
     pub fn new(profile: Profile) -> Self
         ensures kept { AreRowsKept result }
         ensures books { books_in result ≡ empty_books profile }

@@ -16,7 +16,7 @@ pub struct Timeout {
     pub id: u128,
 }
 
-/// Timeouts by rising time, and by rising id where times are the same. They take memory only where they are asked to reserve.
+/// Timeouts by rising time, and by rising id if times are equal. They allocate memory only on a call of `reserve`.
 #[derive(Drop)]
 pub struct Timeouts<A: Allocator + Clone> {
     keys: Option<AvlMap<(u64, u128), (), A>>,
@@ -34,7 +34,7 @@ impl<A: Allocator + Clone> Model for Timeouts<A> {
     ghost invariant = { λ t. AreTimeouts (timeouts_in t.keys) };
 }
 
-/// Puts a timeout that isn't there into a spare node.
+/// Puts a new timeout into a spare node.
 fn insert_key<A: Allocator + Clone>(keys: &mut AvlMap<(u64, u128), (), A>, timeout: Timeout)
     requires ordered { AreTimeouts (timeouts_of (entries keys.old)) }
     requires capacity { 0 < keys.old.spare }
@@ -46,7 +46,7 @@ fn insert_key<A: Allocator + Clone>(keys: &mut AvlMap<(u64, u128), (), A>, timeo
     keys.insert_reserved((timeout.at, timeout.id), ());
 }
 
-/// Takes a timeout out, if it is there. Its node becomes spare.
+/// Removes a timeout, if it exists. Its node becomes spare.
 fn remove_key<A: Allocator + Clone>(keys: &mut AvlMap<(u64, u128), (), A>, timeout: Timeout)
     requires ordered { AreTimeouts (timeouts_of (entries keys.old)) }
     ensures ordered { AreTimeouts (timeouts_of (entries keys.new)) }
@@ -60,7 +60,7 @@ fn remove_key<A: Allocator + Clone>(keys: &mut AvlMap<(u64, u128), (), A>, timeo
     let _ = keys.remove(&(timeout.at, timeout.id));
 }
 
-/// The first timeout, where it is due at the time.
+/// The first timeout, if it is due at the time.
 fn first_due<A: Allocator + Clone>(keys: &AvlMap<(u64, u128), (), A>, time: u64) -> Option<Timeout>
     requires { AreTimeouts (timeouts_of (entries keys.now)) }
     ensures { IsFirstDue time (timeouts_of (entries keys.now)) result }
@@ -74,7 +74,7 @@ fn first_due<A: Allocator + Clone>(keys: &AvlMap<(u64, u128), (), A>, time: u64)
     }
 }
 
-// Takes the first timeout out, where it is due at the time. Its node becomes spare.
+// Removes and returns the first timeout, if it is due at the time. Its node becomes spare.
 fn pop_first_due<A: Allocator + Clone>(
     keys: &mut AvlMap<(u64, u128), (), A>,
     time: u64,
@@ -89,14 +89,14 @@ fn pop_first_due<A: Allocator + Clone>(
 }
 
 impl<A: Allocator + Clone> Timeouts<A> {
-    /// No timeouts. No memory is taken.
+    /// No timeouts. No memory is allocated.
     pub fn new() -> Self
         ensures { result ≡ record { items = []; spare = 0 } }
     {
         Timeouts { keys: None }
     }
 
-    /// Makes capacity for `n` more timeouts, and for no more. Where there is no memory they stay, and no capacity is lost.
+    /// Makes capacity for exactly `n` more timeouts. If there is no memory they stay, and no capacity is lost.
     pub fn reserve(&mut self, alloc: &A, n: usize) -> Result<(), AllocError>
         ensures timeouts { self.new.items ≡ self.old.items }
         ensures ok { OnOk result (n ≤ self.new.spare) }
@@ -115,7 +115,7 @@ impl<A: Allocator + Clone> Timeouts<A> {
         }
     }
 
-    /// Inserts a timeout that isn't there, where there is capacity.
+    /// Inserts a new timeout, if there is capacity.
     pub fn insert_reserved(&mut self, timeout: Timeout)
         requires capacity { 0 < self.old.spare }
         requires absent { find (λ d. timeout_key d == timeout_key timeout) self.old.items ≡ None }
@@ -127,7 +127,7 @@ impl<A: Allocator + Clone> Timeouts<A> {
         }
     }
 
-    /// Takes a timeout out. Where it isn't there, the timeouts stay.
+    /// Removes a timeout. If it does not exist, the timeouts stay.
     pub fn remove(&mut self, timeout: Timeout)
         ensures timeouts { self.new ≡ without_timeout timeout self.old }
         ensures ordered { AreTimeouts self.old.items }
@@ -138,7 +138,7 @@ impl<A: Allocator + Clone> Timeouts<A> {
         }
     }
 
-    /// The ids of the first eight timeouts, and 0 for each that isn't there.
+    /// The ids of the first eight timeouts, and 0 for each that is missing.
     pub fn next_eight(&self) -> [u128; 8] {
         let mut ids = [0; 8];
         if let Some(keys) = &self.keys {
@@ -166,7 +166,7 @@ impl<A: Allocator + Clone> Timeouts<A> {
         }
     }
 
-    /// Takes the first timeout out, where it is due at the time.
+    /// Removes and returns the first timeout, if it is due at the time.
     pub fn pop_due(&mut self, time: u64) -> Option<Timeout>
         ensures { TakesDue time self.old result self.new }
     {

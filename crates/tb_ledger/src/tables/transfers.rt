@@ -6,7 +6,7 @@ use crate::tables::map::Keyed;
 use std::marker::Model;
 use tb_records::Transfer;
 
-/// Where a pending transfer is.
+/// The state of a pending transfer.
 #[derive(Clone, Copy, Debug, PartialEq, Eq, Default)]
 pub enum State {
     /// It holds its amount on both accounts.
@@ -20,8 +20,8 @@ pub enum State {
     Expired,
 }
 
-/// A transfer as it was recorded, and the state of a pending one. A recorded transfer has none of the flags of the high byte, so
-/// its state is in place of that: a row is as long as a record.
+/// A transfer as it was recorded, and the state of a pending one. A recorded transfer has none of the flags of the high byte, so its state is in that
+/// byte: a row is as long as a record.
 #[derive(Clone, Copy, Default)]
 pub struct TransferRow {
     id: u128,
@@ -65,7 +65,7 @@ impl Keyed for TransferRow {
 }
 
 impl TransferRow {
-    /// The row of a transfer that is new: a pending one is open.
+    /// The row of a new transfer: a pending one is open.
     pub fn new(recorded: &Transfer) -> TransferRow
         requires { recorded.now.flags < 2 ^ 8 }
         ensures { result ≡ new_transfer_row recorded.now }
@@ -116,7 +116,7 @@ impl TransferRow {
         (self.debit_account_id, self.credit_account_id)
     }
 
-    /// Where it is, if it is pending.
+    /// Its state, if it is pending.
     pub fn state(&self) -> State
         ensures { result ≡ self.now.state }
     {

@@ -1,5 +1,4 @@
-//! A batch in progress: the tables that it changes, the undo log of its present chain, by which one that breaks is undone, and the
-//! results so far.
+//! A batch in progress: the tables that it changes, the undo log of its current chain, by which a broken chain is undone, and the results so far.
 ghost use Rattle.std.specs.Prelude.{◌≡◌, ◌+◌, ◌<◌, ◌≤◌, ◌++◌, [], ◌∷◌, length, OnOk, ◌*◌, false, IfSome, IfNone};
 ghost use Rattle.tb_ledger.specs.Books.{empty_books};
 ghost use Rattle.tb_ledger.specs.Kept.{books_in, AreRowsKept};
@@ -17,7 +16,7 @@ use std::marker::Model;
 use std::mem;
 use tb_records::{EventResult, Profile};
 
-/// A batch in progress: the tables that it changes, the undo log of its present chain, and the results so far.
+/// A batch in progress: the tables that it changes, the undo log of its current chain, and the results so far.
 #[derive(Drop)]
 pub(crate) struct Work<A: Allocator + Clone> {
     pub rows: Rows<A>,
@@ -26,7 +25,7 @@ pub(crate) struct Work<A: Allocator + Clone> {
 }
 
 impl<A: Allocator + Clone> Work<A> {
-    /// Of a new ledger. No memory is taken.
+    /// The work of a new ledger. No memory is allocated.
     pub(crate) fn new(profile: Profile) -> Self
         ensures kept { AreRowsKept result.rows }
         ensures books { books_in result.rows ≡ empty_books profile }
@@ -39,7 +38,7 @@ impl<A: Allocator + Clone> Work<A> {
     }
 }
 
-/// The results of a batch so far. Their memory goes with them; where there is none, it stays for the next batch.
+/// The results of a batch so far. Results that are returned take their memory with them; if there are none, the memory stays for the next batch.
 #[derive(Drop)]
 pub(crate) struct Results {
     list: Option<Vec<EventResult>>,
@@ -57,14 +56,14 @@ impl Model for Results {
 }
 
 impl Results {
-    /// No results. No memory is taken.
+    /// No results. No memory is allocated.
     fn new() -> Self
         ensures { result ≡ record { items = []; capacity = 0 } }
     {
         Results { list: None }
     }
 
-    /// Begins the results of a batch of so many events: makes memory where the last ones were returned, or had too little.
+    /// Begins the results of a batch of so many events: allocates memory if the last results were returned, or had too little.
     pub(crate) fn reserve(&mut self, global: Global, events: usize) -> Result<(), AllocError>
         ensures none { OnOk result (self.new.items ≡ []) }
         ensures capacity { OnOk result (events ≤ self.new.capacity) }
@@ -114,11 +113,10 @@ pub enum Undo {
     AddedTransfer(TransferRow),
 }
 
-/// The records that an event adds to the log at most.
+/// The largest number of records that an event adds to the log.
 pub const UNDOS_PER_EVENT: usize = 4;
 
-/// The changes since a chain began, the oldest first. Of an event that is alone none is noted: it happens whole or not at
-/// all.
+/// The changes since a chain began, the oldest first. The changes of a single event are not noted: it is applied as a whole or not at all.
 #[derive(Drop)]
 pub struct UndoLog<A: Allocator + Clone> {
     log: Option<Vec<Undo, A>>,
@@ -141,7 +139,7 @@ impl<A: Allocator + Clone> Model for UndoLog<A> {
 }
 
 impl<A: Allocator + Clone> UndoLog<A> {
-    /// An empty log. No memory is taken.
+    /// An empty log. No memory is allocated.
     pub fn new() -> Self
         ensures { result ≡ record { changes = []; noting = false; capacity = 0 } }
     {
@@ -151,11 +149,10 @@ impl<A: Allocator + Clone> UndoLog<A> {
         }
     }
 
-    /// Makes capacity for the changes of so many events, where there is less: for the next power of two of them.
+    /// Makes capacity for the changes of so many events, if there is less: for the next power of two of them.
     ///
-    /// What an arena is given back it never gives out again. So a log goes only where the next batch needs a larger one, which is
-    /// then twice as large or more, and all logs of a ledger together take at most twice the largest. That one has 4.7 MB, for
-    /// the events of the longest body.
+    /// An arena does not reuse what is freed. So a log is replaced only if the next batch needs a larger one, which is then at least twice as large.
+    /// All logs of a ledger together take at most twice the largest, which has 4.7 MB, for the events of the longest body.
     pub fn reserve(&mut self, alloc: &A, events: usize) -> Result<(), AllocError>
         requires { events ≤ ITEMS_MAX }
         ensures { OnOk result (UNDOS_PER_EVENT * events ≤ self.new.capacity) }
@@ -200,7 +197,7 @@ impl<A: Allocator + Clone> UndoLog<A> {
         }
     }
 
-    /// Adds the record of a change, where changes are noted.
+    /// Adds the record of a change, if changes are noted.
     pub fn note(&mut self, undo: Undo)
         requires { length self.old.changes < self.old.capacity }
         ensures { self.new ≡ with_noted undo self.old }
@@ -210,8 +207,8 @@ impl<A: Allocator + Clone> UndoLog<A> {
         }
     }
 
-    /// Adds the rows of two accounts from before their change, where changes are noted. The search that calls this cannot know that
-    /// there is capacity for both: where there is none, nothing is noted.
+    /// Adds the rows of two accounts from before their change, if changes are noted. The search that calls this cannot know that there is capacity
+    /// for both: if there is none, nothing is noted.
     pub fn note_pair(&mut self, debit: &AccountRow, credit: &AccountRow)
         ensures { NotesPair debit.now credit.now self.old self.new }
     {
@@ -224,7 +221,7 @@ impl<A: Allocator + Clone> UndoLog<A> {
         }
     }
 
-    /// Takes the last record off.
+    /// Removes the last record.
     fn pop(&mut self) -> Option<Undo>
         ensures changes { IfSome result (λ undo. self.old.changes ≡ self.new.changes ++ undo ∷ []) }
         ensures none { IfNone result (self.old.changes ≡ []) }
@@ -238,7 +235,7 @@ impl<A: Allocator + Clone> UndoLog<A> {
     }
 }
 
-/// Undoes a change. No memory is taken.
+/// Undoes a change. No memory is allocated.
 fn undo_one<A: Allocator + Clone>(rows: &mut Rows<A>, undo: Undo)
     requires { CanUndo undo (chained rows.old) }
     ensures { IsUndoneTo (undone_by undo (chained rows.old)) rows.old rows.new }
@@ -257,7 +254,7 @@ fn undo_one<A: Allocator + Clone>(rows: &mut Rows<A>, undo: Undo)
     }
 }
 
-/// Undoes the changes of the undo log, the last first. No memory is taken.
+/// Undoes the changes of the undo log, the last first. No memory is allocated.
 pub fn unwind<A: Allocator + Clone>(rows: &mut Rows<A>, undo_log: &mut UndoLog<A>)
     requires { CanUnwind undo_log.old.changes (chained rows.old) }
     ensures unwound { IsUndoneTo (unwound undo_log.old.changes (chained rows.old)) rows.old rows.new }

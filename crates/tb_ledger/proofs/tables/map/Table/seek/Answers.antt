@@ -2,7 +2,7 @@ use Rattle.tb_ledger.proofs.Common.{sym, ap, ◌∙◌, map, option_copied, find
 use Rattle.tb_ledger.proofs.AbsentKeys.{known-unfound, known-unsought}
 use Rattle.tb_ledger.proofs.tables.map.Table.seek.Goals as goal
 
--- where nothing is looked for
+-- if nothing is looked for
 pub invariant_of-self : goal.invariant_of-self
 invariant_of-self g c =
     record { table = c.self.invariant.table; may = known-unsought g.V.Keyed.key c.self.inside.absent_ids (rows_in c.self.inside.rows) c.self.invariant.may }
