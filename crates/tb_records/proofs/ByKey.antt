@@ -21,7 +21,7 @@ pub sum_by-put : {X : Type 0} (key : X → ℕ) (f : X → ℕ) (x : X) (xs : Li
 sum_by-put key f x [] = omega arith
 sum_by-put key f x (y ∷ ys) = grind (arith, sum_by-cons f y (put key x ys), sum_by-cons f y ys, sum_by-cons f x (y ∷ ys), sum_by-put key f x ys)
 
--- a record in another's place gives its share for the other's
+-- a record in the place of another adds its share and removes the other's
 pub sum_by-replaced : {X : Type 0} (key : X → ℕ) (f : X → ℕ) (x old : X) (xs : List X) → find (λ y. key y == key x) xs ≡ Some old → sum_by f (replaced key x xs) + f old ≡ sum_by f xs + f x
 sum_by-replaced key f x old [] found = absurd (cc)
 sum_by-replaced key f x old (y ∷ ys) found = grind (arith, sum_by-replaced key f x old ys, sum_by-cons)
@@ -45,7 +45,7 @@ pub find-put_here : {X : Type 0} (key : X → ℕ) (p : X → Bool) (x : X) (xs 
 find-put_here key p x [] passes none = rw passes refl
 find-put_here key p x (y ∷ ys) passes none = grind (arith, find-put_here key p x ys)
 
--- where nothing is found after a record more, it isn't found and nothing was before
+-- if nothing is found after a record was added, the record is not found and nothing was found before
 pub find-put_none : {X : Type 0} (key : X → ℕ) (p : X → Bool) (x : X) (xs : List X) → find p (put key x xs) ≡ None → (p x ≡ false) × (find p xs ≡ None)
 find-put_none key p x [] none = grind arith
 find-put_none key p x (y ∷ ys) none = grind (arith, find-put_none key p x ys)
@@ -202,7 +202,7 @@ rising-changed key id f (y ∷ ys) same rising =
     let kept : Each (λ z. key (f y) < key z) ys = subst (λ k. Each (λ z. k < key z) ys) (sym (same y)) rising.0 in
     grind (arith, rising-changed key id f ys same rising.1)
 
--- by any key, what is found is what was found, changed where it is the one
+-- by any key, what is found is what was found, changed if it is the changed record
 pub find-changed : {X : Type 0} (key : X → ℕ) (id : ℕ) (f : X → X) (k : ℕ) (xs : List X) → ((y : X) → key (f y) ≡ key y) → find (λ y. key y == k) (changed key id f xs) ≡ option_map (λ y. if key y == id then f y else y) (find (λ y. key y == k) xs)
 find-changed key id f k [] same = refl
 find-changed {X = X} key id f k (y ∷ ys) same =

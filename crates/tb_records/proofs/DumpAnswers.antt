@@ -43,7 +43,7 @@ head_stands profile clients_max rest few = row_stands (8 ∷ 4 ∷ 4 ∷ []) (he
 short_head : (b : List ℕ) → length b < 16 → HasNoHead b
 short_head b few profile clients_max rest is e = absurd (grind (arith, length-append, length-head))
 
--- more bytes behind make no head
+-- more bytes after them make no head
 no_head_more : (b more : List ℕ) → length b ≡ 16 → HasNoHead b → HasNoHead (b ++ more)
 no_head_more b more long none profile clients_max rest is e =
     none profile clients_max [] is ((split_at b (head_bytes profile clients_max) more rest (long ∙ sym (length-head profile clients_max)) e).0 ∙ sym (append-nil (head_bytes profile clients_max)))
@@ -95,7 +95,7 @@ bad_frame fault commit time (Some old) (Some mid) (Some new) some read rest = by
     by Short begun left rest = inr (mid, begun, (rest.1, rest.2))
     by fault begun left rest = (mid, begun, rest)
 
--- the numbers that 16 bytes spell
+-- the numbers that 16 bytes encode
 pub two_numbers : (buf : List ℕ) (n : ℕ) (first second : ℕ) (old new : Option (List ℕ)) → 16 ≤ n → length buf ≡ 16 → Filled n buf old new
     → take 8 buf ≡ take 0 buf ++ le_bytes 8 first → take 16 buf ≡ take 8 buf ++ le_bytes 8 second → first < 2 ^ 64 → second < 2 ^ 64 → ReadsNumbers first second old new
 unfolding numbers_bytes
@@ -104,7 +104,7 @@ two_numbers buf n first second old new h long f first_bytes second_bytes first_f
     let whole = take_all 16 buf (omega arith) in
     grind arith
 
--- the head that 16 bytes spell
+-- the head that 16 bytes encode
 pub spelled_head : (buf : List ℕ) (sign number clients_max : ℕ) (profile : Profile) → length buf ≡ 16 → sign ≡ 3553425134609187412 → number ≡ profile_number profile
     → take 8 buf ≡ take 0 buf ++ le_bytes 8 sign → take 12 buf ≡ take 8 buf ++ le_bytes 4 number → take 16 buf ≡ take 12 buf ++ le_bytes 4 clients_max → buf ≡ head_bytes profile clients_max
 unfolding head_bytes

@@ -9,7 +9,7 @@ abbrev pub NoneHolds : List (Bool × FrameFault) → Type 0
 NoneHolds [] = Unit {0}
 NoneHolds (test ∷ tests) = (test.0 ≡ false) × NoneHolds tests
 
--- where there is no fault no test holds
+-- if there is no fault no test holds
 pub none_each : (tests : List (Bool × FrameFault)) → first_fault tests ≡ None → NoneHolds tests
 none_each [] e = tt
 none_each (test ∷ tests) e = grind (arith, none_each tests)

@@ -17,11 +17,11 @@ tests_of client session request operation low len high =
     ∷ (not (operation == 2) && request == 0, RequestZero)
     ∷ length_tests operation len
 
--- bytes behind a header leave its length alone
+-- bytes after a header do not change its length
 pub length_at-append : (b rest : List ℕ) → 48 ≤ length b → length_at (b ++ rest) ≡ length_at b
 length_at-append b rest h = le_at-append 4 32 b rest (omega arith)
 
--- bytes behind a header leave its fault alone
+-- bytes after a header do not change its fault
 pub header_fault-append : (b rest : List ℕ) → 48 ≤ length b → header_fault (b ++ rest) ≡ header_fault b
 unfolding header_fault
 header_fault-append b rest h =

@@ -1,4 +1,4 @@
--- Headers: what their bytes say, and what bytes behind them leave alone.
+-- Headers: what their bytes contain, and what bytes after them do not change.
 use Rattle.std.proofs.Common.{◌≡◌, ℕ, ◌<◌, ◌≤◌, List, [], ◌∷◌, length, slice_index, None, ◌∙◌, arith}
 use Rattle.tb_records.specs.Numbers.{le_bytes, le_at}
 use Rattle.std.proofs.Common.{Result, Ok, Err, MatchResult, OnOk, Some, ◌/◌, ◌*◌}
@@ -37,7 +37,7 @@ header_spelled b h fits sound =
       body = le_at-fits 4 32 b fits;
     }
 
--- the same of the answer of a function that found no fault
+-- the same for the result of a function that found no fault
 pub ok_spelled : (b : List ℕ) (answer : Result Header FrameFault) → 48 ≤ length b → ((i : ℕ) → slice_index b i < 256)
     → MatchResult answer (λ h. HeaderOf b h) (λ f. header_fault b ≡ Some f) → OnOk answer (HeaderSpelled b)
 ok_spelled b (Ok h) long fits m = header_spelled b long fits m.sound

@@ -1,4 +1,4 @@
--- Numbers and their bytes: each number has one spelling, and bytes spell the number that is in them.
+-- Numbers and their bytes: each number has one encoding, and bytes encode the number that is in them.
 use Rattle.std.proofs.Common.{◌≡◌, ℕ, set, zero, suc, ◌+◌, ◌*◌, ◌/◌, ◌%◌, ◌^◌, ◌-◌, ◌<◌, ◌≤◌, List, [], ◌∷◌, ◌++◌, length, take, drop, slice_index, refl, sym, ap, ◌∙◌, arith, add-zero}
 use Rattle.std.proofs.Math.Nat.{add-mul-mod_self_left, add-mul-div_left, div-div-eq-div-mul, div-one, mod-eq_of_lt, mod-lt, div-eq_of_lt, pow-succ'}
 use Rattle.std.proofs.Math.Seq.{take-add}
@@ -68,7 +68,7 @@ two_halves x =
     ap (λ (bs : List ℕ). bs ++ bytes_low_first 0 8 (x / 2 ^ 64)) (bytes_below 8 x)
     ∙ ap (λ (bs : List ℕ). bytes_low_first 0 8 x ++ bs) (sym (bytes_from 8 8 x))
 
--- a number that fits has one spelling
+-- a number that fits has one encoding
 pub le_bytes-one : (n x y : ℕ) → x < 256 ^ n → y < 256 ^ n → le_bytes n x ≡ le_bytes n y → x ≡ y
 unfolding le_bytes
 le_bytes-one n x y hx hy e =
@@ -79,7 +79,7 @@ pub le_at-fits : (n at : ℕ) (xs : List ℕ) → ((i : ℕ) → slice_index xs 
 unfolding le_at
 le_at-fits n at xs b = little_from-lt 0 n (drop at xs) (λ k. let e = get_or-drop at xs k 0 in omega (arith, b (at + k)))
 
--- the bytes from a place on are the spelling of the number that is there
+-- the bytes from a place on are the encoding of the number that is there
 pub le_at-spelled : (n at : ℕ) (xs : List ℕ) → at + n ≤ length xs → ((i : ℕ) → slice_index xs i < 256) → take (at + n) xs ≡ take at xs ++ le_bytes n (le_at n at xs)
 unfolding le_at le_bytes
 le_at-spelled n at xs h b =
@@ -87,13 +87,13 @@ le_at-spelled n at xs h b =
     bytes_of_number n (drop at xs) (omega (arith, length-drop at xs)) (λ k. let e = get_or-drop at xs k 0 in omega (arith, b (at + k))) in
     take-add at n xs ∙ ap (λ (bs : List ℕ). take at xs ++ bs) (sym bytes)
 
--- more bytes behind change no number before them
+-- more bytes after them change no number
 pub le_at-append : (n at : ℕ) (xs ys : List ℕ) → at + n ≤ length xs → le_at n at (xs ++ ys) ≡ le_at n at xs
 unfolding le_at
 le_at-append n at xs ys h =
     ap (little_from 0 n) (drop-append-le at xs ys (omega arith)) ∙ little_from-append n (drop at xs) ys (omega (arith, length-drop at xs))
 
--- the number behind the bytes in front
+-- the number after the bytes in front
 pub le_at-last : (n at x : ℕ) (front : List ℕ) → length front ≡ at → x < 256 ^ n → le_at n at (front ++ le_bytes n x) ≡ x
 unfolding le_at le_bytes
 le_at-last n at x front h fits =

@@ -9,7 +9,7 @@ use Rattle.tb_records.specs.declared.bodies.Body.{Body}
 use Rattle.tb_records.specs.declared.bodies.Body.TheVariants.{Register, CreateAccounts, CreateTransfers, LookupAccounts, LookupTransfers}
 use Rattle.tb_records.specs.Same.{same_account, same_transfer, same_body}
 
--- where the test of two items says that they are equal, so does the test of two lists
+-- if the test of two items says that they are equal, so does the test of two lists
 pub one_list : {X : Type 0} (test : X → X → Bool) → ((a b : X) → test a b ≡ true → a ≡ b) → (xs ys : List X) → pointwise test xs ys ≡ true → xs ≡ ys
 one_list test one [] [] h = refl
 one_list test one (x ∷ xs) (y ∷ ys) h = grind (arith, one x y, one_list test one xs ys)

@@ -1,4 +1,4 @@
--- Each record has one spelling, and so has a row of them.
+-- Each record has one encoding, and so has a list of them.
 use Rattle.std.proofs.Common.{◌≡◌, ℕ, ◌<◌, List, [], ◌∷◌, ◌++◌, length, flat_map, All, refl, sym, ap, ◌∙◌, arith, length-append}
 use Rattle.std.proofs.lemmas.List.Elements.{All-head, All-tail}
 use Rattle.tb_records.specs.declared.records.Account.{Account}
@@ -9,7 +9,7 @@ use Rattle.tb_records.specs.RecordBytes.{account_bytes, transfer_bytes, result_b
 use Rattle.tb_records.proofs.NumberBytes.{split_at}
 use Rattle.tb_records.proofs.Rows.{row_bytes, Fit, one_row}
 
--- numbers that are spelled alike, with nothing behind them
+-- numbers with the same encoding, with nothing after them
 one_spelling : (widths xs ys : List ℕ) → length xs ≡ length widths → length ys ≡ length widths → Fit widths xs → Fit widths ys → row_bytes widths xs ≡ row_bytes widths ys → xs ≡ ys
 one_spelling widths xs ys many_x many_y fit_x fit_y e = (one_row widths xs ys [] [] many_x many_y fit_x fit_y (ap (λ l. l ++ []) e)).0
 
@@ -51,7 +51,7 @@ one_result a b fa fb e =
     let same = one_spelling (4 ∷ 4 ∷ []) (a.index ∷ a.result ∷ []) (b.index ∷ b.result ∷ []) refl refl (fa.index, (fa.result, tt)) (fb.index, (fb.result, tt)) e in
     grind arith
 
--- items of one size, each of which has one spelling
+-- items of one size, each of which has one encoding
 pub items_one : {X : Type 0} (spelling : X → List ℕ) (Fits : X → Type 0) (size : ℕ) → 0 < size → ((x : X) → length (spelling x) ≡ size)
     → ((x y : X) → Fits x → Fits y → spelling x ≡ spelling y → x ≡ y)
     → (xs ys : List X) → All Fits xs → All Fits ys → flat_map spelling xs ≡ flat_map spelling ys → xs ≡ ys

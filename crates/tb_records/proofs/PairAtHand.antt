@@ -1,4 +1,4 @@
--- What is answered of a pair among the buffered bytes.
+-- The result for a pair among the buffered bytes.
 use Rattle.std.proofs.Common.{◌≡◌, ℕ, Bool, true, false, if◌then◌else◌, subst, ◌+◌, ◌-◌, ◌<◌, ◌≤◌, ◌^◌, List, ◌++◌, length, take, drop, Option, Some, None, Ok, Err, refl, sym, ap, ◌∙◌, arith, length-append, length-take, length-drop, drop_at, append_assoc, take_all}
 use Rattle.std.proofs.Math.Seq.{take-add}
 use Rattle.std.proofs.lemmas.List.{take-append-drop, take-append-le}
@@ -15,7 +15,7 @@ use Rattle.tb_records.specs.Numbers.{le_bytes}
 use Rattle.tb_records.specs.private.PairAtHand.{BeginsWithPair, BeginsWithHeader}
 use Rattle.tb_records.proofs.FrameFaults.{header_first, header_fault-append}
 
--- a moment, and the request that the bytes behind it begin with
+-- a moment, and the request that the bytes after it begin with
 pub pair_found : (moment count : ℕ) (request : Message) (bytes : List ℕ) → 8 ≤ length bytes → moment < 2 ^ 64 → take (0 + 8) bytes ≡ take 0 bytes ++ le_bytes 8 moment
     → Found (Ok (request, count)) (drop 8 bytes) → BeginsWithPair moment request (8 + count) bytes
 pair_found moment count request bytes long small first found = record {

@@ -29,7 +29,7 @@ taken at n end xs h = grind (arith, take-add, between_to_end)
 pub flows : (n : ℕ) (bytes : List ℕ) (mid new : Output) → (n ≡ 0 → ⊥) → Takes n bytes mid new → new.stalled ≡ mid.stalled
 flows n bytes mid new h takes = grind (arith, nat_tests)
 
--- a refusal behind answers that were none
+-- a refusal after results that were not refusals
 pub refuses_since : (old mid new : Output) → mid.failed ≡ old.failed → mid.stalled ≡ old.stalled → Refuses mid new → Refuses old new
 refuses_since old mid new counted flowed refuses = grind arith
 
@@ -64,7 +64,7 @@ cut_off_in front bytes rest whole old mid new parts grown counted flowed cut =
       refused = refuses_since old mid new counted flowed cut.refused;
     }
 
--- the spellings of a row in three parts
+-- the encodings of a list in three parts
 pub spellings_in : {X : Type 0} (spelling : X → List ℕ) (front part rest items : List X) → items ≡ front ++ (part ++ rest)
     → flat_map spelling items ≡ flat_map spelling front ++ (flat_map spelling part ++ flat_map spelling rest)
 spellings_in spelling front part rest items parts = grind (arith, flat_map-append)

@@ -30,7 +30,7 @@ not_memory : (b : List ℕ) → reply_header_fault b ≡ Some NoMemory → ⊥
 unfolding reply_header_fault
 not_memory b e = grind arith
 
--- what a reader answers where the header has a fault
+-- what a reader returns if the header has a fault
 pub found_header_fault : (b : List ℕ) (f : FrameFault) → 48 ≤ length b → reply_header_fault b ≡ Some f → FoundReply (Err f) b
 found_header_fault b NoMemory h e = absurd (not_memory b e)
 found_header_fault b f h e = header_first b f h e

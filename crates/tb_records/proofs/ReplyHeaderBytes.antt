@@ -1,4 +1,4 @@
--- The header of a reply that was read: its bytes are the spelling of its fields, and its numbers go together.
+-- The header of a reply that was read: its bytes are the encoding of its fields, and its numbers go together.
 use Rattle.std.proofs.Common.{◌≡◌, ℕ, ◌+◌, ◌-◌, ◌<◌, ◌≤◌, Bool, true, false, not, ◌&&◌, ◌==◌, nat_lt, List, [], ◌∷◌, ◌++◌, length, take, drop, slice_index, None, sym, ap, ◌∙◌, arith, if◌then◌else◌}
 use Rattle.std.proofs.Math.Seq.{take-add}
 use Rattle.std.proofs.lemmas.Bool.{eq-eqb}
@@ -29,7 +29,7 @@ reserved_zero : (b : List ℕ) → reply_header_fault b ≡ None → (le_at 2 30
 unfolding reply_header_fault
 reserved_zero b e = let tests = none_each (reply_header_tests b) e in grind (arith, nat_tests)
 
--- the bytes of a header are the spelling of its fields
+-- the bytes of a header are the encoding of its fields
 header_spelled : (b : List ℕ) (h : ReplyHeader) → 48 ≤ length b → ((i : ℕ) → slice_index b i < 256) → IsReplyHeader b h
     → take 48 b ≡ reply_header_bytes h.numbers.client h.numbers.session h.numbers.request h.numbers.operation (status_code h.numbers.status) h.len h.numbers.commit
 unfolding reply_header_bytes le_bytes
@@ -69,11 +69,11 @@ header_right b h body bytes of is long =
     let count = row_count h.numbers.operation (status_code h.numbers.status) _ _ (is_row h.numbers.operation (status_code h.numbers.status) body is.kind) in
     grind arith
 
--- the bytes of the body behind the header
+-- the bytes of the body after the header
 pub body_behind : (b : List ℕ) (n : ℕ) → 48 + n ≤ length b → length (take (48 + n - 48) (drop 48 b)) ≡ n
 body_behind b n long = omega (arith, length-take (48 + n - 48) (drop 48 b), length-drop 48 b)
 
--- a header, and the body of its kind and length behind it: a reply
+-- a header, and the body of its kind and length after it: a reply
 pub found_reply : (b : List ℕ) (h : ReplyHeader) (body : ReplyBody) → ((i : ℕ) → slice_index b i < 256) → IsReplyHeader b h → 48 + h.len ≤ length b
     → IsReplyBody h.numbers.operation (status_code h.numbers.status) body (take (48 + h.len - 48) (drop 48 b))
     → SpellsReply (take (48 + h.len) b) (answer_of h.numbers body)
@@ -97,5 +97,5 @@ found_reply b h body fits of long is =
       };
     }
 
--- what a reader of one reply answers, step by step
+-- what a reader of one reply returns, step by step
 pub ruleset reply_read = (cut_reply_header, found_header_fault, cut_reply_body, whole_reply, body_behind, header_length, header_right, found_reply)

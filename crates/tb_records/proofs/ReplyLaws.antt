@@ -1,4 +1,4 @@
--- What is spelled as a reply has no fault, and is read one way only.
+-- The encoding of a reply has no fault, and has one decoding.
 use Rattle.std.proofs.Common.{◌≡◌, ℕ, ◌+◌, ◌^◌, ◌<◌, false, ◌==◌, nat_lt, List, ◌++◌, length, drop, None, Result, Ok, Err, refl, sym, ap, ◌∙◌, arith, append_assoc, length-append, if◌then◌else◌}
 use Rattle.std.proofs.lemmas.Bool.Decides.{nat_tests}
 use Rattle.std.proofs.lemmas.List.{take-append-drop, length-take-le}
@@ -71,7 +71,7 @@ row_fits r fits = let status = status_small r.status in grind arith
 places : (r : Answer) (more : List ℕ) → FitsFrame r → Stand reply_widths (header_numbers r) 0 (header_of_reply r (length (reply_body_bytes r.body)) ++ more)
 places r more fits = reply_places r.client r.session r.request r.operation (status_code r.status) (length (reply_body_bytes r.body)) r.commit more (row_fits r fits)
 
--- the first fault of a header, where the body is of its kind, is that of the values
+-- the first fault of a header, if the body is of its kind, is that of the values
 header_fault_is : (r : Answer) (more : List ℕ) → FitsFrame r → HasKind r → reply_header_fault (header_of_reply r (length (reply_body_bytes r.body)) ++ more) ≡ answer_fault r
 unfolding reply_header_fault
 header_fault_is r more fits kind =
@@ -98,11 +98,11 @@ one_fault r more fits kind =
     ∙ whole_reply b (omega arith) (omega (arith, at.1.1.1.1.1.1.0))
     ∙ header_fault_is r rest fits kind
 
--- what is spelled has no fault, whatever follows it
+-- an encoding has no fault, whatever follows it
 pub spelled_whole : (r : Answer) (more : List ℕ) → IsReply r → reply_fault (reply_bytes r ++ more) ≡ None
 spelled_whole r more is = one_fault r more (fits_frame r is) (kind_right r is) ∙ is.right
 
--- bodies of one kind have one spelling
+-- bodies of one kind have one encoding
 body_one : (b d : ReplyBody) → kind_of b ≡ kind_of d → ReplyBodyFits b → ReplyBodyFits d → reply_body_bytes b ≡ reply_body_bytes d → b ≡ d
 unfolding reply_body_bytes
 body_one Empty Empty k fb fd e = refl
@@ -111,7 +111,7 @@ body_one (Accounts xs) (Accounts ys) k fb fd e = ap Accounts (items_one account_
 body_one (Transfers xs) (Transfers ys) k fb fd e = ap Transfers (items_one transfer_bytes IsTransfer 128 (omega arith) length-transfer one_transfer xs ys fb fd e)
 body_one b d k fb fd e = absurd (omega (arith, k))
 
--- no spelling of a reply begins that of another
+-- no encoding of a reply is a prefix of another one
 pub one_reading : (r s : Answer) (x y : List ℕ) → IsReply r → IsReply s → reply_bytes r ++ x ≡ reply_bytes s ++ y → (r ≡ s) × (x ≡ y)
 unfolding reply_header_bytes le_bytes
 one_reading r s x y ir is e =
@@ -125,7 +125,7 @@ one_reading r s x y ir is e =
     let body : r.body ≡ s.body = body_one r.body s.body kind ir.body is.body bodies.0 in
     (grind arith, bodies.1)
 
--- where the bytes begin with the spelling of a reply, a reader answers no other reply
+-- if the bytes begin with the encoding of a reply, a reader returns no other reply
 pub only_this : (result : Result (Answer × ℕ) FrameFault) (b : List ℕ) → FoundReply result b
     → (r : Answer) (front rest : List ℕ) → SpellsReply front r → b ≡ front ++ rest → OnlyThisReply result r (length front)
 only_this (Ok (s, n)) b found r front rest is e =

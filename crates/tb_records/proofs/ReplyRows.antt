@@ -28,7 +28,7 @@ IsRow operation status len count =
     (((status == 0 && not (operation == 2)) ≡ false) × (len ≡ 0) × (count ≡ 0))
     ⊎ (((status == 0 && not (operation == 2)) ≡ true) × (len ≡ reply_item_size operation * count))
 
--- the body of the kind that the operation and the status ask for is such a row
+-- the body of the kind that the operation and the status require is such a list
 row_by : (operation status kind len count : ℕ) → len ≡ size_of kind * count → (kind ≡ 0 → count ≡ 0) → kind ≡ (if status == 0 then kind_for operation else 0) → IsRow operation status len count
 row_by operation status kind len count len_is none_of kind_is = grind (arith, nat_tests)
 

@@ -1,4 +1,4 @@
--- Numbers one behind another, each in so many bytes: what is in their bytes, and that no others have the same.
+-- Numbers one after another, each in so many bytes: what is in their bytes, and that no other numbers have the same bytes.
 use Rattle.std.proofs.Common.{◌≡◌, ℕ, ◌+◌, ◌^◌, ◌<◌, ◌≤◌, List, [], ◌∷◌, ◌++◌, length, take, slice_index, refl, sym, ap, subst, ◌∙◌, arith, length-append, append_assoc, append-nil}
 use Rattle.tb_records.specs.Numbers.{le_bytes, le_at}
 use Rattle.tb_records.proofs.Sizes.{length-le_bytes}
@@ -54,7 +54,7 @@ row_read (n ∷ widths) at b long fits =
     ∙ ap (λ l. l ++ row) (le_at-spelled n at b (omega arith) fits)
     ∙ append_assoc (take at b) (le_bytes n (le_at n at b)) row
 
--- two rows of numbers that are spelled alike, whatever follows them
+-- two lists of numbers with the same encoding, whatever follows them
 pub one_row : (widths xs ys s t : List ℕ) → length xs ≡ length widths → length ys ≡ length widths → Fit widths xs → Fit widths ys
     → row_bytes widths xs ++ s ≡ row_bytes widths ys ++ t → (xs ≡ ys) × (s ≡ t)
 one_row [] [] [] s t many_x many_y fit_x fit_y e = (refl, e)

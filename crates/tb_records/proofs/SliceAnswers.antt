@@ -59,11 +59,11 @@ slice_request bytes part h r (Some rest) long of spelled whole at read =
 pub all_read : (bytes spelled : List ℕ) → spelled ≡ bytes → Consumes (Some bytes) (Some []) spelled
 all_read bytes spelled same = sym same ∙ sym (append-nil spelled)
 
--- the length of the bytes behind a header
+-- the length of the bytes after a header
 pub part_long : (bytes : List ℕ) (h : Header) → HeaderOf bytes h → h.length ≤ length bytes - 48 → length (between 48 (48 + h.length) bytes) ≡ body_length h
 part_long bytes h of whole =
     let slice : length (between 48 (48 + h.length) bytes) ≡ h.length = simp (length-take, length-drop) (omega arith) in
     slice ∙ of.length ∙ sym (length_of bytes h of)
 
--- where no request is read
+-- if no request is read
 pub ruleset slice_faults = (cut_header, bad_slice, cut_slice, whole_slice)

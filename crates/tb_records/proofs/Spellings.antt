@@ -1,4 +1,4 @@
--- What is spelled is read: the fields of a spelling, and that a spelling has no fault and begins no other.
+-- An encoding is decoded: the fields of an encoding, and that an encoding has no fault and is not a prefix of another one.
 use Rattle.std.proofs.Common.{◌≡◌, ℕ, ◌+◌, ◌/◌, ◌%◌, ◌^◌, ◌<◌, ◌≤◌, true, List, [], ◌∷◌, ◌++◌, length, take, drop, None, Result, Ok, Err, refl, sym, ap, ◌∙◌, arith, length-append, length-take, append_assoc, take-append-drop}
 use Rattle.std.proofs.Math.Nat.{mul-mod_left, mul-div_left}
 use Rattle.std.proofs.lemmas.Bool.{ltb-false}
@@ -85,15 +85,15 @@ one_fault r more fits =
     ∙ whole_frame b (omega arith) (omega (arith, at.1.1.1.1.1.0))
     ∙ header_fault_is r (body ++ more) fits
 
--- what is spelled has no fault, whatever follows it
+-- an encoding has no fault, whatever follows it
 pub spelled_sound : (r : Message) (more : List ℕ) → IsRequest r → request_fault (request_bytes r ++ more) ≡ None
 spelled_sound r more is = one_fault r more (fits_frame r is) ∙ is.lawful
 
--- an id has one spelling
+-- an id has one encoding
 one_id : (x y : ℕ) → IsId x → IsId y → le_bytes 16 x ≡ le_bytes 16 y → x ≡ y
 one_id x y hx hy e = le_bytes-one 16 x y hx hy e
 
--- bodies of one operation that are spelled alike
+-- bodies of one operation with the same encoding
 body_one : (a b : Body) → operation a ≡ operation b → BodyFits a → BodyFits b → body_bytes a ≡ body_bytes b → a ≡ b
 unfolding body_bytes
 body_one Register Register o fa fb e = refl
@@ -103,7 +103,7 @@ body_one (LookupAccounts xs) (LookupAccounts ys) o fa fb e = ap LookupAccounts (
 body_one (LookupTransfers xs) (LookupTransfers ys) o fa fb e = ap LookupTransfers (items_one (le_bytes 16) IsId 16 (omega arith) length-id one_id xs ys fa fb e)
 body_one a b o fa fb e = absurd (omega (arith, o))
 
--- no spelling begins another, and each request has one
+-- no encoding is a prefix of another, and each request has one
 pub spelled_once : (r s : Message) (x y : List ℕ) → IsRequest r → IsRequest s → request_bytes r ++ x ≡ request_bytes s ++ y → (r ≡ s) × (x ≡ y)
 unfolding header_bytes le_bytes
 spelled_once r s x y ir is e =
@@ -115,7 +115,7 @@ spelled_once r s x y ir is e =
     let body : r.body ≡ s.body = body_one r.body s.body (cc heads.0) ir.items is.items bodies.0 in
     (grind arith, bodies.1)
 
--- the answer of a slice is the only one
+-- the result for a slice is the only one
 pub found_only : (answer : Result (Message × ℕ) FrameFault) (bytes front rest : List ℕ) (r : Message) → Found answer bytes → Spells front r → bytes ≡ front ++ rest → OnlyThis answer r (length front)
 found_only (Ok (s, n)) bytes front rest r found spells e =
     let is : bytes ≡ take n bytes ++ drop n bytes = sym (take-append-drop n bytes) in

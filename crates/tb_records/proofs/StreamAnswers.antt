@@ -1,4 +1,4 @@
--- What a stream answers, by where its reading ended.
+-- What a stream returns, by the place where its reading ended.
 use Rattle.std.proofs.Common.{◌≡◌, ℕ, ◌+◌, ◌*◌, ◌<◌, ◌≤◌, List, ◌++◌, length, take, drop, Option, Some, None, Ok, Err, refl, sym, ap, subst, ◌∙◌, arith, length-append, length-take, length-drop, drop_at, append_assoc, take_all}
 use Rattle.std.specs.Io.KnownBytes.{Consumes}
 use Rattle.tb_records.specs.declared.bodies.Body.{Body}
@@ -37,7 +37,7 @@ faulty_header fault header (Some old) (Some new) long left e =
     let behind = drop_at header new 48 long in
     grind arith
 
--- a fault of the header is none of the reader
+-- a fault of the header is not one of the reader
 pub header_counts : (fault : FrameFault) (old new : Input) → IsOfHeader fault → new.failed ≡ old.failed → FaultCounts fault old new
 header_counts fault old new is same = grind arith
 
@@ -45,7 +45,7 @@ header_counts fault old new is same = grind arith
 pub whole_buffer : (buf : List ℕ) (n : ℕ) (old new : Option (List ℕ)) → 48 ≤ n → length buf ≡ 48 → Filled n buf old new → Consumes old new buf
 whole_buffer buf n old new h long f = subst (Consumes old new) (take_all n buf (omega arith)) f.bytes
 
--- the length of the body behind a header
+-- the length of the body after a header
 pub length_of : (b : List ℕ) (h : Header) → HeaderOf b h → body_length h ≡ length_at b
 unfolding header_fault
 length_of b h of =
@@ -131,11 +131,11 @@ short_moment buf n old new some h long f =
     let end = f.end (omega arith) in
     grind (arith, cut_header, length-append, length-take, length-drop)
 
--- there is no frame behind the moment
+-- there is no frame after the moment
 pub no_frame : (moment : ℕ) (old mid new : Option (List ℕ)) → ReadsMoment moment old mid → Answers (Ok None) mid new → TimedAnswers (Err Short) old new
 no_frame moment old mid new read rest = grind (arith, cut_header, length-append, length-drop, length-le_bytes)
 
--- the frame behind the moment has a fault
+-- the frame after the moment has a fault
 pub bad_frame : (fault : FrameFault) (moment : ℕ) (old mid new : Option (List ℕ)) → ReadsMoment moment old mid → Answers (Err fault) mid new → TimedAnswers (Err fault) old new
 bad_frame fault moment None mid new read rest = tt
 bad_frame fault moment (Some old) None new read rest = absurd read.bytes
@@ -158,5 +158,5 @@ bad_frame fault moment (Some old) (Some mid) (Some new) read rest =
     )
     later fault moment old mid new left behind rest = subst (λ l. Faulted fault l new) (sym behind) rest
 
--- where a header is cut or has a fault
+-- if a header is cut or has a fault
 pub ruleset header_read = (short_header, header_counts, is_of_header)

@@ -24,7 +24,7 @@ account_flag_bit History = 8
 account_flag_bit Imported = 16
 account_flag_bit Closed = 32
 
--- the bits that no account may have: imported, and those that are no flag
+-- the bits that no account may have: imported, and those that are not flags
 abbrev pub account_flags_reserved : ℕ
 account_flags_reserved = 2 ^ 16 - 1 - (
     account_flag_bit Linked
@@ -44,7 +44,7 @@ account_flag_name History = codes "history"
 account_flag_name Imported = codes "imported"
 account_flag_name Closed = codes "closed"
 
--- rows
+-- examples
 
 pub account_reserved_bits : account_flags_reserved ≡ 0xFFD0
 account_reserved_bits = refl

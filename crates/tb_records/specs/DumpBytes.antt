@@ -1,4 +1,4 @@
--- The bytes of a dump: a head of 16 bytes, and behind it entries and at most one mark, one after another.
+-- The bytes of a dump: a head of 16 bytes, and after it entries and at most one mark, one after another.
 use Rattle.std.specs.Prelude.{ℕ, ◌≡◌, ◌≢◌, ◌⊎◌, ◌+◌, ◌^◌, ◌<◌, ◌≤◌, List, [], ◌∷◌, ◌++◌, length, drop, Option, Some, None, Result, Ok, Err}
 use Rattle.tb_records.specs.declared.dumps.DumpFault.{DumpFault}
 use Rattle.tb_records.specs.declared.dumps.DumpFault.TheVariants.{Head, Mark, Frame}
@@ -32,7 +32,7 @@ head_bytes profile clients_max = signature ++ le_bytes 4 (profile_number profile
 unfoldable pub numbers_bytes : ℕ → ℕ → List ℕ
 numbers_bytes first second = le_bytes 8 first ++ le_bytes 8 second
 
--- from a mark on the entries go by profile 2
+-- after a mark profile 2 executes the entries
 abbrev pub mark_bytes : List ℕ
 mark_bytes = numbers_bytes 0 2
 
@@ -40,7 +40,7 @@ mark_bytes = numbers_bytes 0 2
 abbrev pub entry_bytes : ℕ → ℕ → Message → List ℕ
 entry_bytes commit time r = numbers_bytes commit time ++ request_bytes r
 
--- what the bytes of an entry can hold: commit number 0 says that a mark is there
+-- what the bytes of an entry can hold: commit number 0 means a mark
 pub record IsDumped (commit time : ℕ) (r : Message) : Type 0 where
   pub entry : 0 < commit
   pub commit_fits : commit < 2 ^ 64
@@ -49,7 +49,7 @@ pub record IsDumped (commit time : ℕ) (r : Message) : Type 0 where
 
 -- what is read
 
--- no head is at the beginning of the bytes
+-- the bytes do not begin with a head
 abbrev pub HasNoHead : List ℕ → Type 0
 HasNoHead b = (profile : Profile) (clients_max : ℕ) (rest : List ℕ) → IsClients clients_max → b ≡ head_bytes profile clients_max ++ rest → ⊥
 
@@ -59,7 +59,7 @@ HeadAnswered (Err Head) before after = HasNoHead before × (after ≡ drop 16 be
 HeadAnswered (Err (Frame Device)) before after = (front : List ℕ) × (length front ≤ 16) × (before ≡ front ++ after)
 HeadAnswered (Err fault) before after = ⊥
 
--- the same of a reader that may not report its bytes
+-- the same for a reader that may not report its bytes
 abbrev pub HeadAnswers : Result DumpHead DumpFault → Option (List ℕ) → Option (List ℕ) → Type 0
 HeadAnswers result before after = IsOfBytes (HeadAnswered result) before after
 
@@ -74,12 +74,12 @@ pub record Begins (before rest : List ℕ) : Type 0 where
 abbrev pub IsCut : List ℕ → Type 0
 IsCut b = (0 < length b) × (length b < 16)
 
--- behind an entry's numbers: no frame, or one with a fault
+-- after an entry's numbers: no frame, or a frame with a fault
 abbrev pub FrameFaulted : FrameFault → List ℕ → List ℕ → Type 0
 FrameFaulted Short rest after = (request_fault rest ≡ Some Short) × (after ≡ [])
 FrameFaulted fault rest after = Faulted fault rest after
 
--- of a reader that failed, no more than an entry's bytes are gone
+-- the bytes that are left before and after a fault; if the reader failed, at most an entry's bytes are consumed
 abbrev pub ItemFaulted : DumpFault → List ℕ → List ℕ → Type 0
 ItemFaulted Mark before after = (number : ℕ) × (before ≡ numbers_bytes 0 number ++ after) × (number < 2 ^ 64) × (number ≢ 2)
 ItemFaulted (Frame Device) before after = (front : List ℕ) × (length front ≤ 64 + length_at (drop 16 before)) × (before ≡ front ++ after)
@@ -87,18 +87,18 @@ ItemFaulted (Frame Short) before after = (IsCut before × (after ≡ [])) ⊎ ((
 ItemFaulted (Frame fault) before after = (rest : List ℕ) × Begins before rest × FrameFaulted fault rest after
 ItemFaulted fault before after = ⊥
 
--- what comes next in a dump: nothing at its end, else a mark or an entry, of which just the bytes are read, or a fault
+-- the next item of a dump: nothing at its end, otherwise a mark or an entry, of which exactly the bytes are read, or a fault
 abbrev pub ItemAnswered : Result (Option DumpItem) DumpFault → List ℕ → List ℕ → Type 0
 ItemAnswered (Ok None) before after = (before ≡ []) × (after ≡ [])
 ItemAnswered (Ok (Some item.Mark)) before after = before ≡ mark_bytes ++ after
 ItemAnswered (Ok (Some (item.Entry commit time request))) before after = (before ≡ entry_bytes commit time request ++ after) × IsDumped commit time request
 ItemAnswered (Err fault) before after = ItemFaulted fault before after
 
--- the same of a reader that may not report its bytes
+-- the same for a reader that may not report its bytes
 abbrev pub ItemAnswers : Result (Option DumpItem) DumpFault → Option (List ℕ) → Option (List ℕ) → Type 0
 ItemAnswers result before after = IsOfBytes (ItemAnswered result) before after
 
--- what an answer says of the reader's errors, and which faults it can be
+-- what a result means for the reader's errors, and which faults it can be
 
 abbrev pub HeadCounts : Result DumpHead DumpFault → Input → Input → Type 0
 HeadCounts (Ok head) before after = after.failed ≡ before.failed

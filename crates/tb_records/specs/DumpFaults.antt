@@ -4,7 +4,7 @@ use Rattle.tb_records.specs.declared.dumps.DumpFault.{DumpFault}
 use Rattle.tb_records.specs.declared.dumps.DumpFault.TheVariants.{Head, Mark, Frame, NotLegal, NoMemory}
 use Rattle.tb_records.specs.Faults.{fault_name}
 
--- a fault's number, by which other programs may know it
+-- a fault's number, for other programs
 abbrev pub dump_fault_number : DumpFault → ℕ
 dump_fault_number Head = 1
 dump_fault_number Mark = 2

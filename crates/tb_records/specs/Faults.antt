@@ -3,7 +3,7 @@ use Rattle.std.specs.Prelude.{ℕ, List, codes}
 use Rattle.tb_records.specs.declared.faults.FrameFault.{FrameFault}
 use Rattle.tb_records.specs.declared.faults.FrameFault.TheVariants.{Short, ClientZero, UnknownOperation, Reserved, BadLength, TooMany, RegisterNumbers, RequestZero, Device, NoMemory, ReplyNumbers}
 
--- a fault's number, by which other programs may know it
+-- a fault's number, for other programs
 abbrev pub fault_number : FrameFault → ℕ
 fault_number Short = 1
 fault_number ClientZero = 2

@@ -1,4 +1,4 @@
--- The frame of a request: 48 bytes of header, and the items of the body behind it.
+-- The frame of a request: a header of 48 bytes, and the items of the body after it.
 use Rattle.std.specs.Prelude.{ℕ, Bool, not, ◌&&◌, ◌||◌, ◌==◌, ◌≡◌, ◌+◌, ◌/◌, ◌%◌, ◌^◌, ◌<◌, nat_lt, List, [], ◌∷◌, ◌++◌, length, replicate, flat_map, All, Option, if◌then◌else◌}
 use Rattle.tb_records.specs.declared.bodies.Body.{Body}
 use Rattle.tb_records.specs.declared.bodies.Body.TheVariants.{Register, CreateAccounts, CreateTransfers, LookupAccounts, LookupTransfers}
@@ -86,14 +86,14 @@ length_at b = le_at 4 32 b
 abbrev pub item_size : ℕ → ℕ
 item_size operation = if operation == operation_code op.CreateAccounts || operation == operation_code op.CreateTransfers then 128 else 16
 
--- what the length of a body may have wrong
+-- what may be wrong with the length of a body
 abbrev pub length_tests : ℕ → ℕ → List (Bool × FrameFault)
 length_tests operation len =
     (not ((if operation == operation_code op.Register then len else len % item_size operation) == 0), BadLength)
     ∷ (nat_lt ITEMS_MAX (len / item_size operation), TooMany)
     ∷ []
 
--- what a header may have wrong, in the order of the tests
+-- what may be wrong with a header, in the order of the tests
 abbrev pub header_tests : List ℕ → List (Bool × FrameFault)
 header_tests b =
     (client_at b == 0, ClientZero)

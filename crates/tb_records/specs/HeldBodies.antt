@@ -1,4 +1,4 @@
--- The body that a request holds, by itself or with its copies.
+-- The body that a request holds, by itself or shared with its copies.
 use Rattle.std.specs.Arc.{arc_value}
 use Rattle.tb_records.specs.declared.bodies.Body.{Body}
 use Rattle.tb_records.specs.declared.held_bodies.HeldBody.{HeldBody}

@@ -54,12 +54,12 @@ count _ = 0
 abbrev pub is_register : Body → Bool
 is_register body = operation body == operation_code op.Register
 
--- the first test that holds names the fault
+-- the first test that holds gives the fault
 abbrev pub first_fault : List (Bool × FrameFault) → Option FrameFault
 first_fault [] = None
 first_fault (test ∷ tests) = if test.0 then Some test.1 else first_fault tests
 
--- what a request's numbers may have wrong
+-- what may be wrong with a request's numbers
 abbrev pub number_fault : Message → Option FrameFault
 number_fault r = first_fault (
     (r.client == 0, ClientZero)
@@ -93,7 +93,7 @@ answer_count (Results results) = length results
 answer_count (Accounts accounts) = length accounts
 answer_count (Transfers transfers) = length transfers
 
--- the kind of body that an operation is answered with: 0 none, 1 results, 2 accounts, 3 transfers
+-- the kind of body in the reply to an operation: 0 no body, 1 results, 2 accounts, 3 transfers
 abbrev pub kind_of : ReplyBody → ℕ
 kind_of Empty = 0
 kind_of (Results results) = 1
@@ -116,15 +116,15 @@ is_operation n =
     || n == operation_code op.LookupAccounts
     || n == operation_code op.LookupTransfers
 
--- the session and the commit number of a reply that go together: a refusal has commit 0; a reply has a session, which a
--- register's commit is and any other's commit is above
+-- the session and the commit number of a reply that go together: a refusal has commit 0; a reply has a session, which is equal to the commit for a
+-- register and below it for any other operation
 abbrev pub has_reply_numbers : ℕ → ℕ → ℕ → ℕ → Bool
 has_reply_numbers operation status session commit =
     if status == 0
     then not (session == 0) && (if operation == operation_code op.Register then session == commit else nat_lt session commit)
     else commit == 0
 
--- the numbers that a register's reply has: request 0, and where it is a refusal session 0
+-- the numbers of a register's reply: request 0, and session 0 if it is a refusal
 abbrev pub has_register_numbers : ℕ → ℕ → ℕ → Bool
 has_register_numbers status session request = request == 0 && (status == 0 || session == 0)
 

@@ -1,13 +1,12 @@
--- Records in the order of a key: finite maps as lists by rising key.
--- No contract of this crate cites it.
+-- Records in the order of a key: finite maps as lists by rising key. No contract of this crate uses it.
 use Rattle.std.specs.Prelude.{ℕ, ◌==◌, nat_lt, ◌<◌, List, [], ◌∷◌, if◌then◌else◌}
 
--- with a record more, in its place
+-- with one more record, in its place
 abbrev pub put : {X : Type 0} → (X → ℕ) → X → List X → List X
 put key x [] = x ∷ []
 put key x (y ∷ ys) = if nat_lt (key y) (key x) then y ∷ put key x ys else x ∷ y ∷ ys
 
--- with a record in place of the one that has its key
+-- with a record in the place of the one that has its key
 abbrev pub replaced : {X : Type 0} → (X → ℕ) → X → List X → List X
 replaced key x [] = []
 replaced key x (y ∷ ys) = if key y == key x then x ∷ ys else y ∷ replaced key x ys
@@ -17,7 +16,7 @@ abbrev pub taken_out : {X : Type 0} → (X → ℕ) → ℕ → List X → List 
 taken_out key id [] = []
 taken_out key id (y ∷ ys) = if key y == id then ys else y ∷ taken_out key id ys
 
--- with the record that has the key changed, where there is one
+-- with the record that has the key changed, if there is one
 abbrev pub changed : {X : Type 0} → (X → ℕ) → ℕ → (X → X) → List X → List X
 changed key id f [] = []
 changed key id f (y ∷ ys) = if key y == id then f y ∷ ys else y ∷ changed key id f ys

@@ -1,4 +1,4 @@
--- The frames of replies: a header of 48 bytes, and behind it the results or records.
+-- The frames of replies: a header of 48 bytes, and after it the results or records.
 use Rattle.std.specs.Prelude.{ℕ, Bool, not, ◌≡◌, ◌==◌, ◌+◌, ◌/◌, ◌%◌, ◌^◌, ◌<◌, ◌≤◌, ◌&&◌, ◌||◌, nat_lt, List, [], ◌∷◌, ◌++◌, length, take, replicate, Option, Some, None, Result, Ok, Err, if◌then◌else◌}
 use Rattle.std.specs.List.{All, flat_map}
 use Rattle.tb_records.specs.declared.bodies.ReplyBody.{ReplyBody}
@@ -64,7 +64,7 @@ pub record FitsFrame (r : Answer) : Type 0 where
   pub commit : r.commit < 2 ^ 64
   pub body : length (reply_body_bytes r.body) < 2 ^ 32
 
--- the body is of the kind that the operation and the status ask for
+-- the body is of the kind that the operation and the status require
 abbrev pub HasKind : Answer → Type 0
 HasKind r = kind_of r.body ≡ (if status_code r.status == 0 then kind_for r.operation else 0)
 
@@ -83,12 +83,12 @@ commit_at b = le_at 8 36 b
 abbrev pub reply_item_size : ℕ → ℕ
 reply_item_size operation = if operation == operation_code op.LookupAccounts || operation == operation_code op.LookupTransfers then 128 else 8
 
--- a length that the body of a reply may have: a refusal and the reply to a register have no body, any other whole items
+-- a length that the body of a reply may have: a refusal and the reply to a register have no body, any other reply has whole items
 abbrev pub has_reply_length : ℕ → ℕ → ℕ → Bool
 has_reply_length operation status len =
     if status == 0 && not (operation == operation_code op.Register) then len % reply_item_size operation == 0 else len == 0
 
--- what the header of a reply may have wrong, in the order of the tests
+-- what may be wrong with the header of a reply, in the order of the tests
 abbrev pub reply_header_tests : List ℕ → List (Bool × FrameFault)
 reply_header_tests b =
     (client_at b == 0, ClientZero)
@@ -104,20 +104,20 @@ reply_header_tests b =
 unfoldable pub reply_header_fault : List ℕ → Option FrameFault
 reply_header_fault b = first_fault (reply_header_tests b)
 
--- what is wrong with the bytes where no beginning of them is the frame of a reply
+-- what is wrong with the bytes if they do not begin with the frame of a reply
 unfoldable pub reply_fault : List ℕ → Option FrameFault
 reply_fault b = first_fault (
     (nat_lt (length b) 48, Short)
     ∷ reply_header_tests b
     ++ (nat_lt (length b) (48 + length_at b), Short) ∷ [])
 
--- what a reader of one reply at the beginning of the bytes answers: a reply and the length of its frame, or the fault
+-- the result of reading one reply at the beginning of the bytes: a reply and the length of its frame, or the fault
 abbrev pub FoundReply : Result (Answer × ℕ) FrameFault → List ℕ → Type 0
 FoundReply (Ok (r, n)) bytes = (n ≤ length bytes) × SpellsReply (take n bytes) r
 FoundReply (Err NoMemory) bytes = reply_fault bytes ≡ None
 FoundReply (Err fault) bytes = reply_fault bytes ≡ Some fault
 
--- a reader answers this reply of this length, or it had no memory
+-- a reader returns this reply of this length, or it had no memory
 abbrev pub OnlyThisReply : Result (Answer × ℕ) FrameFault → Answer → ℕ → Type 0
 OnlyThisReply (Ok (found, n)) r len = (found ≡ r) × (n ≡ len)
 OnlyThisReply (Err NoMemory) r len = Unit {0}

@@ -1,4 +1,4 @@
--- The tests of a reply's header in their parts: the fields by themselves, the numbers together, the length of the body.
+-- The tests of a reply's header in parts: the fields by themselves, the numbers together, the length of the body.
 use Rattle.std.specs.Prelude.{ℕ, Bool, not, ◌&&◌, ◌==◌, ◌/◌, nat_lt, List, [], ◌∷◌}
 use Rattle.tb_records.specs.declared.bodies.ReplyBody.{ReplyBody}
 use Rattle.tb_records.specs.declared.replies.Numbers.{Numbers}
@@ -12,7 +12,7 @@ use Rattle.tb_records.specs.Operations.{operation_code}
 use Rattle.tb_records.specs.ReplyFrames.{status_at, reply_item_size, has_reply_length}
 use Rattle.tb_records.specs.declared.limits.TheConstants.{ITEMS_MAX}
 
--- what a field by itself may have wrong: the client, the operation, the status, the zero bytes
+-- what may be wrong with a field by itself: the client, the operation, the status, the zero bytes
 abbrev pub reply_field_tests : List ℕ → List (Bool × FrameFault)
 reply_field_tests b =
     (client_at b == 0, ClientZero)
@@ -24,7 +24,7 @@ reply_field_tests b =
 abbrev pub answer_of : Numbers → ReplyBody → Answer
 answer_of n body = answered n.client n.session n.request n.operation n.status n.commit body
 
--- what the numbers may have wrong, by the operation and the status
+-- what may be wrong with the numbers, by the operation and the status
 abbrev pub reply_number_tests : ℕ → ℕ → ℕ → ℕ → ℕ → List (Bool × FrameFault)
 reply_number_tests operation status session request commit =
     (operation == operation_code op.Register && not (has_register_numbers status session request), RegisterNumbers)
@@ -32,11 +32,11 @@ reply_number_tests operation status session request commit =
     ∷ (not (has_reply_numbers operation status session commit), ReplyNumbers)
     ∷ []
 
--- the same of the numbers of a reply
+-- the same for the numbers of a reply
 abbrev pub number_tests : Numbers → List (Bool × FrameFault)
 number_tests n = reply_number_tests n.operation (status_code n.status) n.session n.request n.commit
 
--- what the length of the body may have wrong, by the operation and the status
+-- what may be wrong with the length of the body, by the operation and the status
 abbrev pub reply_length_tests : ℕ → ℕ → ℕ → List (Bool × FrameFault)
 reply_length_tests operation status len =
     (not (has_reply_length operation status len), BadLength)

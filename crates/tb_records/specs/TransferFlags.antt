@@ -30,7 +30,7 @@ transfer_flag_bit ClosingDebit = 64
 transfer_flag_bit ClosingCredit = 128
 transfer_flag_bit Imported = 256
 
--- the bits that no transfer may have: imported, and those that are no flag
+-- the bits that no transfer may have: imported, and those that are not flags
 abbrev pub transfer_flags_reserved : ℕ
 transfer_flags_reserved = 2 ^ 16 - 1 - (
     transfer_flag_bit Linked
@@ -56,7 +56,7 @@ transfer_flag_name ClosingDebit = codes "closing_debit"
 transfer_flag_name ClosingCredit = codes "closing_credit"
 transfer_flag_name Imported = codes "imported"
 
--- rows
+-- examples
 
 pub transfer_reserved_bits : transfer_flags_reserved ≡ 0xFF00
 transfer_reserved_bits = refl

@@ -1,4 +1,4 @@
--- what private contracts alone cite
+-- what only private contracts use
 pub mod HeaderFields
 pub mod Headers
 pub mod ReplyHeaders

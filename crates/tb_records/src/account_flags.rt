@@ -10,15 +10,15 @@ use std::fmt;
 pub enum AccountFlag {
     /// The next event succeeds or fails with this one.
     Linked = 1,
-    /// What is debited, pending and posted, is at most what is credited for good.
+    /// What is debited, pending and posted, is at most what is credited and posted.
     DebitsMustNotExceedCredits = 2,
-    /// What is credited, pending and posted, is at most what is debited for good.
+    /// What is credited, pending and posted, is at most what is debited and posted.
     CreditsMustNotExceedDebits = 4,
     /// Kept with the account; it changes nothing here.
     History = 8,
     /// Refused.
     Imported = 16,
-    /// No transfer enters the account but a void.
+    /// The account accepts no transfer except a void.
     Closed = 32,
 }
 
@@ -33,7 +33,7 @@ impl AccountFlag {
         AccountFlag::Closed,
     ];
 
-    /// The bits that no account may have: imported, and those that are no flag.
+    /// The bits that no account may have: imported, and those that are not flags.
     pub const RESERVED: u16 = 0xFFD0;
 
     /// The bit that represents it in the record.
@@ -43,14 +43,14 @@ impl AccountFlag {
         self as u16
     }
 
-    /// Says that these flags have it.
+    /// Whether these flags have it.
     pub fn is_in(self, flags: u16) -> bool
         ensures { result ≡ has_flag (account_flag_bit self) flags }
     {
         flags & self.bit() != 0
     }
 
-    /// The flag's name, as TigerBeetle spells it.
+    /// The flag's name, in TigerBeetle's spelling.
     pub fn name(self) -> &'static str
         ensures { result.now ≡ account_flag_name self }
     {

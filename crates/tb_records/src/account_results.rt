@@ -5,7 +5,7 @@ ghost use Rattle.tb_records.specs.Named.{IsOnly};
 
 use std::fmt;
 
-/// How the creation of an account fared: the number next to it is its result code.
+/// The result of the creation of an account: the number next to it is its result code.
 #[derive(Clone, Copy, Debug, PartialEq, Eq)]
 pub enum CreateAccountResult {
     /// The account is recorded.
@@ -18,7 +18,7 @@ pub enum CreateAccountResult {
     TimestampMustBeZero = 3,
     /// Its reserved field is not 0.
     ReservedField = 4,
-    /// It has the flag imported, or a bit that is no flag.
+    /// It has the flag imported, or a bit that is not a flag.
     ReservedFlag = 5,
     /// Its id is 0.
     IdMustNotBeZero = 6,
@@ -50,7 +50,7 @@ pub enum CreateAccountResult {
     ExistsWithDifferentLedger = 19,
     /// The account of this id has another code.
     ExistsWithDifferentCode = 20,
-    /// This very account is there.
+    /// This account exists already.
     Exists = 21,
 }
 
@@ -88,7 +88,7 @@ impl CreateAccountResult {
         self as u32
     }
 
-    /// The verdict's name, as TigerBeetle spells it.
+    /// The verdict's name, in TigerBeetle's spelling.
     pub fn name(self) -> &'static str
         ensures { result.now ≡ account_result_name self }
     {
@@ -121,7 +121,7 @@ impl CreateAccountResult {
         }
     }
 
-    /// The verdict that has a number; None where none has it.
+    /// The verdict that has a number; `None` if no verdict has it.
     pub fn from_code(code: u32) -> Option<CreateAccountResult>
         ensures { IsOnly result (λ verdict. account_result_code verdict ≡ code) }
     {

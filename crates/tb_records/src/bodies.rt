@@ -1,4 +1,4 @@
-//! What a request asks for, and what a reply answers.
+//! The body of a request and the body of a reply.
 ghost use Rattle.std.specs.Prelude.{◌≡◌, IfOk};
 ghost use Rattle.tb_records.specs.Messages.{operation, count, item_count, answer_count, kind_of};
 ghost use Rattle.tb_records.specs.Same.{same_body};
@@ -49,7 +49,7 @@ impl Body {
         }
     }
 
-    /// The number of events: of a register or a lookup 0.
+    /// The number of events; 0 for a register or a lookup.
     pub fn event_count(&self) -> usize
         ensures { result ≡ count self.now }
     {
@@ -62,7 +62,7 @@ impl Body {
         }
     }
 
-    /// Says that both ask for the same: the same operation, over the same items in the same order.
+    /// Returns whether both ask for the same: the same operation, over the same items in the same order.
     pub fn same(&self, other: &Body) -> bool
         ensures { result ≡ same_body self.now other.now }
     {
@@ -90,10 +90,10 @@ impl Body {
     }
 }
 
-/// What a reply answers.
+/// The body of a reply.
 #[derive(Drop)]
 pub enum ReplyBody {
-    /// To a register, and to a request that was refused.
+    /// The body of the reply to a register, and of a refusal.
     Empty,
     /// The events of a batch that were not accepted, by rising index.
     Results(Items<EventResult>),
@@ -128,7 +128,7 @@ impl ReplyBody {
         })
     }
 
-    /// The kind of body: 0 none, 1 results, 2 accounts, 3 transfers.
+    /// The kind of body: 0 no body, 1 results, 2 accounts, 3 transfers.
     pub(crate) fn kind(&self) -> u8
         ensures { result ≡ kind_of self.now }
     {

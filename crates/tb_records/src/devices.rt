@@ -14,24 +14,23 @@ use std::io;
 use std::io::{BufRead, BufReader, Read, Write};
 use std::marker::Model;
 
-/// A reader that counts the errors that it answers.
+/// A reader that counts the errors that it returns.
 pub trait Source {
-    // The bytes that are left, where the reader reports them, and its errors.
+    // The bytes that are left, if the reader reports them, and its errors.
     ghost input: { Self → Input };
 
-    /// Reads into the buffer, in the manner of std's `read`. Ok(0) for a buffer that is not empty says that the input is
-    /// at its end.
+    /// Reads into the buffer, in the manner of std's `read`. `Ok(0)` for a buffer that is not empty means the end of the input.
     fn pull(&mut self, buf: &mut [u8]) -> io::Result<usize>
         ensures bound { ReadsAtMost result buf.new }
         ensures bytes { ReadConsumes (input self.old).left (input self.new).left result buf.new }
         ensures counted { MatchResult result (λ _. Gives (input self.old) (input self.new))
             (λ _. Fails (input self.old) (input self.new)) };
 
-    /// The number of errors answered. It stays at `2^64 - 1`.
+    /// The number of errors returned. It stays at `2^64 - 1`.
     fn failures(&self) -> u64
         ensures { result ≡ (input self.now).failed };
 
-    /// The bytes that the next pulls give without waiting for more; none of a reader that does not know.
+    /// The bytes that the next pulls return without waiting for more; empty for a reader that does not know.
     fn at_hand(&self) -> &[u8]
         ensures exact { result.now ≡ (input self.now).at_hand }
         ensures first { IfSome (input self.now).left (λ bytes. StartsWith bytes result.now) };
@@ -45,9 +44,9 @@ pub trait Source {
         ensures last { (input self.new).halted ≡ (input self.old).halted };
 }
 
-/// A writer that counts the errors that it answers.
+/// A writer that counts the errors that it returns.
 pub trait Sink {
-    // The bytes written, where the writer reports them, its errors, and how often it took nothing of bytes that were offered.
+    // The bytes written, if the writer reports them, its errors, and how often it took none of the bytes offered.
     ghost output: { Self → Output };
 
     /// Writes a prefix of the bytes, in the manner of std's `write`.
@@ -57,12 +56,12 @@ pub trait Sink {
         ensures counted { MatchResult result (λ n. Takes n bytes.now (output self.old) (output self.new))
             (λ _. Errs (output self.old) (output self.new)) };
 
-    /// The number of errors answered. It stays at `2^64 - 1`.
+    /// The number of errors returned. It stays at `2^64 - 1`.
     fn failures(&self) -> u64
         ensures { result ≡ (output self.now).failed };
 
-    /// Moves on what was put, as far as it goes now, to whoever waits for it. Nothing more is written, and no error is
-    /// counted: one that comes up shows at a later put, or where the writer is flushed at its end.
+    /// Passes on what was put, as far as possible now, to the receiver that waits for it. Nothing more is written, and no error is counted: an error
+    /// shows at a later put, or when the writer is flushed at its end.
     fn pass_on(&mut self)
         ensures sent { Sent [] (output self.old) (output self.new) }
         ensures passed { (output self.new).held ≡ false };
@@ -73,11 +72,11 @@ pub trait Sink {
 pub struct Counting<T> {
     inner: T,
     failures: u64,
-    // How often nothing was taken of bytes that were offered.
+    // How often none of the bytes offered was taken.
     stalls: u64,
-    // Says that the last answer was an error, or that nothing was taken.
+    // Whether the last result was an error, or no byte was taken.
     halted: bool,
-    // Says that bytes were taken since the last time that they were passed on.
+    // Whether bytes were taken since the last time that they were passed on.
     held: bool,
 }
 
@@ -97,7 +96,7 @@ impl<T> Model for Counting<T> {
 }
 
 impl<T> Counting<T> {
-    /// The reader or writer, of which nothing was counted yet.
+    /// The reader or writer, with nothing counted yet.
     pub fn new(inner: T) -> Counting<T>
         ensures { result ≡ uncounted inner }
     {
@@ -141,7 +140,7 @@ impl<T: Read> Source for Counting<T> {
         &[]
     }
 
-    // No byte of it is buffered.
+    // None of its bytes is buffered.
     fn skip(&mut self, _: usize) {}
 }
 
@@ -197,7 +196,7 @@ impl<R> Model for Buffered<R> {
 }
 
 impl<R: Read> Buffered<R> {
-    /// The reader behind its buffer, of which nothing was counted yet.
+    /// The reader behind its buffer, with nothing counted yet.
     pub fn new(inner: BufReader<R>) -> Buffered<R>
         ensures { result ≡ uncounted inner }
     {
@@ -243,7 +242,7 @@ fn skip_buffered<R: Read>(reader: &mut BufReader<R>, n: usize)
     reader.consume(n);
 }
 
-/// Fills the buffer, and answers how many of its bytes were filled: fewer than all only at the end of the input.
+/// Fills the buffer, and returns how many of its bytes were filled: fewer than all only at the end of the input.
 pub(crate) fn fill<S: Source>(source: &mut S, buf: &mut [u8]) -> Result<usize, FrameFault>
     ensures bytes { Fills result buf.old buf.new (S.input source.old) (S.input source.new) }
     ensures counted { Counts result (S.input source.old) (S.input source.new) }
@@ -259,7 +258,7 @@ pub(crate) fn fill<S: Source>(source: &mut S, buf: &mut [u8]) -> Result<usize, F
     Ok(at)
 }
 
-/// Writes all the bytes, or stops where the writer fails or takes nothing: Device.
+/// Writes all the bytes, or returns `Device` if the writer fails or takes nothing.
 pub fn put_all<W: Sink>(sink: &mut W, bytes: &[u8]) -> Result<(), FrameFault>
     ensures { IsSent result bytes.now (W.output sink.old) (W.output sink.new) }
 {
@@ -274,7 +273,7 @@ pub fn put_all<W: Sink>(sink: &mut W, bytes: &[u8]) -> Result<(), FrameFault>
     Ok(())
 }
 
-/// Fills the buffer. Short where the input ends before.
+/// Fills the buffer. Returns `Short` if the input ends before that.
 fn fill_all<S: Source>(source: &mut S, buf: &mut [u8]) -> Result<(), FrameFault>
     ensures bytes { FillsAll result buf.old buf.new (S.input source.old) (S.input source.new) }
     ensures counted { Counts result (S.input source.old) (S.input source.new) }
@@ -285,7 +284,7 @@ fn fill_all<S: Source>(source: &mut S, buf: &mut [u8]) -> Result<(), FrameFault>
     Ok(())
 }
 
-/// Adds the items that the bytes encode, one behind the other.
+/// Adds the items that the bytes encode, one after the other.
 pub(crate) fn push_items<T: Item>(bytes: &[u8], count: usize, items: &mut Vec<T>)
     requires long { length bytes.now ≡ T.SIZE * count }
     requires capacity { vec_len items.old + count ≤ vec_capacity items.old }
@@ -302,7 +301,7 @@ pub(crate) fn push_items<T: Item>(bytes: &[u8], count: usize, items: &mut Vec<T>
     }
 }
 
-/// Reads items to an empty row, so many at a time. The buffer is the caller's, and is long enough for these.
+/// Reads items to an empty list, so many at a time. The buffer is the caller's, and is long enough for these.
 fn fill_items<S: Source, T: Item>(
     source: &mut S,
     buf: &mut [u8],
@@ -336,8 +335,8 @@ fn in_small_block<T: Item>() -> usize
     if T::SIZE <= 16 { 8 } else { 1 }
 }
 
-/// Reads a row of items through a block, of 1,024 bytes where a small one is too short for them. The memory for them is taken
-/// before the first byte is read, and no byte behind them is.
+/// Reads a list of items through a block, of 1,024 bytes if a small one is too short for them. The memory for them is allocated before the first byte
+/// is read, and no byte after them is read.
 pub(crate) fn items_from<S: Source, T: Item>(
     alloc: Global,
     source: &mut S,
@@ -357,7 +356,7 @@ pub(crate) fn items_from<S: Source, T: Item>(
     Ok(Items::new(items))
 }
 
-/// Writes the bytes of items one behind another, from the first byte of the block on, and answers how many they are.
+/// Writes the bytes of items one after another, from the first byte of the block on, and returns their number.
 fn spell_items<T: Item>(items: &[T], block: &mut [u8]) -> usize
     requires block { length items.now * T.SIZE ≤ length block.old }
     ensures long { length block.new ≡ length block.old }
@@ -376,7 +375,7 @@ fn spell_items<T: Item>(items: &[T], block: &mut [u8]) -> usize
     at
 }
 
-/// Writes a row of items through a block, so many at a time, or stops where the writer fails or takes nothing.
+/// Writes a list of items through a block, so many at a time, or stops if the writer fails or takes nothing.
 fn put_blocks<W: Sink, T: Item>(
     sink: &mut W,
     block: &mut [u8],
@@ -398,8 +397,8 @@ fn put_blocks<W: Sink, T: Item>(
     Ok(())
 }
 
-/// Writes a row of items through a block, of 1,024 bytes where a small one is too short for them, or stops where the writer
-/// fails or takes nothing. No block is made for no items.
+/// Writes a list of items through a block, of 1,024 bytes if a small one is too short for them, or stops if the writer fails or takes nothing.
+/// Without items no block is made.
 pub(crate) fn put_items<W: Sink, T: Item>(sink: &mut W, items: &[T]) -> Result<(), FrameFault>
     ensures sent { IsSent result (flat_map T.spelling items.now) (W.output sink.old) (W.output sink.new) }
     ensures fit { OnOk result (All T.Fits items.now) }

@@ -1,4 +1,4 @@
-//! The bytes of a dump: its head, and behind it the entries of a history and at most one mark among them.
+//! The bytes of a dump: its head, and after it the entries of a history and at most one mark among them.
 ghost use Rattle.std.specs.Prelude.{◌≡◌, ◌<◌, IfSome, OnOk, None, length};
 ghost use Rattle.tb_records.specs.DumpBytes.{head_bytes, entry_bytes, mark_bytes, numbers_bytes, profile_number, HasNoHead, HeadAnswers, HeadCounts, IsClients, IsDumped, ItemAnswers, ItemCounts};
 ghost use Rattle.tb_records.specs.private.DumpNumbers.{IsHead, NumbersAnswers};
@@ -25,12 +25,12 @@ const SIGNATURE: u64 = 0x3150_4d55_4453_4254;
 pub enum DumpFault {
     /// It does not begin with a head.
     Head,
-    /// Where a mark would come there is another number than 2; or a mark is behind another one, or under profile 2.
+    /// In the place of a mark there is another number than 2; or a mark follows another mark, or profile 2 is in use.
     Mark,
-    /// The next entry can't be read, or the reply to it can't be written.
+    /// The next entry cannot be read, or the reply to it cannot be written.
     Frame(FrameFault),
-    /// The next entry doesn't follow from those before it: its commit number is not the next one, its time is too early
-    /// or too late, or its request is not new.
+    /// The next entry does not follow from those before it: its commit number is not the next one, its time is too early or too late, or its request
+    /// is not new.
     NotLegal,
     /// There is no memory for the machine, or for the next entry.
     NoMemory,
@@ -50,7 +50,7 @@ impl DumpFault {
         }
     }
 
-    /// The fault's name, as a message shows it: of a frame's fault that fault's own.
+    /// The fault's name, as a message shows it: for a frame's fault this is that fault's own name.
     pub fn name(self) -> &'static str
         ensures { result.now ≡ dump_fault_name self }
     {
@@ -95,19 +95,19 @@ impl fmt::Display for DumpFault {
     }
 }
 
-/// What a dump begins with.
+/// The beginning of a dump.
 #[derive(Clone, Copy)]
 pub struct DumpHead {
-    /// The profile that its entries go by, as far as its mark where it has one.
+    /// The profile of its entries, up to its mark if it has one.
     pub profile: Profile,
-    /// The greatest number of clients with a session at one time.
+    /// The greatest number of clients that can have a session at one time.
     pub clients_max: ClientsMax,
 }
 
 /// What follows the head of a dump.
 #[derive(Drop)]
 pub enum DumpItem {
-    /// From here on the entries go by profile 2.
+    /// From here on profile 2 executes the entries.
     Mark,
     /// An entry of the history.
     Entry {
@@ -159,7 +159,7 @@ fn head_in(bytes: &[u8]) -> Option<DumpHead>
     })
 }
 
-/// Reads the head of a dump, 16 bytes. Head where they are none.
+/// Reads the head of a dump, 16 bytes. Returns `Head` if they are not a head.
 #[tactic(auto, using(crate::proofs::DumpAnswers::cut_head, crate::proofs::DumpAnswers::other_head))]
 pub fn read_head_from<S: Source>(source: &mut S) -> Result<DumpHead, DumpFault>
     ensures answer { HeadAnswers result (S.input source.old).left (S.input source.new).left }
@@ -176,7 +176,7 @@ pub fn read_head_from<S: Source>(source: &mut S) -> Result<DumpHead, DumpFault>
     }
 }
 
-/// Reads two numbers of 8 bytes. None where the input ends before the first byte; Short where it ends within them.
+/// Reads two numbers of 8 bytes. Returns `None` if the input ends before the first byte, and `Short` if it ends within them.
 #[tactic(auto, using(crate::proofs::DumpAnswers::two_numbers))]
 fn numbers_from<S: Source>(source: &mut S) -> Result<Option<(u64, u64)>, FrameFault>
     ensures answer { NumbersAnswers result (S.input source.old).left (S.input source.new).left }
@@ -191,9 +191,9 @@ fn numbers_from<S: Source>(source: &mut S) -> Result<Option<(u64, u64)>, FrameFa
     }
 }
 
-/// Reads what comes next behind the head of a dump: a mark or an entry; None where the input ends before the first byte.
-/// Mark where eight zero bytes and another number than 2 are there; Short where the input ends in the 16 bytes of
-/// either, in the frame of an entry, or before it.
+/// Reads what comes next after the head of a dump: a mark or an entry. Returns `None` if the input ends before the first byte, and `Mark` if the
+/// bytes are eight zeros and another number than 2. Returns `Short` if the input ends in the 16 bytes of either, in the frame of an entry, or before
+/// it.
 #[tactic(auto, using(crate::proofs::DumpAnswers::no_frame, crate::proofs::DumpAnswers::bad_frame))]
 pub fn read_item_from<S: Source>(
     alloc: Global,
@@ -222,7 +222,7 @@ pub fn read_item_from<S: Source>(
     }
 }
 
-/// Says that bytes begin with a whole mark or entry.
+/// Returns whether bytes begin with a whole mark or entry.
 pub fn holds_item(bytes: &[u8]) -> bool
     ensures { result ≡ holds_item bytes.now }
 {
@@ -251,8 +251,7 @@ fn bytes_of_numbers(first: u64, second: u64) -> [u8; 16]
     bytes
 }
 
-/// Writes the head of a dump. Device where the sink answers an error, or takes nothing of what is left: then a beginning
-/// went out.
+/// Writes the head of a dump. Returns `Device` if the sink returns an error, or takes nothing of what is left: then a prefix was written.
 pub fn send_head<W: Sink>(sink: &mut W, head: DumpHead) -> Result<(), FrameFault>
     ensures sent { IsSent result (head_bytes head.profile head.clients_max) (W.output sink.old) (W.output sink.new) }
     ensures right { IsClients head.clients_max }

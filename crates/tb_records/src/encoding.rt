@@ -4,8 +4,7 @@ ghost use Rattle.tb_records.specs.Numbers.{le_bytes, le_at};
 
 use byteorder::{ByteOrder, LittleEndian};
 
-/// Writes 16 bytes at a place, as two halves of 8: each half is one store, where the compiler would take a whole number
-/// apart into its bytes.
+/// Writes 16 bytes at a place, as two halves of 8: each half is one store; the compiler would split a whole number into its bytes.
 pub(crate) fn put_u128(out: &mut [u8], at: usize, number: u128)
     requires { at + 16 ≤ length out.old }
     ensures written { take (at + 16) out.new ≡ take at out.old ++ le_bytes 16 number }

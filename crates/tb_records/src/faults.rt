@@ -1,4 +1,4 @@
-//! Why bytes are no frame, or values no request or reply.
+//! Why bytes are not a frame, or values not a request or reply.
 ghost use Rattle.std.specs.Prelude.{◌≡◌, Some};
 ghost use Rattle.tb_records.specs.Faults.{fault_number, fault_name};
 
@@ -21,9 +21,9 @@ pub enum FrameFault {
     BadLength,
     /// There are more than 8190 items.
     TooMany,
-    /// A register has session and request 0, and its reply request 0, and session 0 where it is a refusal.
+    /// A register has session and request 0. Its reply has request 0, and session 0 if it is a refusal.
     RegisterNumbers,
-    /// A request that is no register has request 0.
+    /// A request that is not a register has request 0.
     RequestZero,
     /// The reader or the writer failed, or the writer took nothing.
     Device,

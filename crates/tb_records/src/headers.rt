@@ -28,9 +28,9 @@ pub(crate) struct Header {
     pub session: u64,
     pub request: u32,
     pub operation: Operation,
-    /// How many bytes the body has.
+    /// The number of bytes of the body.
     pub length: usize,
-    /// How many items the body has.
+    /// The number of items of the body.
     pub count: usize,
 }
 
@@ -82,7 +82,7 @@ fn header_fields(bytes: &[u8]) -> Result<Header, FrameFault>
     })
 }
 
-/// The fields of the header that the bytes begin with, which are its spelling; or the first of its faults.
+/// The fields of the header that the bytes begin with and encode; or the first of its faults.
 #[tactic(auto, using(crate::proofs::HeaderBytes::ok_spelled))]
 pub(crate) fn request_header(bytes: &[u8]) -> Result<Header, FrameFault>
     requires { 48 ≤ length bytes.now }

@@ -25,7 +25,7 @@ impl HeldBody {
         }
     }
 
-    /// A body equal to this one; where it is shared, itself.
+    /// A body equal to this one; if it is shared, the same body.
     pub fn copy(&self, alloc: Global) -> Result<HeldBody, AllocError>
         ensures { IfOk result (λ held. body_of held ≡ body_of self.now) }
     {
@@ -35,7 +35,7 @@ impl HeldBody {
         })
     }
 
-    /// Has copies share the body from now on.
+    /// Makes copies share the body from now on.
     pub fn share(&mut self, alloc: Global) -> Result<(), AllocError>
         ensures { body_of self.new ≡ body_of self.old }
     {
@@ -45,7 +45,7 @@ impl HeldBody {
         shared
     }
 
-    /// As `share`, of a body by itself.
+    /// As `share`, by value.
     fn shared(self, alloc: Global) -> (HeldBody, Result<(), AllocError>)
         ensures { body_of result.0 ≡ body_of self }
     {

@@ -1,4 +1,4 @@
-//! The limits as numbers, and laws of frames, for every request whose numbers fit their fields. None makes a call.
+//! The limits as numbers, and laws of frames, for every request whose numbers fit their fields. None of them makes a call.
 ghost use Rattle.std.specs.Prelude.{◌≡◌, ◌++◌, None, ℕ, List};
 ghost use Rattle.tb_records.specs.Frames.{request_bytes, request_fault, FitsFrame, IsRequest};
 ghost use Rattle.tb_records.specs.Messages.{Message, number_fault};
@@ -20,7 +20,7 @@ pub fn spelled_whole()
     ensures { (r : Message) (more : List ℕ) → IsRequest r → request_fault (request_bytes r ++ more) ≡ None }
 {}
 
-/// Each request has one frame, and no frame begins another one.
+/// Each request has one frame, and no frame is a prefix of another one.
 #[tactic(auto, using(crate::proofs::Spellings::spelled_once))]
 pub fn one_reading()
     ensures { (r s : Message) (x y : List ℕ) → IsRequest r

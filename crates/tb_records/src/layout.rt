@@ -8,7 +8,7 @@ ghost use Rattle.tb_records.specs.RecordBytes.{account_bytes, transfer_bytes, re
 use crate::encoding::{put_u16, put_u32, put_u64, put_u128, u16_at, u32_at, u64_at, u128_at};
 use crate::records::{Account, EventResult, Transfer};
 
-/// What the body of a frame is a row of: items of one size.
+/// An item of the body of a frame, which is a list of items of one size.
 pub(crate) trait Item: Copy + Drop {
     // The bytes of an item.
     ghost spelling: { Self → List ℕ };
@@ -18,7 +18,7 @@ pub(crate) trait Item: Copy + Drop {
 
     ghost SIZE: { ℕ };
 
-    /// How many bytes an item has.
+    /// The number of bytes of an item.
     const SIZE: usize;
 
     /// The item that the bytes encode.
@@ -35,7 +35,7 @@ pub(crate) trait Item: Copy + Drop {
     // No item has more bytes than a record.
     ghost small: { SIZE ≤ 128 };
 
-    // Each item has as many bytes as the others.
+    // All items have the same number of bytes.
     ghost length_spelling: { (x : Self) → length (spelling x) ≡ SIZE };
 }
 

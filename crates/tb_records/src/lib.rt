@@ -13,7 +13,7 @@
 //! - `encoding`: numbers in bytes, the lowest byte first.
 //! - `headers`: the header of a request's frame, and its tests in their order.
 //! - `records`: `Account`, `Transfer` and `EventResult`, and their bytes.
-//! - `bodies`: what a request asks for, what a reply answers.
+//! - `bodies`: the bodies of requests and replies.
 //! - `held_bodies`: the body of one request, or of several copies of it.
 //! - `requests`: `Request`, one whose numbers keep the rules of sessions.
 //! - `replies`: `Reply`, one whose numbers and body go together; `Status`.
@@ -24,8 +24,8 @@
 //! - `reading`: a request from bytes.
 //! - `writing`: frames to a vector or to a writer.
 //! - `dumps`: the head, the mark and the entries of a dump, read and written.
-//! - `laws`: laws of the frames of requests: spelled whole, one reading, one fault.
-//! - `reply_laws`: the same laws of replies.
+//! - `laws`: laws of the frames of requests: encoded whole, one decoding, one fault.
+//! - `reply_laws`: the same laws for replies.
 #![tactic(auto)]
 
 mod account_flags;

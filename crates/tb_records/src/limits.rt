@@ -1,4 +1,4 @@
-//! Which rules a ledger goes by, how many clients it serves, and how many items a body has.
+//! The rules of a ledger, how many clients it serves, and how many items a body has.
 ghost use Rattle.std.specs.Prelude.{◌≡◌, ◌≤◌, ◌<◌, IfSome, IsSome, ◌↔◌};
 ghost use Rattle.tb_records.specs.Limits.{IsClients};
 
@@ -24,7 +24,7 @@ pub const AMOUNT_MAX: u128 = u128::MAX;
 pub enum Profile {
     /// A refused transfer's id may be used again.
     One,
-    /// The id of a transfer that was refused for a cause that may pass is refused from then on.
+    /// The id of a transfer that was refused for a transient cause is refused from then on.
     Two,
 }
 
@@ -48,7 +48,7 @@ impl Model for ClientsMax {
 }
 
 impl ClientsMax {
-    /// None where the number is not from 1 to `CLIENTS_MAX`.
+    /// `None` if the number is not from 1 to `CLIENTS_MAX`.
     pub fn new(number: u32) -> Option<ClientsMax>
         ensures value { IfSome result (λ c. c ≡ number) }
         ensures range { IsSome result ↔ IsClients number }

@@ -4,7 +4,7 @@ ghost use Rattle.std.specs.Prelude.{◌≡◌, ◌==◌, length, IfOk};
 use std::alloc::{AllocError, Global};
 use std::marker::Model;
 
-/// A list of items, made of a vector and given back as one, with no memory taken.
+/// A list of items, made from a vector and given back as one, without an allocation.
 #[derive(Drop)]
 pub struct Items<T: Drop> {
     items: Vec<T>,
@@ -40,7 +40,7 @@ impl<T: Drop> Items<T> {
         self.items.len()
     }
 
-    /// Says that there are no items.
+    /// Whether there are no items.
     pub fn is_empty(&self) -> bool
         ensures { result ≡ (length self.now == 0) }
     {

@@ -6,7 +6,7 @@ ghost use Rattle.tb_records.specs.Named.{IsOnly};
 
 use std::fmt;
 
-/// What a request asks for: the number next to it is the one in a frame.
+/// The operation of a request: the number next to it is the one in a frame.
 #[derive(Clone, Copy, Debug, PartialEq, Eq)]
 pub enum Operation {
     /// Opens a session of a client.
@@ -38,7 +38,7 @@ impl Operation {
         self as u8
     }
 
-    /// The operation that has a number; None where none has it.
+    /// The operation that has a number; `None` if no operation has it.
     pub fn from_code(code: u8) -> Option<Operation>
         ensures value { MatchOption result (is_operation code ≡ false)
             (λ operation. operation_code operation ≡ code) }
@@ -54,7 +54,7 @@ impl Operation {
         }
     }
 
-    /// The operation's name, as TigerBeetle spells it.
+    /// The operation's name, in TigerBeetle's spelling.
     pub fn name(self) -> &'static str
         ensures { result.now ≡ operation_name self }
     {

@@ -14,8 +14,8 @@ use crate::reply_reading::items_in;
 use crate::requests::Request;
 use std::alloc::{AllocError, Global};
 
-/// The request whose frame the bytes begin with, and the length of the frame; or the first fault of the frame. NoMemory
-/// comes only where there is no fault.
+/// The request whose frame the bytes begin with, and the length of the frame; or the first fault of the frame. `NoMemory` is returned only if there
+/// is no fault.
 #[tactic(auto, using(crate::proofs::Spellings::found_only))]
 pub fn read_request(alloc: Global, bytes: &[u8]) -> Result<(Request, usize), FrameFault>
     ensures found { Found result bytes.now }

@@ -9,18 +9,18 @@ use crate::account_flags::AccountFlag;
 use crate::layout::Item;
 use crate::transfer_flags::TransferFlag;
 
-/// An account. Of a record that a client sends, the four sums and the timestamp are to be 0.
+/// An account. In a record that a client sends, the four sums and the timestamp must be 0.
 #[derive(Clone, Copy, Debug, Default, PartialEq, Eq)]
 pub struct Account {
     /// Names the account: neither 0 nor the largest number.
     pub id: u128,
     /// What pending transfers hold on the debit side, in the ledger's smallest unit.
     pub debits_pending: u128,
-    /// What was debited for good.
+    /// The posted debits.
     pub debits_posted: u128,
     /// What pending transfers hold on the credit side.
     pub credits_pending: u128,
-    /// What was credited for good.
+    /// The posted credits.
     pub credits_posted: u128,
     pub user_data_128: u128,
     pub user_data_64: u64,
@@ -38,7 +38,7 @@ pub struct Account {
 }
 
 impl Account {
-    /// Says that the account has a flag.
+    /// Whether the account has a flag.
     pub fn has(&self, flag: AccountFlag) -> bool
         ensures { result ≡ account_has flag self.now }
     {
@@ -52,7 +52,7 @@ impl Account {
         self.has(AccountFlag::Linked)
     }
 
-    /// No transfer enters the account but a void.
+    /// The account accepts no transfer except a void.
     pub fn is_closed(&self) -> bool
         ensures { result ≡ account_has AccountFlag.Closed self.now }
     {
@@ -69,7 +69,7 @@ impl Account {
         out
     }
 
-    /// The account that the bytes encode. Any 128 bytes encode one, and only one.
+    /// The account that the bytes encode. Any 128 bytes encode exactly one.
     pub fn from_bytes(bytes: &[u8; 128]) -> Account
         ensures spelled { account_bytes result ≡ bytes.now }
         ensures fits { IsAccount result }
@@ -89,12 +89,12 @@ pub struct Transfer {
     pub credit_account_id: u128,
     /// In the ledger's smallest unit.
     pub amount: u128,
-    /// Of a post or void: the pending transfer that it resolves.
+    /// For a post or void: the pending transfer that it resolves.
     pub pending_id: u128,
     pub user_data_128: u128,
     pub user_data_64: u64,
     pub user_data_32: u32,
-    /// Of a pending transfer: the seconds after which it expires; 0 is never.
+    /// For a pending transfer: the seconds after which it expires; 0 is never.
     pub timeout: u32,
     pub ledger: u32,
     /// The reason of the transfer, the client's own choice, not 0.
@@ -106,7 +106,7 @@ pub struct Transfer {
 }
 
 impl Transfer {
-    /// Says that the transfer has a flag.
+    /// Whether the transfer has a flag.
     pub fn has(&self, flag: TransferFlag) -> bool
         ensures { result ≡ transfer_has flag self.now }
     {
@@ -172,7 +172,7 @@ impl Transfer {
         bytes
     }
 
-    /// The transfer that the bytes encode. Any 128 bytes encode one, and only one.
+    /// The transfer that the bytes encode. Any 128 bytes encode exactly one.
     pub fn from_bytes(bytes: &[u8; 128]) -> Transfer
         ensures spelled { transfer_bytes result ≡ bytes.now }
         ensures fits { IsTransfer result }

@@ -13,7 +13,7 @@ use std::alloc::{AllocError, Global};
 use std::fmt;
 use std::marker::Model;
 
-/// How a request fared.
+/// The result of a request.
 #[derive(Clone, Copy, Debug, PartialEq, Eq)]
 pub enum Status {
     /// 0: the request is in the history, and this is its reply.
@@ -63,7 +63,7 @@ impl Status {
         }
     }
 
-    /// The status that has a number; None above 7.
+    /// The status that has a number; `None` above 7.
     pub fn from_code(code: u8) -> Option<Status>
         ensures { MatchOption result (7 < code) (λ status. status_code status ≡ code) }
     {
@@ -105,7 +105,7 @@ impl fmt::Display for Status {
     }
 }
 
-/// What a reply says besides its body.
+/// The numbers of a reply, without its body.
 #[derive(Clone, Copy)]
 pub(crate) struct Numbers {
     pub client: u128,
@@ -134,14 +134,14 @@ impl Model for Reply {
     ghost invariant = { λ r. IsRight (answer_of r.numbers r.body) };
 }
 
-/// Says that an operation has this number.
+/// Whether an operation has this number.
 pub(crate) fn is_known(operation: u8) -> bool
     ensures { result ≡ is_operation operation }
 {
     operation == 2 || operation == 129 || operation == 130 || operation == 131 || operation == 132
 }
 
-/// The kind of body that an operation and a status ask for: 0 none, 1 results, 2 accounts, 3 transfers.
+/// The kind of body that an operation and a status require: 0 no body, 1 results, 2 accounts, 3 transfers.
 fn kind_of_reply(operation: u8, status: u8) -> u8
     ensures { result ≡ (if status == 0 then kind_for operation else 0) }
 {
@@ -156,15 +156,15 @@ fn kind_of_reply(operation: u8, status: u8) -> u8
     }
 }
 
-/// Says that a register's reply has request 0, and session 0 where it is a refusal.
+/// Whether a register's reply has request 0, and session 0 if it is a refusal.
 fn suits_register(status: u8, session: u64, request: u32) -> bool
     ensures { result ≡ has_register_numbers status session request }
 {
     request == 0 && (status == 0 || session == 0)
 }
 
-/// Says that a reply's session and commit number go together: a refusal has commit 0, the reply to a register has its
-/// commit as session, and any other reply a session before its commit.
+/// Whether a reply's session and commit number go together: a refusal has commit 0, the reply to a register has its commit as session, and any other
+/// reply a session before its commit.
 fn numbers_agree(operation: u8, status: u8, session: u64, commit: u64) -> bool
     ensures { result ≡ has_reply_numbers operation status session commit }
 {
@@ -197,7 +197,7 @@ impl Numbers {
     }
 }
 
-/// What is wrong with the numbers of a reply, or with its body beside them.
+/// What is wrong with the numbers of a reply, or with its body next to them.
 fn fault_of(numbers: &Numbers, body: &ReplyBody) -> Option<FrameFault>
     ensures { result ≡ answer_fault
         (answered numbers.now.client numbers.now.session numbers.now.request numbers.now.operation numbers.now.status
@@ -222,8 +222,8 @@ fn fault_of(numbers: &Numbers, body: &ReplyBody) -> Option<FrameFault>
 }
 
 impl Reply {
-    /// The first fault that the reply's frame would have, BadLength also where the body is not of the kind that the
-    /// operation and the status ask for; else the reply.
+    /// The first fault that the reply's frame would have, also `BadLength` if the body is not of the kind that the operation and the status require;
+    /// otherwise the reply.
     pub fn new(
         client: u128,
         session: u64,
@@ -293,14 +293,14 @@ impl Reply {
         })
     }
 
-    /// Who the reply is for.
+    /// The client that the reply is for.
     pub fn client(&self) -> u128
         ensures { result ≡ self.now.client }
     {
         self.numbers.client
     }
 
-    /// The session of the client's row; of a register's reply the new session; of a refusal the request's.
+    /// The session of the client's row; for a register's reply the new session, for a refusal the request's.
     pub fn session(&self) -> u64
         ensures { result ≡ self.now.session }
     {
@@ -321,21 +321,21 @@ impl Reply {
         self.numbers.operation
     }
 
-    /// How the request fared.
+    /// The result of the request.
     pub fn status(&self) -> Status
         ensures { result ≡ self.now.status }
     {
         self.numbers.status
     }
 
-    /// The number of the request's entry in the history, 0 of a refusal.
+    /// The number of the request's entry in the history; 0 for a refusal.
     pub fn commit(&self) -> u64
         ensures { result ≡ self.now.commit }
     {
         self.numbers.commit
     }
 
-    /// What it answers.
+    /// Its body.
     pub fn body(&self) -> &ReplyBody
         ensures value { result.now ≡ self.now.body }
         ensures right { IsRight self.now }

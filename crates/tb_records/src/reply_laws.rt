@@ -1,4 +1,4 @@
-//! Laws of the frames of replies, for every reply whose numbers fit their fields. None makes a call.
+//! Laws of the frames of replies, for every reply whose numbers fit their fields. None of them makes a call.
 ghost use Rattle.std.specs.Prelude.{◌≡◌, ◌++◌, None, ℕ, List};
 ghost use Rattle.tb_records.specs.Messages.{Answer, answer_fault};
 ghost use Rattle.tb_records.specs.ReplyFrames.{reply_bytes, reply_fault, FitsFrame, HasKind, IsReply};
@@ -9,7 +9,7 @@ pub fn spelled_whole()
     ensures { (r : Answer) (more : List ℕ) → IsReply r → reply_fault (reply_bytes r ++ more) ≡ None }
 {}
 
-/// Each reply has one frame, and no frame begins another one.
+/// Each reply has one frame, and no frame is a prefix of another one.
 #[tactic(auto, using(crate::proofs::ReplyLaws::one_reading))]
 pub fn one_reading()
     ensures { (r s : Answer) (x y : List ℕ) → IsReply r
@@ -18,8 +18,7 @@ pub fn one_reading()
         → (r ≡ s) × (x ≡ y) }
 {}
 
-/// The first fault of a reply's values is the first fault of their frame, where the body is of the kind that the operation
-/// and the status ask for.
+/// The first fault of a reply's values is the first fault of their frame, if the body is of the kind that the operation and the status require.
 #[tactic(auto, using(crate::proofs::ReplyLaws::one_fault))]
 pub fn one_fault()
     ensures { (r : Answer) (more : List ℕ) → FitsFrame r

@@ -20,7 +20,7 @@ use std::alloc::{AllocError, Global};
 #[derive(Clone, Copy)]
 pub(crate) struct ReplyHeader {
     pub numbers: Numbers,
-    /// The number of bytes behind the header.
+    /// The number of bytes after the header.
     pub len: u32,
 }
 
@@ -95,7 +95,7 @@ fn item_size(operation: u8) -> u32
     }
 }
 
-/// Says that the body of a reply may have this length.
+/// Whether the body of a reply may have this length.
 fn is_long(operation: u8, status: u8, len: u32) -> bool
     ensures { result ≡ has_reply_length operation status len }
 {
@@ -106,7 +106,7 @@ fn is_long(operation: u8, status: u8, len: u32) -> bool
     }
 }
 
-/// The items that the bytes encode, one behind the other.
+/// The items that the bytes encode, one after the other.
 pub(crate) fn items_in<T: Item>(
     alloc: Global,
     bytes: &[u8],
@@ -121,7 +121,7 @@ pub(crate) fn items_in<T: Item>(
     Ok(Items::new(items))
 }
 
-/// The body that the bytes encode, of the kind that the operation and the status ask for.
+/// The body that the bytes encode, of the kind that the operation and the status require.
 #[tactic(auto, unfolding(crate::specs::ReplyFrames::reply_body_bytes))]
 fn body_in(alloc: Global, operation: u8, status: u8, bytes: &[u8]) -> Result<ReplyBody, AllocError>
     requires { IsTrue (has_reply_length operation status (length bytes.now)) }
@@ -156,8 +156,8 @@ fn read(alloc: Global, bytes: &[u8]) -> Result<(Reply, usize), FrameFault>
     Ok((Reply::lawful(header.numbers, body), end))
 }
 
-/// The reply whose frame the bytes begin with, and the length of the frame; or the first fault, in the order of the
-/// tests. NoMemory comes after all of these.
+/// The reply whose frame the bytes begin with, and the length of the frame; or the first fault, in the order of the tests. `NoMemory` comes after all
+/// of these.
 #[tactic(auto, using(crate::proofs::ReplyLaws::only_this))]
 pub fn read_reply(alloc: Global, bytes: &[u8]) -> Result<(Reply, usize), FrameFault>
     ensures found { FoundReply result bytes.now }

@@ -60,8 +60,8 @@ fn fault_of(client: u128, session: u64, request: u32, body: &Body) -> Option<Fra
 }
 
 impl Request {
-    /// The first of ClientZero, RegisterNumbers (a register with session or request not 0), RequestZero (any other
-    /// with request 0) and TooMany (more than 8190 items) that holds; else the request.
+    /// The first of ClientZero, RegisterNumbers (a register with session or request not 0), RequestZero (any other with request 0) and TooMany (more
+    /// than 8190 items) that holds; otherwise the request.
     ///
     /// It is compiled into its callers, so that a request is not copied on its way out.
     #[inline(always)]
@@ -81,21 +81,21 @@ impl Request {
         })
     }
 
-    /// Who sent it.
+    /// The client that sent it.
     pub fn client(&self) -> u128
         ensures { result ≡ self.now.client }
     {
         self.client
     }
 
-    /// The session, 0 of a register.
+    /// The session; 0 for a register.
     pub fn session(&self) -> u64
         ensures { result ≡ self.now.session }
     {
         self.session
     }
 
-    /// The number of the request in its session, 0 of a register.
+    /// The number of the request in its session; 0 for a register.
     pub fn request(&self) -> u32
         ensures { result ≡ self.now.request }
     {
@@ -109,7 +109,7 @@ impl Request {
         self.body.get().operation()
     }
 
-    /// What it asks for.
+    /// Its body.
     pub fn body(&self) -> &Body
         ensures value { result.now ≡ self.now.body }
         ensures lawful { IsLawful self.now }
@@ -117,14 +117,14 @@ impl Request {
         self.body.get()
     }
 
-    /// Has the copies that are made of it from now on share its body, so that they take no memory.
+    /// Makes the copies that are made of it from now on share its body, so that they allocate no memory.
     pub fn share(&mut self, alloc: Global) -> Result<(), AllocError>
         ensures { self.new ≡ self.old }
     {
         self.body.share(alloc)
     }
 
-    /// A request equal to this one. Where its body is shared, the copy shares it too.
+    /// A request equal to this one. If its body is shared, the copy shares it too.
     pub fn copy(&self, alloc: Global) -> Result<Request, AllocError>
         ensures { IfOk result (λ request. request ≡ self.now) }
     {

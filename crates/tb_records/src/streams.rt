@@ -20,7 +20,7 @@ use crate::requests::Request;
 use std::alloc::{AllocError, Global};
 use std::marker::Model;
 
-/// The requests of a reader, one by one. After a fault it answers that fault and reads nothing.
+/// The requests of a reader, one by one. After a fault it returns that fault again and reads nothing.
 #[derive(Drop)]
 pub struct RequestStream<R: Source + Drop> {
     source: R,
@@ -53,9 +53,8 @@ impl<R: Source + Drop> RequestStream<R> {
         self.fault.map_or(Ok(()), Err)
     }
 
-    /// The next request; None where the input ends before the first byte. Just the frame of what is answered is read;
-    /// after a fault of the header the body is unread. Device comes only where the reader answered an error, behind which
-    /// nothing more is asked of it.
+    /// The next request; `None` if the input ends before the first byte. Only the frame of the request that is returned is read; after a fault of the
+    /// header the body is unread. `Device` is returned only if the reader returned an error; the reader is not called again after that.
     pub fn next_request(&mut self, alloc: Global) -> Result<Option<Request>, FrameFault>
         ensures again { (f : FrameFault) → self.old.fault ≡ Some f → (result ≡ Err f) × (self.new ≡ self.old) }
         ensures answer { self.old.fault ≡ None
@@ -70,8 +69,8 @@ impl<R: Source + Drop> RequestStream<R> {
         answer
     }
 
-    /// The next moment of 8 bytes, and the request behind it; None where the input ends before the first byte. Short
-    /// where it ends in the moment or in the frame, or between the two.
+    /// The next moment of 8 bytes, and the request after it; `None` if the input ends before the first byte. `Short` if it ends in the moment or in
+    /// the frame, or between the two.
     pub fn next_timed(&mut self, alloc: Global) -> Result<Option<(u64, Request)>, FrameFault>
         ensures again { (f : FrameFault) → self.old.fault ≡ Some f → (result ≡ Err f) × (self.new ≡ self.old) }
         ensures answer { self.old.fault ≡ None
@@ -95,21 +94,21 @@ impl<R: Source + Drop> RequestStream<R> {
     }
 }
 
-/// Says that bytes begin with a whole request frame, as far as its header gives its length.
+/// Returns whether bytes begin with a whole request frame, with the length that its header gives.
 pub fn holds_frame(bytes: &[u8]) -> bool
     ensures { result ≡ holds_frame bytes.now }
 {
     bytes.len() >= 48 && bytes.len() - 48 >= u32_at(bytes, 32) as usize
 }
 
-/// Says that bytes begin with a whole pair of a moment and a request frame.
+/// Returns whether bytes begin with a whole pair of a moment and a request frame.
 pub fn holds_pair(bytes: &[u8]) -> bool
     ensures { result ≡ holds_pair bytes.now }
 {
     bytes.len() >= 8 && holds_frame(&bytes[8..])
 }
 
-/// Reads the items of a body. The memory for them is taken before the first byte is read.
+/// Reads the items of a body. The memory for them is allocated before the first byte is read.
 #[tactic(auto, unfolding(crate::specs::Frames::body_bytes))]
 fn body_from<S: Source>(
     alloc: Global,
@@ -130,7 +129,7 @@ fn body_from<S: Source>(
     })
 }
 
-/// Reads the body behind a header, and makes the request.
+/// Reads the body after a header, and makes the request.
 fn request_behind<S: Source>(
     alloc: Global,
     source: &mut S,
@@ -144,7 +143,7 @@ fn request_behind<S: Source>(
     Request::new(header.client, header.session, header.request, body)
 }
 
-/// Reads a header and tests it. None where the input ends before the first byte.
+/// Reads a header and checks it. Returns `None` if the input ends before the first byte.
 #[tactic(auto, using(crate::proofs::StreamAnswers::header_read))]
 fn header_from<S: Source>(source: &mut S) -> Result<Option<Header>, FrameFault>
     ensures answer { HeaderAnswers result (S.input source.old).left (S.input source.new).left }
@@ -160,7 +159,7 @@ fn header_from<S: Source>(source: &mut S) -> Result<Option<Header>, FrameFault>
     Ok(Some(request_header(bytes)?))
 }
 
-/// Reads one request. None where the input ends before the first byte.
+/// Reads one request. Returns `None` if the input ends before the first byte.
 #[tactic(auto, using(crate::proofs::StreamAnswers::whole_request, crate::proofs::StreamAnswers::faulty_body))]
 pub(crate) fn request_from<S: Source>(
     alloc: Global,
@@ -176,9 +175,8 @@ pub(crate) fn request_from<S: Source>(
     Ok(Some(request_behind(alloc, source, &header)?))
 }
 
-/// Reads a moment of 8 bytes, and the request behind it. None where the input ends before the first byte; Short where it
-/// ends in the moment or in the frame, or between the two. Just the bytes of what is answered are read; after a fault of
-/// the header the body is unread.
+/// Reads a moment of 8 bytes, and the request after it. Returns `None` if the input ends before the first byte, and `Short` if it ends in the moment
+/// or in the frame, or between the two. Only the bytes of the pair that is returned are read; after a fault of the header the body is unread.
 ///
 /// It is compiled into its callers, so that a request is not copied on its way out.
 #[inline(always)]
@@ -204,8 +202,8 @@ pub fn read_timed_from<R: Source>(
     }
 }
 
-/// The moment and the request that bytes begin with, and how many bytes they are; None where that is no whole pair, or where the
-/// request's header has a fault.
+/// The moment and the request that bytes begin with, and the number of their bytes; `None` if there is no whole pair, or if the request's header has
+/// a fault.
 #[inline(always)]
 #[tactic(auto, using(crate::proofs::PairAtHand::pair_found))]
 fn pair_in(alloc: Global, bytes: &[u8]) -> Result<Option<(u64, Request, usize)>, AllocError>
@@ -221,7 +219,7 @@ fn pair_in(alloc: Global, bytes: &[u8]) -> Result<Option<(u64, Request, usize)>,
     }
 }
 
-/// As `read_timed_from`, by a read for each part of the pair. It stays out of that function, whose frame is small so.
+/// As `read_timed_from`, by a read for each part of the pair. It is a function of its own, so that the caller's frame stays small.
 #[inline(never)]
 #[tactic(auto, using(crate::proofs::StreamAnswers::no_frame, crate::proofs::StreamAnswers::bad_frame))]
 fn timed_by_parts<S: Source>(
@@ -241,7 +239,7 @@ fn timed_by_parts<S: Source>(
     }
 }
 
-/// Reads a moment. None where the input ends before the first byte.
+/// Reads a moment. Returns `None` if the input ends before the first byte.
 #[tactic(auto, using(crate::proofs::StreamAnswers::short_moment))]
 fn moment_from<S: Source>(source: &mut S) -> Result<Option<u64>, FrameFault>
     ensures answer { MomentAnswers result (S.input source.old).left (S.input source.new).left }

@@ -42,7 +42,7 @@ impl TransferFlag {
         TransferFlag::Imported,
     ];
 
-    /// The bits that no transfer may have: imported, and those that are no flag.
+    /// The bits that no transfer may have: imported, and those that are not flags.
     pub const RESERVED: u16 = 0xFF00;
 
     /// The bit that represents it in the record.
@@ -52,14 +52,14 @@ impl TransferFlag {
         self as u16
     }
 
-    /// Says that these flags have it.
+    /// Whether these flags have it.
     pub fn is_in(self, flags: u16) -> bool
         ensures { result ≡ has_flag (transfer_flag_bit self) flags }
     {
         flags & self.bit() != 0
     }
 
-    /// The flag's name, as TigerBeetle spells it.
+    /// The flag's name, in TigerBeetle's spelling.
     pub fn name(self) -> &'static str
         ensures { result.now ≡ transfer_flag_name self }
     {

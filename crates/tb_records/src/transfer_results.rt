@@ -5,7 +5,7 @@ ghost use Rattle.tb_records.specs.Named.{IsOnly};
 
 use std::fmt;
 
-/// How the creation of a transfer fared: the number next to it is its result code.
+/// The result of the creation of a transfer: the number next to it is its result code.
 #[derive(Clone, Copy, Debug, PartialEq, Eq)]
 pub enum CreateTransferResult {
     /// The transfer is recorded.
@@ -16,7 +16,7 @@ pub enum CreateTransferResult {
     LinkedEventChainOpen = 2,
     /// Its timestamp is not 0.
     TimestampMustBeZero = 3,
-    /// It has the flag imported, or a bit that is no flag.
+    /// It has the flag imported, or a bit that is not a flag.
     ReservedFlag = 4,
     /// Its id is 0.
     IdMustNotBeZero = 5,
@@ -32,7 +32,7 @@ pub enum CreateTransferResult {
     CreditAccountIdMustNotBeZero = 10,
     /// Its credit_account_id is the largest number.
     CreditAccountIdMustNotBeIntMax = 11,
-    /// Debit and credit account are one.
+    /// Its debit account and its credit account are the same.
     AccountsMustBeDifferent = 12,
     /// It has a pending_id, and neither posts nor voids.
     PendingIdMustBeZero = 13,
@@ -52,7 +52,7 @@ pub enum CreateTransferResult {
     DebitAccountNotFound = 21,
     /// No account has its credit_account_id.
     CreditAccountNotFound = 22,
-    /// The two accounts are of two ledgers.
+    /// The two accounts are in different ledgers.
     AccountsMustHaveTheSameLedger = 23,
     /// Its ledger is not that of the accounts.
     TransferMustHaveTheSameLedgerAsAccounts = 24,
@@ -84,7 +84,7 @@ pub enum CreateTransferResult {
     ExistsWithDifferentDebitAccountId = 37,
     /// The transfer of this id has another credit_account_id.
     ExistsWithDifferentCreditAccountId = 38,
-    /// The transfer of this id has another amount; of a balancing transfer, a greater one.
+    /// The transfer of this id has another amount; for a balancing transfer, a greater one.
     ExistsWithDifferentAmount = 39,
     /// The transfer of this id has another pending_id.
     ExistsWithDifferentPendingId = 40,
@@ -98,19 +98,19 @@ pub enum CreateTransferResult {
     ExistsWithDifferentTimeout = 44,
     /// The transfer of this id has another code.
     ExistsWithDifferentCode = 45,
-    /// This very transfer is there.
+    /// This transfer exists already.
     Exists = 46,
-    /// It is pending, and the debit account's debits_pending would leave 128 bits.
+    /// It is pending, and the debit account's debits_pending would overflow 128 bits.
     OverflowsDebitsPending = 47,
-    /// It is pending, and the credit account's credits_pending would leave 128 bits.
+    /// It is pending, and the credit account's credits_pending would overflow 128 bits.
     OverflowsCreditsPending = 48,
-    /// The debit account's debits_posted would leave 128 bits.
+    /// The debit account's debits_posted would overflow 128 bits.
     OverflowsDebitsPosted = 49,
-    /// The credit account's credits_posted would leave 128 bits.
+    /// The credit account's credits_posted would overflow 128 bits.
     OverflowsCreditsPosted = 50,
-    /// The debit account's debits, pending and posted, would leave 128 bits.
+    /// The debit account's debits, pending and posted, would overflow 128 bits.
     OverflowsDebits = 51,
-    /// The credit account's credits, pending and posted, would leave 128 bits.
+    /// The credit account's credits, pending and posted, would overflow 128 bits.
     OverflowsCredits = 52,
     /// It would expire after the last moment of the clock.
     OverflowsTimeout = 53,
@@ -126,7 +126,7 @@ pub enum CreateTransferResult {
     CreditAccountAlreadyClosed = 66,
     /// The transfer of this id has another ledger.
     ExistsWithDifferentLedger = 67,
-    /// By profile 2: a transfer of this id was refused for a cause that may pass.
+    /// By profile 2: a transfer of this id was refused for a transient cause.
     IdAlreadyFailed = 68,
 }
 
@@ -202,7 +202,7 @@ impl CreateTransferResult {
         self as u32
     }
 
-    /// The verdict's name, as TigerBeetle spells it.
+    /// The verdict's name, in TigerBeetle's spelling.
     pub fn name(self) -> &'static str
         ensures { result.now ≡ transfer_result_name self }
     {
@@ -289,7 +289,7 @@ impl CreateTransferResult {
         }
     }
 
-    /// The verdict that has a number; None where none has it.
+    /// The verdict that has a number; `None` if no verdict has it.
     pub fn from_code(code: u32) -> Option<CreateTransferResult>
         ensures { IsOnly result (λ verdict. transfer_result_code verdict ≡ code) }
     {

@@ -17,7 +17,7 @@ use crate::replies::Reply;
 use crate::requests::Request;
 use std::alloc::AllocError;
 
-/// The 48 bytes of a header. Those of a request have status and commit number 0.
+/// The 48 bytes of a header. A request has status and commit number 0.
 fn header(
     client: u128,
     session: u64,
@@ -96,7 +96,7 @@ fn append_items<T: Item>(items: &[T], out: &mut Vec<u8>)
     }
 }
 
-/// The number of bytes that a body of a frame has.
+/// The number of bytes of a request's body.
 #[tactic(auto, unfolding(crate::specs::Frames::body_bytes))]
 fn body_len(body: &Body) -> u32
     requires { item_count body.now ≤ ITEMS_MAX }
@@ -111,7 +111,7 @@ fn body_len(body: &Body) -> u32
     }
 }
 
-/// The number of bytes that the body of a reply has.
+/// The number of bytes of a reply's body.
 #[tactic(auto, unfolding(crate::specs::ReplyFrames::reply_body_bytes))]
 fn reply_body_len(body: &ReplyBody) -> u32
     requires { answer_count body.now ≤ ITEMS_MAX }
@@ -125,7 +125,7 @@ fn reply_body_len(body: &ReplyBody) -> u32
     }
 }
 
-/// The number of bytes that the items of a body have.
+/// The number of bytes of the items of a body.
 fn items_len<T: Item>(items: &[T]) -> u32
     requires { length items.now ≤ ITEMS_MAX }
     ensures { result ≡ length (flat_map T.spelling items.now) }
@@ -164,7 +164,7 @@ fn append_reply_body(body: &ReplyBody, out: &mut Vec<u8>)
     }
 }
 
-/// Appends a request's frame. AllocError where there is no memory for all of it: the vector keeps its bytes, and gets none.
+/// Appends a request's frame. `AllocError` if there is no memory for all of it: the vector keeps its bytes, and gets no new ones.
 pub fn write_request(request: &Request, out: &mut Vec<u8>) -> Result<(), AllocError>
     ensures ok { OnOk result (out.new.items ≡ out.old.items ++ request_bytes request.now) }
     ensures fits { OnOk result (IsRequest request.now) }
@@ -179,8 +179,8 @@ pub fn write_request(request: &Request, out: &mut Vec<u8>) -> Result<(), AllocEr
     Ok(())
 }
 
-/// Appends a reply's frame. AllocError where there is no memory for all of it: the vector keeps its bytes, and gets none. That
-/// the reply's numbers fit, as the clause `only` of `read_reply` asks, is said of what was written.
+/// Appends a reply's frame. `AllocError` if there is no memory for all of it: the vector keeps its bytes, and gets no new ones. That the reply's
+/// numbers fit, as the clause `only` of `read_reply` requires, is stated of what was written.
 pub fn write_reply(reply: &Reply, out: &mut Vec<u8>) -> Result<(), AllocError>
     ensures ok { OnOk result (out.new.items ≡ out.old.items ++ reply_bytes reply.now) }
     ensures fits { OnOk result (IsReply reply.now) }
@@ -209,9 +209,8 @@ fn send_request_body<W: Sink>(sink: &mut W, body: &Body) -> Result<(), FrameFaul
     }
 }
 
-/// Writes a request's frame to a sink. Device where the sink answers an error, or takes nothing of what is left: then a
-/// prefix of the frame went out. That the request's numbers fit, so that the frame is read as no other, is said of
-/// what was written.
+/// Writes a request's frame to a sink. Returns `Device` if the sink returns an error, or takes nothing of what is left: then a prefix of the frame
+/// was written. That the request's numbers fit, so that the frame is read as no other, is stated of what was written.
 #[tactic(auto, using(crate::proofs::Sendings::request_sent))]
 pub fn send_request<W: Sink>(sink: &mut W, request: &Request) -> Result<(), FrameFault>
     ensures sent { IsSent result (request_bytes request.now) (W.output sink.old) (W.output sink.new) }
@@ -237,9 +236,8 @@ fn send_body<W: Sink>(sink: &mut W, body: &ReplyBody) -> Result<(), FrameFault>
     }
 }
 
-/// Writes a reply's frame to a sink. Device where the sink answers an error, or takes nothing of what is left: then a
-/// prefix of the frame went out, and nothing more is offered. That the reply's numbers fit, so that the frame is read as
-/// no other, is said of what was written.
+/// Writes a reply's frame to a sink. Returns `Device` if the sink returns an error, or takes nothing of what is left: then a prefix of the frame was
+/// written, and nothing more is offered. That the reply's numbers fit, so that the frame is read as no other, is stated of what was written.
 #[tactic(auto, using(crate::proofs::Sendings::reply_sent))]
 pub fn send_reply<W: Sink>(sink: &mut W, reply: &Reply) -> Result<(), FrameFault>
     ensures sent { IsSent result (reply_bytes reply.now) (W.output sink.old) (W.output sink.new) }

@@ -1,4 +1,4 @@
--- A head, and what is read of a dump as far as two numbers: for private functions alone.
+-- A head, and what is read of a dump up to two numbers. Only private functions use it.
 use Rattle.std.specs.Prelude.{ℕ, ◌≡◌, ◌^◌, ◌<◌, List, Option, Some, None, Result, Ok, Err}
 use Rattle.std.specs.Io.KnownBytes.{Consumes}
 use Rattle.tb_records.specs.declared.dumps.DumpFault.TheVariants.{Frame}
@@ -17,7 +17,7 @@ pub record ReadsNumbers (first second : ℕ) (before after : Option (List ℕ)) 
   pub first_fits : first < 2 ^ 64
   pub second_fits : second < 2 ^ 64
 
--- what is read as far as the two numbers
+-- what is read up to the two numbers
 abbrev pub NumbersAnswers : Result (Option (ℕ × ℕ)) FrameFault → Option (List ℕ) → Option (List ℕ) → Type 0
 NumbersAnswers (Ok None) before after = ItemAnswers (Ok None) before after
 NumbersAnswers (Ok (Some numbers)) before after = ReadsNumbers numbers.0 numbers.1 before after

@@ -4,10 +4,10 @@ use Rattle.tb_records.specs.Messages.{Message, Answer, operation, status_code}
 use Rattle.tb_records.specs.Frames.{header_bytes}
 use Rattle.tb_records.specs.ReplyFrames.{reply_header_bytes}
 
--- of a request
+-- the header of a request
 abbrev pub header_of_request : Message → ℕ → List ℕ
 header_of_request r len = header_bytes r.client r.session r.request (operation r.body) len
 
--- of a reply
+-- the header of a reply
 abbrev pub header_of_reply : Answer → ℕ → List ℕ
 header_of_reply r len = reply_header_bytes r.client r.session r.request r.operation (status_code r.status) len r.commit

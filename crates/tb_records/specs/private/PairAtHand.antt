@@ -1,4 +1,4 @@
--- What is found among the buffered bytes, before they are consumed: for private functions alone.
+-- What is found among the buffered bytes, before they are consumed. Only private functions use it.
 use Rattle.std.specs.Prelude.{ℕ, ◌≤◌, ◌≡◌, List, length, take, drop, Option, None, Result, MatchResult, IfSome}
 use Rattle.tb_records.specs.Frames.{header_fault}
 use Rattle.tb_records.specs.Inputs.{timed_bytes, IsTimed}
@@ -10,12 +10,12 @@ pub record BeginsWithPair (moment : ℕ) (request : Message) (count : ℕ) (byte
   pub spelled : take count bytes ≡ timed_bytes (moment, request)
   pub is : IsTimed (moment, request)
 
--- a moment, and the header of a request behind it, without a fault
+-- a moment, and the header of a request after it, without a fault
 pub record BeginsWithHeader (bytes : List ℕ) : Type 0 where
   pub long : 56 ≤ length bytes
   pub sound : header_fault (drop 8 bytes) ≡ None
 
--- what the bytes answer: a pair that they begin with, none, or that there is no memory for it
+-- the result for the bytes: the pair that they begin with, no pair, or no memory for it
 abbrev pub PairAnswers : {E : Type 0} → Result (Option (ℕ × Message × ℕ)) E → List ℕ → Type 0
 PairAnswers result bytes =
     MatchResult result (λ found. IfSome found (λ pair. BeginsWithPair pair.0 pair.1 pair.2 bytes)) (λ _. BeginsWithHeader bytes)

@@ -1,4 +1,4 @@
--- What the header and the body of a reply say when they were read.
+-- What the header and the body of a reply contain once they were read.
 use Rattle.std.specs.Prelude.{ℕ, ◌≡◌, ◌==◌, List, flat_map, All, None, if◌then◌else◌}
 use Rattle.tb_records.specs.declared.bodies.ReplyBody.{ReplyBody}
 use Rattle.tb_records.specs.declared.reply_reading.ReplyHeader.{ReplyHeader}
@@ -28,7 +28,7 @@ pub record SpelledItems {X : Type 0} (spelling : X → List ℕ) (Fits : X → T
   pub spelled : flat_map spelling items ≡ bytes
   pub fit : All Fits items
 
--- the bytes are those of the body, which is of the kind that the operation and the status ask for
+-- the bytes are those of the body, which is of the kind that the operation and the status require
 pub record IsReplyBody (operation status : ℕ) (body : ReplyBody) (bytes : List ℕ) : Type 0 where
   pub kind : kind_of body ≡ (if status == 0 then kind_for operation else 0)
   pub spelled : reply_body_bytes body ≡ bytes
