@@ -1,4 +1,4 @@
--- Nodes may go to another thread, or be shared, where their keys, values and allocator may.
+-- Nodes may go to another thread, or be shared, if their keys, values and allocator may.
 use denote.RattleType.{RattleType}
 use denote.Param.Send.{IsSend, IsSync, Frees, sendable}
 use Rattle.std.proofs.CrossingOver.{crosses}

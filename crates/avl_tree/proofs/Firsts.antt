@@ -1,4 +1,4 @@
--- The first pairs of a tree, where a walk has the pairs xs to the left of a node, e at it, and ys to its right.
+-- The first pairs of a tree, if a walk has the pairs xs to the left of a node, e at it, and ys to its right.
 use Rattle.std.proofs.Common.{◌≡◌, ℕ, zero, suc, ◌-◌, ◌<◌, List, [], ◌∷◌, ◌++◌, length, take, sym, ap, ◌∙◌, arith}
 
 module _ {E : Type 0} (e : E) (ys : List E) where

@@ -27,7 +27,7 @@ pub changes_here : {F K V A R : Type 0} (c : Mut F (MutBor V × Unit {0}) (R × 
 changes_here c {n = n} w r v f f' called =
     (record { value = n.value; left = v; found = w.found; called = called; written = w.written v }, w.keeps v)
 
--- the same of an answer that was put into its place
+-- the same for a result that was put into its place
 pub changes_into : {F K V A R : Type 0} (c : Mut F (MutBor V × Unit {0}) (R × (MutBor V × Unit {0}))) {cmp : K → K → Ordering} {k : K} {t : Tree K V A} {n : Node K V A} {put : V → Tree K V A} → StandsHere cmp k t n put → (o : Option R) (v : V) (f f' : F) → IsSome o → IfSome o (λ r. CalledAtMut c f n.value r f' v) → Changes c (is_at (cmp k)) t f o f' (put v)
 changes_into c w (Some r) v f f' some called = changes_here c w r v f f' called
 changes_into c w None v f f' some called = absurd (cc)

@@ -1,4 +1,4 @@
--- The pairs of a range, where a walk is at a node with the pairs l to its left and r to its right.
+-- The pairs of a range, if a walk is at a node with the pairs l to its left and r to its right.
 use Rattle.std.proofs.Common.{◌≡◌, ℕ, Bool, true, false, cond, List, [], ◌∷◌, ◌++◌, sym, ap, ◌∙◌, refl, subst}
 use Rattle.std.specs.declared.boxed.Box.{Box}
 use Rattle.std.specs.declared.cmp.Ordering.{Ordering}

@@ -18,7 +18,7 @@ IsAbove cmp k es = AllByRecursion (λ y. cmp k y ≡ Greater) (keys_of es)
 abbrev pub IsBelow : {K V : Type 0} → (K → K → Ordering) → K → List (K × V) → Type 0
 IsBelow cmp k es = AllByRecursion (λ y. cmp k y ≡ Less) (keys_of es)
 
--- a search for k passes the entries that `around` puts around a list
+-- a search for k skips the entries that `around` puts around a list
 pub record Passes {K V : Type 0} (cmp : K → K → Ordering) (k : K) (around : List (K × V) → List (K × V)) : Type 0 where
   pub found : (m : List (K × V)) → lookup (is_at (cmp k)) (around m) ≡ lookup (is_at (cmp k)) m
   pub written : (w : V) (m : List (K × V)) → set_value (is_at (cmp k)) (around m) w ≡ around (set_value (is_at (cmp k)) m w)
@@ -154,7 +154,7 @@ module _ {K : Type 0} {cmp : K → K → Ordering} (o : IsTotalOrder cmp) (k : K
   below_one e x Greater q low p = absurd (cc)
 
 module _ {K V : Type 0} {cmp : K → K → Ordering} (o : IsTotalOrder cmp) (k : K) where
-  -- the keys before e are below k, where e is no higher
+  -- the keys before e are below k, if e is no higher
   pub above_front : (l : List (K × V)) (e : K × V) (r : List (K × V)) (c : Ordering) → IsOrdered cmp (l ++ e ∷ r) → c ≡ cmp k e.0 → is_ge c ≡ true → IsAbove cmp k l
   unfolding IsStrictlySortedBy
   above_front [] e r c s q high = tt
@@ -168,7 +168,7 @@ module _ {K V : Type 0} {cmp : K → K → Ordering} (o : IsTotalOrder cmp) (k :
   below_rest e [] c a q low = tt
   below_rest e (x ∷ r) c a q low = (below_one o k e.0 x.0 c q low a.0, below_rest e r c a.1 q low)
 
-  -- the keys behind e are above k, where e is no lower
+  -- the keys after e are above k, if e is no lower
   pub below_back : (l : List (K × V)) (e : K × V) (r : List (K × V)) (c : Ordering) → IsOrdered cmp (l ++ e ∷ r) → c ≡ cmp k e.0 → is_le c ≡ true → IsBelow cmp k r
   unfolding IsStrictlySortedBy
   below_back l e r c s q low = below_rest e r c (ordered_right cmp l (e ∷ r) s).0 q low

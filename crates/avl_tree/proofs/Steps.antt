@@ -67,7 +67,7 @@ module _ {K V A : Type 0} {cmp : K → K → Ordering} {k : K} {t side : Tree K 
   pub inserted : (v : V) (u : Tree K V A) → entries u ≡ insert_entry cmp (entries side) k v → entries (put u) ≡ insert_entry cmp (entries t) k v
   inserted v = carried (λ es. insert_entry cmp es k v) (w.passes.inserted v)
 
--- the key is at the root n, where `put` puts another value
+-- the key is at the root n, at which `put` puts another value
 pub record StandsHere {K V A : Type 0} (cmp : K → K → Ordering) (k : K) (t : Tree K V A) (n : Node K V A) (put : V → Tree K V A) : Type 0 where
   pub keeps : (v : V) → KeepsLinks t (put v)
   pub found : lookup (is_at (cmp k)) (entries t) ≡ Some n.value

@@ -77,7 +77,7 @@ module _ {F K V A R : Type 0} (c : Taking F V R) (b : Bool) {cmp : K → K → O
         )
     apart_here whole k2 u None z' u' x = (inr x.0, x.1, ap put x.2 ∙ whole, x.3)
 
--- one key is below the other: where the other one goes where the lower one does not go left
+-- one key is below the other: if the lower one does not go left, the higher one goes right
 module _ {K : Type 0} {cmp : K → K → Ordering} (o : IsTotalOrder cmp) (low high : K) where
   pub higher : (x : K) → cmp low high ≡ Less → Greater ≡ cmp low x → Greater ≡ cmp high x
   higher x q n =

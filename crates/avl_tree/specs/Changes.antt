@@ -1,4 +1,4 @@
--- What a closure leaves that was called at values of a map.
+-- What a closure leaves that was called on values of a map.
 use Rattle.std.specs.Prelude.{◌≡◌, Bool, List, Option, None, Some}
 use Rattle.std.specs.Fn.{Mut, CalledAtMut, CalledAtPairMut}
 use Rattle.std.specs.Map.{lookup, set_value}
@@ -6,15 +6,15 @@ use Rattle.avl_tree.specs.Nodes.{entries, stored_height, IsAvl}
 use Rattle.avl_tree.specs.declared.tree.Tree.{Tree}
 use denote.Ref.{MutBor}
 
--- f may be called at a `&mut` to x
+-- f may be called on a `&mut` to x
 abbrev pub TakesAtMut : {F V R : Type 0} → Mut F (MutBor V × Unit {0}) (R × (MutBor V × Unit {0})) → F → V → Type 0
 TakesAtMut {F} {V} c f x = (y : MutBor V) → y.now ≡ x → c.pre f (y, tt)
 
--- f may be called at the value of the key that passes the test
+-- f may be called on the value of the key that passes the test
 abbrev pub TakesFound : {F K V R : Type 0} → Mut F (MutBor V × Unit {0}) (R × (MutBor V × Unit {0})) → (K → Bool) → List (K × V) → F → Type 0
 TakesFound {F} {K} {V} c test es f = (v : V) → lookup test es ≡ Some v → TakesAtMut c f v
 
--- a call of f at the value of the key that passes the test gave r, left f', and left another value there
+-- a call of f on the value of the key that passes the test returned r, left f', and left another value there
 pub record Changed {F K V R : Type 0} (c : Mut F (MutBor V × Unit {0}) (R × (MutBor V × Unit {0}))) (test : K → Bool) (es : List (K × V)) (f : F) (r : R) (f' : F) (es' : List (K × V)) : Type 0 where
   pub value : V
   pub left : V
@@ -22,7 +22,7 @@ pub record Changed {F K V R : Type 0} (c : Mut F (MutBor V × Unit {0}) (R × (M
   pub called : CalledAtMut c f value r f' left
   pub written : es' ≡ set_value test es left
 
--- a call of f at the values of the keys that pass two tests gave r, left f', and left other values there
+-- a call of f on the values of the keys that pass two tests returned r, left f', and left other values there
 pub record ChangedTwo {F K V R : Type 0} (c : Mut F (MutBor V × (MutBor V × Unit {0})) (R × (MutBor V × (MutBor V × Unit {0})))) (test test' : K → Bool) (es : List (K × V)) (f : F) (r : R) (f' : F) (es' : List (K × V)) : Type 0 where
   pub value : V
   pub left : V
@@ -33,12 +33,12 @@ pub record ChangedTwo {F K V R : Type 0} (c : Mut F (MutBor V × (MutBor V × Un
   pub called : CalledAtPairMut c f value other r f' left other_left
   pub written : es' ≡ set_value test' (set_value test es left) other_left
 
--- t' has the links of t, and is as balanced
+-- t' is balanced, and as high as t
 pub record KeepsLinks {K V A : Type 0} (t t' : Tree K V A) : Type 0 where
   pub balanced : IsAvl t'
   pub height : stored_height t' ≡ stored_height t
 
--- f was called at the value in the tree t, or nothing changed where no key passes the test
+-- f was called on the value in the tree t, or nothing changed because no key passes the test
 abbrev pub Changes : {F K V A R : Type 0} → Mut F (MutBor V × Unit {0}) (R × (MutBor V × Unit {0})) → (K → Bool) → Tree K V A → F → Option R → F → Tree K V A → Type 0
 Changes c test t f (Some r) f' t' = Changed c test (entries t) f r f' (entries t') × KeepsLinks t t'
 Changes c test t f None f' t' = (lookup test (entries t) ≡ None) × (f' ≡ f) × (t' ≡ t)

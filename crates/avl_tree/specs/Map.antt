@@ -1,4 +1,4 @@
--- What others see of a map.
+-- What callers see of a map.
 use Rattle.std.specs.Prelude.{ℕ, ◌≤◌, List, length, Option, refl}
 use Rattle.std.specs.Coded.{Coded, code_by, coded×, coded_ℕ}
 use Rattle.std.specs.Map.{lookup}

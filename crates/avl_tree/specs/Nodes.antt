@@ -11,7 +11,7 @@ use Rattle.avl_tree.specs.declared.tree.Tree.{Tree}
 use Rattle.avl_tree.specs.declared.tree.Tree.TheVariants.{Empty, Fork'}
 use Rattle.avl_tree.specs.declared.tree.Node.{Node}
 
--- es, behind the entry where there is one
+-- es, after the entry if there is one
 abbrev pub with_first : {E : Type 0} → Option E → List E → List E
 with_first None es = es
 with_first (Some e) es = e ∷ es
@@ -29,7 +29,7 @@ entries (Fork' h p k l r v) = entries l ++ (k, v) ∷ entries r
 abbrev pub entries_at : {K V A : Type 0} → Node K V A → List (K × V)
 entries_at n = entries n.left ++ entry n ∷ entries n.right
 
--- the entry of a node, where there is one
+-- the entry of a node, if there is one
 abbrev pub entry_in : {K V A : Type 0} → Option (Box (Node K V A) A) → Option (K × V)
 entry_in node = option_map (λ b. entry b.value) node
 
@@ -71,7 +71,7 @@ IsLevelAt h (Fork' _ p k l r v) =
     DifferByAtMost 1 (stored_height l) (stored_height r)
     × (h ≡ max (stored_height l) (stored_height r) + 1)
 
--- the height h of what two sides and a node between them settle to
+-- the height h of the balanced tree of two sides and a node between them
 abbrev pub IsHeightOver : ℕ → ℕ → ℕ → Type 0
 IsHeightOver l r h = (max l r ≤ h) × (h ≤ max l r + 1) × (DifferByAtMost 1 l r → h ≡ max l r + 1)
 
@@ -113,7 +113,7 @@ IsGrown h h' = (h ≤ h') × (h' ≤ h + 1)
 abbrev pub IsShrunk : ℕ → ℕ → Type 0
 IsShrunk h h' = (h' ≤ h) × (h ≤ h' + 1)
 
--- a change of the height is reported, and nothing else
+-- exactly a change of the height is reported
 abbrev pub IsTold : Bool → ℕ → ℕ → Type 0
 IsTold told h h' = (told ≡ false → h' ≡ h) × (told ≡ true → h' ≡ h → ⊥)
 
@@ -140,7 +140,7 @@ abbrev pub root_entry : {K V A : Type 0} → Tree K V A → Option (K × V)
 root_entry Empty = None
 root_entry (Fork' h p k l r v) = Some (k, v)
 
--- a tree t and a value v after the value at the key that passes the test was exchanged for v, where there is one
+-- a tree t and a value v after the value at the key that passes the test was exchanged for v, if there is one
 pub record Exchanged {K V A : Type 0} (test : K → Bool) (t : Tree K V A) (v : V) (t' : Tree K V A) (v' : V) : Type 0 where
   pub found : lookup test (entries t) ≡ Some v'
   pub balanced : IsAvl t'
@@ -161,7 +161,7 @@ abbrev pub nodes_in_chain : {K V A : Type 0} → Tree K V A → ℕ
 nodes_in_chain Empty = 0
 nodes_in_chain (Fork' h p k l r v) = nodes_in_chain l + 1
 
--- what the fields of a map keep: a balanced tree whose keys rise, its size, and a count of all nodes that fits
+-- what holds of the fields of a map: a balanced tree whose keys rise, its size, and a count of all nodes that fits
 pub record IsWholeTree {K V A : Type 0} (cmp : K → K → Ordering) (root : Tree K V A) (len spare : ℕ) : Type 0 where
   pub balanced : IsAvl root
   pub sorted : IsOrdered cmp (entries root)

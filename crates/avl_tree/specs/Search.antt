@@ -1,4 +1,4 @@
--- A binary search tree as its shape alone, and how far a search in it goes.
+-- The shape of a binary search tree, and how far a search in it goes.
 use base.Stored.{Gv, gnil, gnum, gcons, Coded}
 use Rattle.std.proofs.Common.{subst, sym, ap}
 use Rattle.std.specs.Prelude.{◌≡◌, refl, ℕ, zero, suc, ◌+◌, List, [], ◌∷◌, ◌++◌}
@@ -15,7 +15,7 @@ abbrev pub entries_of : {E : Type 0} → Search E → List E
 entries_of leaf = []
 entries_of (fork l e r) = entries_of l ++ e ∷ entries_of r
 
--- the number of nodes met on the way from the root to the key that compares equal, or to where it would be
+-- the number of nodes visited on the way from the root to the key that compares equal, or to where it would be
 abbrev pub path_length : {K V : Type 0} → (K → Ordering) → Search (K × V) → ℕ
 path_length compare leaf = 0
 path_length compare (fork l e r) =

@@ -1,4 +1,4 @@
--- what private contracts alone cite
+-- what only private contracts use
 pub mod Freeing
 pub mod Pairs
 pub mod Sides

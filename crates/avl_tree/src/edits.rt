@@ -22,7 +22,7 @@ fn exchange_value<K, V, A: Allocator>(node: &mut Node<K, V, A>, value: &mut V)
     mem::swap(&mut node.value, value);
 }
 
-/// Exchanges the value at the key that compares equal, and says whether there is one.
+/// Exchanges the value at the key that compares equal, and returns whether there is one.
 pub fn exchange<K: Ord, V, A: Allocator>(tree: &mut Tree<K, V, A>, key: &K, value: &mut V) -> bool
     requires searched { IsSearchTree K.cmp tree.old }
     ensures { Exchanges (is_at (K.cmp key.now)) tree.old value.old result tree.new value.new }
@@ -40,7 +40,7 @@ pub fn exchange<K: Ord, V, A: Allocator>(tree: &mut Tree<K, V, A>, key: &K, valu
     }
 }
 
-/// Balances the root after one of its sides grew or shrank, and says whether the tree is of another height than before.
+/// Balances the root after one of its sides grew or shrank, and returns whether the tree has another height than before.
 fn regrow<K, V, A: Allocator>(tree: &mut Tree<K, V, A>) -> bool
     requires { IsNearlyAvl tree.old }
     ensures settled { SettlesTo tree.old tree.new }
@@ -51,8 +51,8 @@ fn regrow<K, V, A: Allocator>(tree: &mut Tree<K, V, A>) -> bool
     height(tree) != before
 }
 
-/// Puts a node at its place, where no key compares equal, and says whether the tree is higher than before.
-/// Above a side that is not, nothing changes.
+/// Puts a node at its place, if no key compares equal, and returns whether the tree is higher than before. If a side did not become higher, nothing
+/// changes above it.
 pub fn insert<K: Ord, V, A: Allocator>(
     tree: &mut Tree<K, V, A>,
     key: &K,
@@ -86,7 +86,7 @@ pub fn insert<K: Ord, V, A: Allocator>(
     regrow(tree)
 }
 
-/// Takes the root off, where it has no left side.
+/// Removes the root, if it has no left side.
 fn take_top<K, V, A: Allocator>(tree: &mut Tree<K, V, A>) -> Option<Box<Node<K, V, A>, A>>
     requires balanced { IsAvl tree.old }
     requires no_left { HasNoLeft tree.old }
@@ -106,8 +106,7 @@ fn take_top<K, V, A: Allocator>(tree: &mut Tree<K, V, A>) -> Option<Box<Node<K, 
     }
 }
 
-/// Takes the node of the least key off, and says whether the tree is lower than before. Above a side that is not, nothing
-/// changes.
+/// Removes the node of the least key, and reports whether the tree is lower than before. If a side did not become lower, nothing changes above it.
 pub fn take_first<K, V, A: Allocator>(
     tree: &mut Tree<K, V, A>,
     lower: &mut bool,
@@ -139,7 +138,7 @@ pub fn take_first<K, V, A: Allocator>(
     }
 }
 
-/// Takes the root off. The node of the next key comes into its place.
+/// Removes the root. The node of the next key takes its place.
 fn take_root<K, V, A: Allocator>(tree: &mut Tree<K, V, A>) -> Option<Box<Node<K, V, A>, A>>
     requires balanced { IsAvl tree.old }
     requires height_fits { stored_height tree.old < 200 }
@@ -170,8 +169,8 @@ fn take_root<K, V, A: Allocator>(tree: &mut Tree<K, V, A>) -> Option<Box<Node<K,
     }
 }
 
-/// Takes the node off whose key compares equal, and says whether the tree is lower than before. Above a side that is not,
-/// nothing changes.
+/// Removes the node whose key compares equal, and reports whether the tree is lower than before. If a side did not become lower, nothing changes
+/// above it.
 pub fn remove<K: Ord, V, A: Allocator>(
     tree: &mut Tree<K, V, A>,
     key: &K,

@@ -10,10 +10,10 @@ use crate::walks::{compare, find};
 use std::alloc::Allocator;
 use std::cmp::Ordering;
 
-/// The side of the root that a search for the key goes on in, or the tree itself where the search ends.
+/// The side of the root in which a search for the key goes on, or the tree itself if the search ends.
 ///
-/// An address taken from a list in place of a jump to one of three: which side comes next cannot be predicted, and a jump that was
-/// mispredicted would hold up all eight searches. A choice between the addresses becomes a jump where a link has 24 bytes.
+/// The address is taken from a list instead of by a branch to one of three: which side comes next cannot be predicted, and a mispredicted branch
+/// would hold up all eight searches. A choice between the addresses becomes a branch if a link has 24 bytes.
 fn step<'a, K: Ord, V, A: Allocator>(tree: &'a Tree<K, V, A>, key: &K) -> &'a Tree<K, V, A>
     requires searched { IsSearchTree K.cmp tree.now }
     ensures { LeadsTo K.cmp key.now tree.now result.now }
@@ -28,7 +28,7 @@ fn step<'a, K: Ord, V, A: Allocator>(tree: &'a Tree<K, V, A>, key: &K) -> &'a Tr
     ways[2 * here + right]
 }
 
-/// The values at eight keys, each as `find` gives it.
+/// The values at eight keys, each as `find` returns it.
 ///
 /// The searches are interleaved, a level of each, so that their waits for memory overlap.
 pub fn find_eight<'a, K: Ord, V, A: Allocator>(

@@ -21,7 +21,7 @@ fn free_node<K: Drop, V: Drop, A: Allocator>(
     (left, right)
 }
 
-/// Frees the root, where there is one, and returns its sides.
+/// Frees the root, if there is one, and returns its sides.
 fn free_root<K: Drop, V: Drop, A: Allocator>(tree: Tree<K, V, A>) -> (Tree<K, V, A>, Tree<K, V, A>)
     ensures { node_count result.0 + node_count result.1 ≤ node_count tree }
 {

@@ -26,9 +26,8 @@ use std::mem;
 
 /// A map with its keys in order, in a balanced tree of nodes in boxes of the caller's allocator.
 ///
-/// A contract sees the pairs by rising key (`entries`), the number of spare nodes, and in `probe` alone the shape
-/// of the tree. Only `reserve` takes memory. An insert uses a spare node and never fails, and a removal makes the
-/// node of its key spare.
+/// A contract sees the pairs by rising key (`entries`), the number of spare nodes, and only in `probe` the shape of the tree. Only `reserve`
+/// allocates memory. An insert uses a spare node and never fails, and a removal makes the node of its key spare.
 pub struct AvlMap<K: Ord + Copy, V, A: Allocator + Clone> {
     root: Tree<K, V, A>,
     len: usize,
@@ -68,8 +67,8 @@ impl<K: Ord + Copy, V: Drop, A: Allocator + Clone> Drop for AvlMap<K, V, A> {
     }
 }
 
-// A map owns no more than its fields do. An impl by hand is what a struct that holds a map finds its own `Send` by: of
-// nodes that lead to each other through boxes, and of what holds them, none is derived that another crate could cite.
+// A map owns no more than its fields do. These impls are written by hand so that a struct that holds a map gets its own `Send`. No impl that another
+// crate could use is derived for nodes that contain each other through boxes, or for what holds them.
 unsafe impl<K: Ord + Copy + Send, V: Send, A: Allocator + Clone + Send> Send for AvlMap<K, V, A> {}
 
 unsafe impl<K: Ord + Copy + Sync, V: Sync, A: Allocator + Clone + Sync> Sync for AvlMap<K, V, A> {}
@@ -85,7 +84,7 @@ fn fill<K: Copy, V: Drop, A: Allocator>(node: &mut Node<K, V, A>, key: K, value:
     node.value = value;
 }
 
-/// Counts out a node that was taken off the tree, makes it spare, and answers its pair.
+/// Counts out a node that was removed from the tree, makes it spare, and returns its pair.
 fn retire<K: Copy, V: Default, A: Allocator>(
     mut node: Box<Node<K, V, A>, A>,
     len: &mut usize,
@@ -149,8 +148,8 @@ impl<K: Ord + Copy, V, A: Allocator + Clone> AvlMap<K, V, A> {
         walks::find(&self.root, key)
     }
 
-    /// The values of eight keys, each as `get` gives it. The eight searches are interleaved, a level of each, so that
-    /// their waits for memory overlap.
+    /// The values of eight keys, each as `get` returns it. The eight searches are interleaved, a level of each, so that their waits for memory
+    /// overlap.
     pub fn get_many(&self, keys: &[K; 8]) -> [Option<&V>; 8]
         ensures { map option_copied result ≡ map (get K.cmp self.now) keys.now }
     {
@@ -165,8 +164,7 @@ impl<K: Ord + Copy, V, A: Allocator + Clone> AvlMap<K, V, A> {
         walks::first(&self.root)
     }
 
-    /// The value of the key, as `get` gives it, and the number of nodes met on the way from the root to the key or
-    /// to where it would be.
+    /// The value of the key, as `get` returns it, and the number of nodes visited on the way from the root to the key or to where it would be.
     pub fn probe(&self, key: &K) -> (Option<&V>, u32)
         ensures value { option_copied result.0 ≡ get K.cmp self.now key.now }
         ensures visits { result.1 ≡ path_length (K.cmp key.now) self.now.tree }
@@ -175,10 +173,9 @@ impl<K: Ord + Copy, V, A: Allocator + Clone> AvlMap<K, V, A> {
         walks::count_visits(&self.root, key)
     }
 
-    /// Calls the closure with each pair from `low` to `high`, both among them, by rising key. Where `high` is below
-    /// `low` there is none.
+    /// Calls the closure with each pair from `low` to `high`, both included, by rising key. If `high` is below `low` there is no pair.
     ///
-    /// The closure is lent, so that the caller has the state that the calls left it in.
+    /// The closure is borrowed, so that the caller has the state that the calls left it in.
     pub fn for_range<F: FnMut(&K, &V)>(&self, low: &K, high: &K, f: &mut F)
         requires { F.IsAlwaysCallable f.old }
         ensures callable { F.IsAlwaysCallable f.new }
@@ -188,9 +185,9 @@ impl<K: Ord + Copy, V, A: Allocator + Clone> AvlMap<K, V, A> {
         range::visit(&self.root, low, high, f);
     }
 
-    /// Calls the closure with each of the first `n` pairs, or with all where there are fewer, by rising key.
+    /// Calls the closure with each of the first `n` pairs, or with all if there are fewer, by rising key.
     ///
-    /// The closure is lent, so that the caller has the state that the calls left it in.
+    /// The closure is borrowed, so that the caller has the state that the calls left it in.
     pub fn for_first<F: FnMut(&K, &V)>(&self, n: usize, f: &mut F)
         requires { F.IsAlwaysCallable f.old }
         ensures callable { F.IsAlwaysCallable f.new }
@@ -200,8 +197,7 @@ impl<K: Ord + Copy, V, A: Allocator + Clone> AvlMap<K, V, A> {
         let _ = range::visit_first(&self.root, n, f);
     }
 
-    /// Gives the key another value, and answers the old one. Where the key is absent it answers the value that was
-    /// passed in, and changes nothing.
+    /// Gives the key another value, and returns the old one. If the key is absent it returns the value that was passed in, and changes nothing.
     pub fn set(&mut self, key: K, value: V) -> Result<V, V>
         ensures spare { self.new.spare ≡ self.old.spare }
         ensures old { IfOk result (λ v. get K.cmp self.old key ≡ Some v) }
@@ -218,8 +214,8 @@ impl<K: Ord + Copy, V, A: Allocator + Clone> AvlMap<K, V, A> {
         }
     }
 
-    /// Exchanges the value of the key for the one in the given place, which has the old one then, and says that the key is
-    /// there. Where it is absent, nothing changes.
+    /// Exchanges the value of the key for the one in the given place, which then has the old one, and returns whether the key exists. If it is
+    /// absent, nothing changes.
     pub fn exchange(&mut self, key: &K, value: &mut V) -> bool
         ensures spare { self.new.spare ≡ self.old.spare }
         ensures old { result ≡ true → get K.cmp self.old key.now ≡ Some value.new }
@@ -231,9 +227,8 @@ impl<K: Ord + Copy, V, A: Allocator + Clone> AvlMap<K, V, A> {
         edits::exchange(&mut self.root, key, value)
     }
 
-    /// Calls the closure at the value of the key, which it may change in place, and answers what the closure
-    /// answered. It is called once at most, and at that value alone. Where the key is absent there is no call, and nothing
-    /// changes.
+    /// Calls the closure on the value of the key, which it may change in place, and returns what the closure returned. The closure is called at most
+    /// once, and only on that value. If the key is absent there is no call, and nothing changes.
     pub fn update<R, F: FnMut(&mut V) -> R>(&mut self, key: &K, f: &mut F) -> Option<R>
         requires { TakesFound F.FnMut (is_at (K.cmp key.now)) (entries self.old) f.old }
         ensures callable { F.IsAlwaysCallable f.old → F.IsAlwaysCallable f.new }
@@ -248,8 +243,8 @@ impl<K: Ord + Copy, V, A: Allocator + Clone> AvlMap<K, V, A> {
         updates::update(&mut self.root, key, f)
     }
 
-    /// Calls the closure at the values of two keys, which it may change in place, and answers what the closure
-    /// answered. Where one of the keys is absent there is no call, and nothing changes.
+    /// Calls the closure on the values of two keys, which it may change in place, and returns what the closure returned. If one of the keys is absent
+    /// there is no call, and nothing changes.
     pub fn update_two<R, F: FnMut(&mut V, &mut V) -> R>(
         &mut self,
         a: &K,
@@ -278,7 +273,7 @@ impl<K: Ord + Copy, V, A: Allocator + Clone> AvlMap<K, V, A> {
 }
 
 impl<K: Ord + Copy + Default, V: Default + Drop, A: Allocator + Clone> AvlMap<K, V, A> {
-    /// Takes the key out, and answers its value. Its node becomes spare.
+    /// Removes the key, and returns its value. Its node becomes spare.
     pub fn remove(&mut self, key: &K) -> Option<V>
         ensures value { result ≡ get K.cmp self.old key.now }
         ensures entries { entries self.new ≡ remove_entry (is_at (K.cmp key.now)) (entries self.old) }
@@ -290,7 +285,7 @@ impl<K: Ord + Copy + Default, V: Default + Drop, A: Allocator + Clone> AvlMap<K,
         Some(value)
     }
 
-    /// Takes the pair of the least key out, and answers it. Its node becomes spare.
+    /// Removes the pair of the least key, and returns it. Its node becomes spare.
     pub fn pop_first(&mut self) -> Option<(K, V)>
         ensures pair { result ≡ slice_get (entries self.old) 0 }
         ensures rest { entries self.old ≡ with_first result (entries self.new) }
@@ -302,8 +297,8 @@ impl<K: Ord + Copy + Default, V: Default + Drop, A: Allocator + Clone> AvlMap<K,
         Some(retire(node, &mut self.len, &mut self.spare))
     }
 
-    /// Makes spare nodes until there are `n`: the one call that takes memory. Where memory is refused, the pairs and
-    /// the tree are as they were, and the map keeps the nodes that were made.
+    /// Makes spare nodes until there are `n`: the only call that allocates memory. If an allocation fails, the pairs and the tree are as they were,
+    /// and the map keeps the nodes that were made.
     ///
     /// More nodes than a `usize` counts are refused as well.
     pub fn reserve(&mut self, n: usize) -> Result<(), AllocError>

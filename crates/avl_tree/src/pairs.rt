@@ -10,7 +10,7 @@ use std::alloc::Allocator;
 use std::cmp::Ordering;
 use std::mem;
 
-/// Calls the closure at a held value and another, in this order or the other one.
+/// Calls the closure on a held value and another, in this order or the other one.
 fn call_both<V, R, F: FnMut(&mut V, &mut V) -> R>(
     held: &mut V,
     other: &mut V,
@@ -28,7 +28,7 @@ fn call_both<V, R, F: FnMut(&mut V, &mut V) -> R>(
     }
 }
 
-/// Puts the closure's answer into its place.
+/// Puts the closure's result into its place.
 pub(crate) fn answer<R>(out: &mut Option<R>, given: R)
     requires { out.old ≡ None }
     ensures { out.new ≡ Some given }
@@ -39,7 +39,7 @@ pub(crate) fn answer<R>(out: &mut Option<R>, given: R)
     }
 }
 
-/// Calls the closure at a held value and another, and puts its answer into its place.
+/// Calls the closure on a held value and another, and puts its result into its place.
 fn answer_both<V, R, F: FnMut(&mut V, &mut V) -> R>(
     held: &mut V,
     other: &mut V,
@@ -130,9 +130,8 @@ fn beside_right<K: Ord, V, A: Allocator, R, F: FnMut(&mut V, &mut V) -> R>(
 
 /// Looks for one key in each of two trees, a level of either, interleaved, so that their waits for memory overlap.
 ///
-/// The end is tested first, so that which side comes next is a choice between two addresses. It is none by a jump, since a level calls
-/// the next one through [`apart_below`]: in a function that calls itself, which is compiled to a loop, the choice would be a jump that
-/// cannot be predicted.
+/// The end is tested first, so that which side comes next is a choice between two addresses. It is not a branch, because a level calls the next one
+/// through [`apart_below`]: in a function that calls itself, which is compiled to a loop, the choice would be a branch that cannot be predicted.
 #[cycle(apart)]
 #[inline(never)]
 fn apart<K: Ord, V, A: Allocator, R, F: FnMut(&mut V, &mut V) -> R>(
@@ -163,7 +162,7 @@ fn apart<K: Ord, V, A: Allocator, R, F: FnMut(&mut V, &mut V) -> R>(
     apart_below(other, side(node, order), other_key, key, !in_order, f, out);
 }
 
-/// Goes on with both searches: `next` is the tree whose turn it is, `last` the one that is a level further down since.
+/// Goes on with both searches: `next` is the tree whose turn it is, `last` the one that is now a level further down.
 #[cycle(apart)]
 #[inline(never)]
 fn apart_below<K: Ord, V, A: Allocator, R, F: FnMut(&mut V, &mut V) -> R>(
@@ -207,7 +206,7 @@ fn apart_at<K: Ord, V, A: Allocator, R, F: FnMut(&mut V, &mut V) -> R>(
     apart(&mut node.left, &mut node.right, low, high, in_order, f, out)
 }
 
-/// Looks for two keys from the root on, and calls the closure at their values.
+/// Looks for two keys from the root on, and calls the closure on their values.
 fn seek_both<K: Ord, V, A: Allocator, R, F: FnMut(&mut V, &mut V) -> R>(
     tree: &mut Tree<K, V, A>,
     low: &K,
@@ -238,9 +237,9 @@ fn seek_both<K: Ord, V, A: Allocator, R, F: FnMut(&mut V, &mut V) -> R>(
     }
 }
 
-/// Calls the closure at the values of two keys, `low`'s first where they are in order, if both are there.
+/// Calls the closure on the values of two keys, `low`'s first if they are in order, if both exist.
 ///
-/// What the closure answers may be large, so the searches hand a place for it down, and nothing up.
+/// The closure's result may be large, so the searches pass a place for it down, and return nothing.
 pub fn update_two<K: Ord, V, A: Allocator, R, F: FnMut(&mut V, &mut V) -> R>(
     tree: &mut Tree<K, V, A>,
     low: &K,

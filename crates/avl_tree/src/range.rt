@@ -57,7 +57,7 @@ pub fn visit<K: Ord, V, A: Allocator, F: FnMut(&K, &V)>(
     }
 }
 
-/// Calls the closure with each of the first `n` entries, by rising key, and answers how many of the `n` are left.
+/// Calls the closure with each of the first `n` entries, by rising key, and returns how many of the `n` are left.
 pub fn visit_first<K, V, A: Allocator, F: FnMut(&K, &V)>(
     tree: &Tree<K, V, A>,
     n: usize,

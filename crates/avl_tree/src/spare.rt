@@ -6,7 +6,7 @@ use crate::tree::{Node, Tree, put, take};
 use std::alloc::{AllocError, Allocator};
 use std::marker::Model;
 
-/// Nodes out of use, each linked to the next by its left side.
+/// Nodes that are not in use, each linked to the next by its left side.
 pub struct SpareNodes<K, V, A: Allocator> {
     first: Tree<K, V, A>,
     count: usize,
@@ -49,7 +49,7 @@ fn free<K: Drop, V: Drop, A: Allocator>(mut chain: Tree<K, V, A>) {
     }
 }
 
-/// Makes a node. What is in it is written over before it is read.
+/// Makes a node. Its content is overwritten before it is read.
 fn make<K: Default + Drop, V: Default + Drop, A: Allocator>(
     alloc: A,
 ) -> Result<Box<Node<K, V, A>, A>, AllocError>
@@ -81,7 +81,7 @@ impl<K, V, A: Allocator> SpareNodes<K, V, A> {
         }
     }
 
-    /// How many nodes there are.
+    /// The number of nodes.
     pub fn count(&self) -> usize
         ensures { result ≡ self.now }
     {
@@ -99,7 +99,7 @@ impl<K, V, A: Allocator> SpareNodes<K, V, A> {
         self.count += 1;
     }
 
-    /// Takes a node.
+    /// Removes a node, and returns it.
     pub fn pop(&mut self) -> Box<Node<K, V, A>, A>
         requires { 0 < self.old }
         ensures one_less { self.new + 1 ≡ self.old }

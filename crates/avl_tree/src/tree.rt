@@ -21,8 +21,8 @@ pub enum Tree<K, V, A: Allocator> {
 
 /// A node.
 ///
-/// A search reads the key and one of the sides, so they come first, and the key before both: where a link holds a handle of its
-/// allocator, both sides and the key take more than the rest of a cache line. What a spare node holds is never read.
+/// A search reads the key and one of the sides, so they come first, and the key before both: if a link holds a handle of its allocator, both sides
+/// and the key take more than the rest of a cache line. The fields of a spare node are never read.
 #[cycle(avl)]
 #[derive(Drop)]
 pub struct Node<K, V, A: Allocator> {
@@ -32,7 +32,7 @@ pub struct Node<K, V, A: Allocator> {
     pub value: V,
 }
 
-/// The height that the link keeps.
+/// The height that the link stores.
 pub fn height<K, V, A: Allocator>(tree: &Tree<K, V, A>) -> u8
     ensures { result ≡ stored_height tree.now }
 {
@@ -42,7 +42,7 @@ pub fn height<K, V, A: Allocator>(tree: &Tree<K, V, A>) -> u8
     }
 }
 
-/// The side of a node that a search goes on in, where the key that it looks for compares so to the node's.
+/// The side of a node in which a search goes on, if the key that it looks for compares in this order to the node's.
 pub fn side<K, V, A: Allocator>(node: &mut Node<K, V, A>, order: Ordering) -> &mut Tree<K, V, A>
     ensures* writes_back { sem 𝓛 (lends_side K.row V.row A.row A.Allocator order node.entry result) }
     ensures value { result.now ≡ side_of order node.old }
@@ -72,7 +72,7 @@ pub fn put<K, V, A: Allocator>(place: &mut Tree<K, V, A>, tree: Tree<K, V, A>)
     }
 }
 
-/// Parts a node from its sides.
+/// Separates a node from its sides.
 pub fn split<K, V, A: Allocator>(
     mut node: Box<Node<K, V, A>, A>,
 ) -> (Tree<K, V, A>, Box<Node<K, V, A>, A>, Tree<K, V, A>)
@@ -100,8 +100,8 @@ fn over<K, V, A: Allocator>(node: Box<Node<K, V, A>, A>) -> Tree<K, V, A>
     Tree::Fork(height, node)
 }
 
-/// The tree of a node whose left side is two levels higher. That side's root comes over the node; or, where it leans to the
-/// right, the root of its right side comes over both.
+/// The tree of a node whose left side is two levels higher. That side's root comes over the node; or, if it leans to the right, the root of its right
+/// side comes over both.
 fn lean_left<K, V, A: Allocator>(mut node: Box<Node<K, V, A>, A>) -> Tree<K, V, A>
     requires left { IsAvl node.value.left }
     requires right { IsAvl node.value.right }
@@ -178,7 +178,7 @@ pub fn balance<K, V, A: Allocator>(node: Box<Node<K, V, A>, A>) -> Tree<K, V, A>
     }
 }
 
-/// The height of the root over its sides, where they differ by at most one level.
+/// The height of the root over its sides, if they differ by at most one level.
 fn level_height<K, V, A: Allocator>(tree: &Tree<K, V, A>) -> Option<u8>
     requires { IsNearlyAvl tree.now }
     ensures { IfSome result (λ h. IsLevelAt h tree.now) }
@@ -204,9 +204,9 @@ fn set_height<K, V, A: Allocator>(tree: &mut Tree<K, V, A>, height: u8)
     }
 }
 
-/// Rotates the root, where one of its sides has become two levels higher than the other.
+/// Rotates the root, if one of its sides has become two levels higher than the other.
 ///
-/// It is a function of its own, so that a level of an insert or a removal saves few registers where no rotation is due.
+/// It is a function of its own, so that a level of an insert or a removal saves few registers if no rotation is due.
 #[inline(never)]
 fn rotate<K, V, A: Allocator>(tree: &mut Tree<K, V, A>)
     requires { IsNearlyAvl tree.old }
@@ -218,7 +218,7 @@ fn rotate<K, V, A: Allocator>(tree: &mut Tree<K, V, A>)
     }
 }
 
-/// Balances the root, where one of its sides has become one level higher or lower.
+/// Balances the root, if one of its sides has become one level higher or lower.
 pub fn settle<K, V, A: Allocator>(tree: &mut Tree<K, V, A>)
     requires { IsNearlyAvl tree.old }
     ensures { SettlesTo tree.old tree.new }

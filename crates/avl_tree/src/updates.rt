@@ -11,7 +11,7 @@ use crate::walks::compare;
 use std::alloc::Allocator;
 use std::cmp::Ordering;
 
-/// Calls the closure at the value of a node.
+/// Calls the closure on the value of a node.
 fn update_value<K, V, A: Allocator, R, F: FnMut(&mut V) -> R>(
     node: &mut Node<K, V, A>,
     f: &mut F,
@@ -25,7 +25,7 @@ fn update_value<K, V, A: Allocator, R, F: FnMut(&mut V) -> R>(
     f(&mut node.value)
 }
 
-/// Calls the closure at the value of a node, and puts its answer into its place.
+/// Calls the closure on the value of a node, and puts its result into its place.
 fn answer_value<K, V, A: Allocator, R, F: FnMut(&mut V) -> R>(
     node: &mut Node<K, V, A>,
     f: &mut F,
@@ -42,7 +42,7 @@ fn answer_value<K, V, A: Allocator, R, F: FnMut(&mut V) -> R>(
     answer(out, update_value(node, f));
 }
 
-/// Calls the closure at the value of the key that compares equal, where there is one, and puts its answer into its place.
+/// Calls the closure on the value of the key that compares equal, if there is one, and puts its result into its place.
 fn update_below<K: Ord, V, A: Allocator, R, F: FnMut(&mut V) -> R>(
     tree: &mut Tree<K, V, A>,
     key: &K,
@@ -64,9 +64,9 @@ fn update_below<K: Ord, V, A: Allocator, R, F: FnMut(&mut V) -> R>(
     }
 }
 
-/// Calls the closure at the value of the key that compares equal, where there is one.
+/// Calls the closure on the value of the key that compares equal, if there is one.
 ///
-/// The search hands a place for the closure's answer down, and nothing up, so it is compiled to a loop.
+/// The search passes a place for the closure's result down, and returns nothing, so it is compiled to a loop.
 pub fn update<K: Ord, V, A: Allocator, R, F: FnMut(&mut V) -> R>(
     tree: &mut Tree<K, V, A>,
     key: &K,

@@ -70,7 +70,7 @@ pub fn first<K, V, A: Allocator>(tree: &Tree<K, V, A>) -> Option<(&K, &V)>
     }
 }
 
-/// The value at the key that compares equal, and how many nodes the search met.
+/// The value at the key that compares equal, and the number of nodes that the search visited.
 pub fn count_visits<'a, K: Ord, V, A: Allocator>(
     tree: &'a Tree<K, V, A>,
     key: &K,

@@ -1,4 +1,4 @@
--- What a follower answers is what a server answers to the script that the entries spell.
+-- A follower writes the replies that a server gives to the script that the entries encode.
 use Rattle.std.proofs.Common.{◌≡◌, ℕ, List, [], ◌∷◌, ◌++◌, map, fold, refl, sym, ap, ◌∙◌}
 use Rattle.std.proofs.lemmas.List.{map-append}
 use Rattle.tb_records.specs.declared.limits.Profile.{Profile}
@@ -23,7 +23,7 @@ module _ (profile : Profile) (clients_max : ℕ) where
       let m = script.grown (after profile clients_max) h p in
       ap (λ (l : List Answer). answer_to (after profile clients_max m) p.1 ∷ l) (script_parts m ps qs)
 
-  -- one pair leads from the state behind a history to that behind the grown one
+  -- one pair leads from the state after a history to that after the grown one
   one_on : (h : List Entry) (F : Following) (p : Pair) → F.state ≡ after profile clients_max h → (with_logged_pair F p).state ≡ after profile clients_max (script.grown (after profile clients_max) h p)
   one_on h F p is = ap (λ (S : State). after_pair S p) is ∙ sym (after_with_pair profile clients_max h p)
 

@@ -1,4 +1,4 @@
--- What is read in parts, and an entry behind its numbers.
+-- What is read in parts, and an entry after its numbers.
 use Rattle.std.proofs.Common.{◌≡◌, ◌⊎◌, inl, inr, ℕ, ◌+◌, ◌≤◌, ◌<◌, List, [], ◌∷◌, ◌++◌, length, length-append, length-take, take, slice_index, Option, Some, None, Result, Ok, Err, MatchOption, refl, sym, ap, subst, ◌∙◌, arith, take_all, append_assoc}
 use Rattle.std.specs.Io.KnownBytes.{Consumes}
 use Rattle.std.proofs.KnownBytes.{Consumes-trans}
@@ -39,12 +39,12 @@ takes_then xs ys a b c one two = record {
   counted = two.counted ∙ one.counted;
 }
 
--- a fault behind what was read
+-- a fault after what was read
 pub breaks_since : (fault : LogFault) (a b c : Input) → b.failed ≡ a.failed → ReaderFails fault b c → ReaderFails fault a c
 breaks_since Device a b c counted breaks = record { rose = breaks.rose ∙ ap risen counted; last = breaks.last }
 breaks_since fault a b c counted breaks = absurd breaks
 
--- the end of the input behind what was read
+-- the end of the input after what was read
 ends_since : (n m : ℕ) (xs : List ℕ) (fault : LogFault) (a b c : Input) → ReadsOnly xs a b → length xs + n ≤ m → EndsWithin n fault b c → EndsWithin m fault a c
 ends_since n m xs fault a b c one le ends = record {
   bytes = xs ++ ends.bytes;
@@ -57,7 +57,7 @@ ends_since n m xs fault a b c one le ends = record {
   };
 }
 
--- bytes that were missed behind others are missed of both
+-- bytes that were missed after others are missed from both
 missed_since : (n m : ℕ) (xs : List ℕ) (fault : LogFault) (a b c : Input) → ReadsOnly xs a b → length xs + n ≤ m → Misses n fault b c → Misses m fault a c
 missed_since n m xs fault a b c one le (inl breaks) = inl (breaks_since fault a b c one.counted breaks)
 missed_since n m xs fault a b c one le (inr ends) = inr (ends_since n m xs fault a b c one le ends)

@@ -1,4 +1,4 @@
--- What is read of an entry behind its kind, and why it is refused.
+-- What is read of an entry after its kind, and why it is refused.
 use Rattle.std.specs.Prelude.{ℕ, ◌≡◌, ◌≢◌, ◌⊎◌, ◌+◌, ◌≤◌, ◌<◌, nat_le, nat_lt, List, [], ◌++◌, length, Option, Some, None, if◌then◌else◌, Err, Vec}
 use Rattle.std.specs.Io.KnownBytes.{Consumes, IsAtEnd}
 use Rattle.std.specs.declared.alloc.Global.{Global}
@@ -17,14 +17,14 @@ abbrev pub ReaderFails : LogFault → Input → Input → Type 0
 ReaderFails Device before after = Fails before after
 ReaderFails fault before after = ⊥
 
--- the input ended within what was asked for: all that was left are these bytes
+-- the input ended within the bytes that were requested: only these bytes were left
 pub record IsCutShort (fault : LogFault) (bytes : List ℕ) (before after : Input) : Type 0 where
   pub read : Consumes before.left after.left bytes
   pub end : IsAtEnd after.left
   pub fault_is : fault ≡ Short
   pub counted : after.failed ≡ before.failed
 
--- the numbers of the entry behind the last position, and fewer bytes of its content than they say
+-- the numbers of the entry after the last position, and fewer bytes of its content than they say
 pub record HasPart (last : ℕ) (bytes : List ℕ) : Type 0 where
   pub long : ℕ
   pub sum : ℕ
@@ -39,7 +39,7 @@ pub record IsShort (fault : LogFault) (last : ℕ) (before after : Input) : Type
   pub cut : IsCutShort fault bytes before after
   pub part : (length bytes < 16) ⊎ HasPart last bytes
 
--- what is wrong with an entry's numbers behind the last position; the first test that holds decides
+-- what is wrong with the numbers of an entry after the last position; the first test that holds decides
 abbrev pub head_fault : ℕ → ℕ → ℕ → Option LogFault
 head_fault last position long =
     if nat_le position last then Some (Repeat position)
@@ -53,11 +53,11 @@ pub record ReadsEntry (content : List ℕ) (last : ℕ) (before after : Input) :
   pub bytes : Consumes before.left after.left (summed (last + 1) (checksum_of (last + 1) content) content)
   pub counted : after.failed ≡ before.failed
 
--- so was one that is given with its position
+-- the same for an entry that is returned with its position
 abbrev pub GivesEntry : ℕ → Input → Input → ℕ × Vec ℕ Global → Type 0
 GivesEntry last before after entry = ReadsEntry entry.1.items last before after
 
--- its numbers are wrong: no byte behind them was read
+-- its numbers are wrong: no byte after them was read
 pub record IsWrong (fault : LogFault) (last : ℕ) (before after : Input) : Type 0 where
   pub position : ℕ
   pub long : ℕ
@@ -66,7 +66,7 @@ pub record IsWrong (fault : LogFault) (last : ℕ) (before after : Input) : Type
   pub fault_is : head_fault last position long ≡ Some fault
   pub counted : after.failed ≡ before.failed
 
--- there was no memory for its content: no byte behind its numbers was read
+-- there was no memory for its content: no byte after its numbers was read
 pub record LacksEntryMemory (fault : LogFault) (last : ℕ) (before after : Input) : Type 0 where
   pub long : ℕ
   pub sum : ℕ
@@ -75,7 +75,7 @@ pub record LacksEntryMemory (fault : LogFault) (last : ℕ) (before after : Inpu
   pub fault_is : fault ≡ NoMemory
   pub counted : after.failed ≡ before.failed
 
--- its checksum is that of another
+-- its checksum is wrong
 pub record IsDamaged (fault : LogFault) (last : ℕ) (before after : Input) : Type 0 where
   pub content : List ℕ
   pub sum : ℕ
@@ -84,8 +84,8 @@ pub record IsDamaged (fault : LogFault) (last : ℕ) (before after : Input) : Ty
   pub fault_is : fault ≡ Damaged (last + 1)
   pub counted : after.failed ≡ before.failed
 
--- the fault of what is no pair, in the entry at a position: what is wrong with its bytes, or that there is no memory. The bytes
--- are in memory when they are tested, so that no reader fails
+-- the fault of bytes that are not a pair, in the entry at a position: what is wrong with them, or that there is no memory. The bytes are in memory
+-- when they are checked, so that no reader fails
 abbrev pub pair_fault : ℕ → FrameFault → LogFault
 pair_fault position frame.NoMemory = NoMemory
 pair_fault position frame.Device = NoMemory
@@ -100,7 +100,7 @@ pub record BeginsWithPairs (ps : List Pair) (content left : List ℕ) : Type 0 w
 abbrev pub IsPairs : List ℕ → Type 0
 IsPairs content = (ps : List Pair) × BeginsWithPairs ps content []
 
--- behind pairs with which the content begins comes what is no pair
+-- after pairs with which the content begins come bytes that are not a pair
 pub record IsNoPairs (fault : LogFault) (position : ℕ) (content : List ℕ) : Type 0 where
   pub pairs : List Pair
   pub left : List ℕ

@@ -19,7 +19,7 @@ log_fault_name (BadEntry position fault) = codes "BadEntry"
 log_fault_name (TimeExhausted position) = codes "TimeExhausted"
 log_fault_name TooMany = codes "TooMany"
 
--- its line: the name, with the byte that begins no item, or with the position of the entry that it is of
+-- its line: the name, with the byte that begins no item, or with the position of the entry with the fault
 abbrev pub log_fault_text : LogFault → List ℕ
 log_fault_text (UnknownKind kind) = codes "UnknownKind " ++ decimal kind
 log_fault_text (Gap position) = codes "Gap at " ++ decimal position
@@ -30,7 +30,7 @@ log_fault_text (TimeExhausted position) = codes "TimeExhausted at " ++ decimal p
 log_fault_text (BadEntry position fault) = codes "BadEntry at " ++ decimal position ++ (codes ": " ++ frames.fault_name fault)
 log_fault_text fault = log_fault_name fault
 
--- rows
+-- examples
 
 pub entry_too_early : log_fault_text (Gap 12) ≡ codes "Gap at 12"
 unfolding digits

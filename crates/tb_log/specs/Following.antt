@@ -1,4 +1,4 @@
--- What a follower makes of a log, item by item.
+-- How a follower processes a log, item by item.
 use Rattle.std.specs.Prelude.{ℕ, ◌+◌, List, [], ◌∷◌, ◌++◌, fold}
 use Rattle.tb_records.specs.declared.limits.Profile.{Profile}
 use Rattle.tb_records.specs.Messages.{Answer}
@@ -8,7 +8,7 @@ use Rattle.tb_machine.specs.Scripts.{Pair, after_pair}
 use Rattle.tb_machine.specs.Runs.{IsTimely}
 use Rattle.tb_log.specs.Format.{content_of, log_entry_bytes, question_bytes, reply_item, standing_item, no_hash, chained_hash}
 
--- a follower: the state behind all pairs, the position of the last entry, the hashes of the log and of the replies
+-- a follower: the state after all pairs, the position of the last entry, the hashes of the log and of the replies
 pub record Following : Type 0 where
   pub state : State
   pub position : ℕ
@@ -52,12 +52,12 @@ abbrev pub with_item : Following → Item → Following
 with_item F (Entry ps) = fold with_logged_pair (with_content F (content_of ps)) ps
 with_item F Question = F
 
--- the bytes of an item at its turn: an entry has the position behind the last
+-- the bytes of an item at its turn: an entry has the position after the last
 abbrev pub item_bytes : Following → Item → List ℕ
 item_bytes F (Entry ps) = log_entry_bytes (F.position + 1) (content_of ps)
 item_bytes F Question = question_bytes
 
--- what it is answered
+-- what is written for it
 abbrev pub given_to : Following → Item → List ℕ
 given_to F (Entry ps) = numbered_replies (with_content F (content_of ps)) 0 ps
 given_to F Question = standing_item F.position F.log F.replies
@@ -83,7 +83,7 @@ abbrev pub AllAnswered : Following → List Item → Type 0
 AllAnswered F [] = Unit {0}
 AllAnswered F (item ∷ items) = IsItemAnswered F item × AllAnswered (with_item F item) items
 
--- the script that the items spell: the pairs of all entries
+-- the script that the items encode: the pairs of all entries
 abbrev pub script_of : List Item → List Pair
 script_of [] = []
 script_of (Entry ps ∷ items) = ps ++ script_of items

@@ -1,4 +1,4 @@
--- What a follower answers from a reader to a writer: items were taken one after another, and then the input ended or a fault came.
+-- What a follower makes of a reader and a writer: items were taken one after another, and then the input ended or a fault occurred.
 use Rattle.std.specs.Prelude.{ℕ, true, false, ◌≡◌, ◌≢◌, ◌⊎◌, ◌+◌, ◌-◌, ◌^◌, ◌≤◌, List, [], ◌∷◌, ◌++◌, length, fold, Result, Ok, Err}
 use Rattle.std.specs.Io.KnownBytes.{Consumes, IsAtEnd}
 use Rattle.tb_records.specs.declared.limits.Profile.{Profile}
@@ -17,7 +17,7 @@ use Rattle.tb_log.specs.Entries.{ReaderFails, IsPairs, RefusesEntry}
 
 -- one pair of an entry
 
--- a pair is answered with its index; where the writer failed, a prefix of the answer was written, and on any other fault nothing
+-- a pair is answered with its index; if the writer failed, a prefix of the answer was written, and on any other fault nothing
 abbrev pub AnswersIndexed : ℕ → Result (Unit {0}) LogFault → Following → Following → Pair → Output → Output → Type 0
 AnswersIndexed index (Ok done) F G p before after =
     IsTimely F.state p × IsReply (pair_answer F p) × (G ≡ with_logged_pair F p) × Sent (reply_item F.position index (pair_answer F p)) before after
@@ -98,13 +98,13 @@ RefusesNextItem fault F before after start written =
     ⊎ IsStopped fault F before after start written
     ⊎ LeavesQuestion fault F before after start written
 
--- the faults that come of no item: no memory for the machine, and so many items that they cannot be counted
+-- the faults that do not come from an item: no memory for the machine, and too many items to count
 abbrev pub Halts : LogFault → List Item → Type 0
 Halts NoMemory items = items ≡ []
 Halts TooMany items = length items ≡ 2 ^ 64 - 1
 Halts fault items = ⊥
 
--- what ended it behind the items: the end of the input, with the position of the last entry; or a fault
+-- what ended it after the items: the end of the input, with the position of the last entry; or a fault
 abbrev pub Ended : Result ℕ LogFault → List Item → Following → Input → Input → Output → Output → Type 0
 Ended (Ok position) items F before after start written =
     (position ≡ F.position) × Consumes before.left after.left [] × IsAtEnd after.left × (after.failed ≡ before.failed) × (written ≡ start)

@@ -30,7 +30,7 @@ numbers position long = number_bytes 8 position ++ number_bytes 4 long
 abbrev pub checksum_of : ℕ → List ℕ → ℕ
 checksum_of position content = checksum (numbers position (length content) ++ content)
 
--- an entry behind its kind, with any checksum
+-- an entry after its kind, with any checksum
 abbrev pub summed : ℕ → ℕ → List ℕ → List ℕ
 summed position sum content = numbers position (length content) ++ number_bytes 4 sum ++ content
 
@@ -58,6 +58,6 @@ standing_item position log replies = 2 ∷ number_bytes 8 position ++ log ++ rep
 abbrev pub no_hash : List ℕ
 no_hash = replicate 32 0
 
--- the hash of what came before with one part more
+-- the hash of the earlier parts and one more part
 abbrev pub chained_hash : List ℕ → List ℕ → List ℕ
 chained_hash hash bytes = sha256 (hash ++ bytes)

@@ -1,9 +1,9 @@
--- what public contracts cite, or reach through what they cite
+-- what public contracts use, directly or through other definitions
 pub mod Format
 pub mod Following
 pub mod Entries
 pub mod Faults
 pub mod Follows
 pub mod LogLaws
--- what private contracts alone cite
+-- what only private contracts use
 pub mod Steps

@@ -1,4 +1,4 @@
--- What a follower answers is what a server answers to the script that the entries spell.
+-- A follower writes the replies that a server gives to the script that the entries encode.
 use Rattle.std.specs.Prelude.{ℕ, ◌≡◌, List, [], map, fold}
 use Rattle.tb_records.specs.declared.limits.Profile.{Profile}
 use Rattle.tb_records.specs.ReplyFrames.{reply_bytes}
@@ -7,7 +7,7 @@ use Rattle.tb_machine.specs.Histories.{after}
 use Rattle.tb_log.specs.Format.{no_hash, chained_hash}
 use Rattle.tb_log.specs.Following.{begun_following, Item, after_items, script_of, answers_to}
 
--- the replies are those to the script that the entries spell, in its order, and the state is the one behind it
+-- the replies are those to the script that the entries encode, in its order, and the state is the one after it
 abbrev pub AnswersTheScript : Type 0
 AnswersTheScript = (profile : Profile) (clients_max : ℕ) (items : List Item)
     → (answers_to (begun_following profile clients_max) items ≡ replies_to profile clients_max (script_of items))

@@ -1,4 +1,4 @@
--- What a follower's steps do: for private functions alone.
+-- What a follower's steps do. Only private functions use it.
 use Rattle.std.specs.Prelude.{ℕ, true, false, ◌≡◌, ◌≢◌, ◌⊎◌, ◌≤◌, ◌<◌, Bool, List, [], ◌∷◌, ◌++◌, length, take, Option, Some, None, Result, Ok, Err, MatchOption, MatchResult, Vec}
 use Rattle.std.specs.Io.KnownBytes.{Consumes, IsAtEnd}
 use Rattle.std.specs.declared.alloc.Global.{Global}
@@ -26,7 +26,7 @@ pub record IsFilledBy (n : ℕ) (buffer : List ℕ) (before after : Input) : Typ
   pub end : n < length buffer → IsAtEnd after.left
   pub counted : after.failed ≡ before.failed
 
--- just these bytes were read
+-- exactly these bytes were read
 pub record ReadsOnly (bytes : List ℕ) (before after : Input) : Type 0 where
   pub consumed : Consumes before.left after.left bytes
   pub counted : after.failed ≡ before.failed
@@ -49,31 +49,31 @@ ReadsValue n bytes_of result before after = MatchResult result (λ x. ReadsOnly 
 abbrev pub FillsBuffer : List ℕ → Result (Unit {0}) LogFault → Input → Input → Type 0
 FillsBuffer buffer result before after = ReadsValue (length buffer) (λ _. buffer) result before after
 
--- bytes into memory that is taken before the first is read
+-- bytes into memory that is allocated before the first is read
 abbrev pub ReadsBytes : ℕ → Result (Vec ℕ Global) LogFault → Input → Input → Type 0
 ReadsBytes n (Ok bytes) before after = ReadsOnly bytes.items before after
 ReadsBytes n (Err fault) before after = Misses n fault before after ⊎ ((fault ≡ NoMemory) × (after ≡ before))
 
--- the first byte of an item was read, or there is none
+-- the first byte of an item was read, or there is no next item
 abbrev pub BeginsItem : Result (Option ℕ) LogFault → Input → Input → Type 0
 BeginsItem (Ok None) before after = ReadsOnly [] before after × IsAtEnd after.left
 BeginsItem (Ok (Some kind)) before after = ReadsOnly (kind ∷ []) before after
 BeginsItem (Err fault) before after = ReaderFails fault before after
 
--- what is wrong with an entry's numbers is answered, and nothing else
+-- the result is exactly what is wrong with an entry's numbers
 abbrev pub JudgesNumbers : Result (Unit {0}) LogFault → Option LogFault → Type 0
 JudgesNumbers result wrong = MatchOption wrong (result ≡ Ok tt) (λ fault. result ≡ Err fault)
 
 abbrev pub head_bytes : Head → List ℕ
 head_bytes head = numbers head.position head.length ++ number_bytes 4 head.checksum
 
--- the content behind an entry's numbers, with its checksum or with another
+-- the content after an entry's numbers was read, and its checksum is right
 pub record ReadsContent (head : Head) (content : List ℕ) (before after : Input) : Type 0 where
   pub long : length content ≡ head.length
   pub read : ReadsOnly content before after
   pub sum : head.checksum ≡ checksum_of head.position content
 
--- the content that was read is given
+-- the content that was read is returned
 abbrev pub GivesContent : Head → Input → Input → Vec ℕ Global → Type 0
 GivesContent head before after bytes = ReadsContent head bytes.items before after
 
@@ -99,7 +99,7 @@ NoFrame position NoMemory p S = Unit {0}
 NoFrame position (TimeExhausted at) p S = (at ≡ position) × IsUntimely S p
 NoFrame position fault p S = ⊥
 
--- a pair is answered over a writer
+-- a pair is answered to a writer
 abbrev pub RepliesToPair : {W : Type 0} → (W → Output) → ℕ → Result (Unit {0}) LogFault → Following → Following → Pair → W → W → Type 0
 RepliesToPair output index result F G p writer later = AnswersIndexed index result F G p (output writer) (output later)
 
@@ -133,7 +133,7 @@ pub record StopsEntry (fault : LogFault) (F : Following) (before after : Input) 
   pub whole : IsPairs content
   pub stops : Stops fault (with_content F content) content start written
 
--- an entry was read behind its kind and served
+-- an entry was read after its kind and served
 pub record ServesEntry (F G : Following) (before after : Input) (start written : Output) : Type 0 where
   pub pairs : List Pair
   pub read : ReadsEntry (content_of pairs) F.position before after
@@ -156,7 +156,7 @@ pub record TakesItem (F G : Following) (before after : Input) (start written : O
   pub state : G ≡ with_item F item
   pub sent : Sent (given_to F item) start written
 
--- there was none
+-- there was no item
 pub record TakesNone (F G : Following) (before after : Input) (start written : Output) : Type 0 where
   pub read : ReadsOnly [] before after
   pub end : IsAtEnd after.left

@@ -5,8 +5,7 @@ ghost use Rattle.tb_log.specs.Format.{no_hash, chained_hash};
 use sha2::{Digest, Sha256};
 use std::marker::Model;
 
-/// The hash of parts that came one after another: that of each is SHA-256 of the hash before it and its bytes. Its 32 bytes go
-/// on with the next part.
+/// The hash of consecutive parts: for each part it is SHA-256 of the hash before it and its bytes. Its 32 bytes continue with the next part.
 #[derive(Drop)]
 pub struct Chain {
     hash: [u8; 32],

@@ -1,4 +1,4 @@
-//! An entry from a reader, behind its kind: its numbers are tested before its content is read, and its checksum after.
+//! An entry from a reader, after its kind: its numbers are checked before its content is read, and its checksum after.
 ghost use Rattle.std.specs.Prelude.{◌≡◌, ◌≤◌, ◌+◌, length, IfOk, IfErr, OnOk};
 ghost use Rattle.tb_log.specs.Entries.{head_fault, pair_fault, IsPairs, IsNoPairs, GivesEntry, RefusesEntry};
 ghost use Rattle.tb_log.specs.Format.{content_max};
@@ -37,7 +37,7 @@ fn head_from<S: Source>(source: &mut S) -> Result<Head, LogFault>
     })
 }
 
-/// Says what is wrong with the numbers of an entry behind the last position.
+/// Returns what is wrong with the numbers of an entry after the last position.
 fn judge_head(head: &Head, last: u64) -> Result<(), LogFault>
     ensures { JudgesNumbers result (head_fault last head.now.position head.now.length) }
 {
@@ -54,7 +54,7 @@ fn judge_head(head: &Head, last: u64) -> Result<(), LogFault>
     Ok(())
 }
 
-/// Reads the content behind the numbers, and tests its checksum.
+/// Reads the content after the numbers, and checks its checksum.
 fn content_from<S: Source>(alloc: Global, source: &mut S, head: &Head) -> Result<Vec<u8>, LogFault>
     requires { head.now.length ≤ content_max }
     ensures whole { IfOk result (GivesContent head.now (S.input source.old) (S.input source.new)) }
@@ -68,7 +68,7 @@ fn content_from<S: Source>(alloc: Global, source: &mut S, head: &Head) -> Result
     Ok(content)
 }
 
-/// The fault of what is no pair. Bytes in memory have no reader that fails.
+/// The fault of bytes that are not a pair. Bytes in memory have no reader that fails.
 fn pair_fault(position: u64, fault: FrameFault) -> LogFault
     ensures { result ≡ pair_fault position fault }
 {
@@ -78,7 +78,7 @@ fn pair_fault(position: u64, fault: FrameFault) -> LogFault
     }
 }
 
-/// Tests that the content of the entry at a position is pairs, before the first of them is served.
+/// Checks that the content of the entry at a position consists of pairs, before the first of them is served.
 pub fn check_pairs(global: Global, position: u64, content: &[u8]) -> Result<(), LogFault>
     requires { length content.now ≤ content_max }
     ensures pairs { OnOk result (IsPairs content.now) }
@@ -95,7 +95,7 @@ pub fn check_pairs(global: Global, position: u64, content: &[u8]) -> Result<(), 
     unreachable!()
 }
 
-/// Reads the entry behind the last position: its position and its content, which is pairs.
+/// Reads the entry after the last position: its position and its content, which consists of pairs.
 #[tactic(auto, using(crate::proofs::Taking::entry_read, crate::proofs::Taking::entry_lost, crate::proofs::Taking::entry_wrong, crate::proofs::Taking::head_lost))]
 pub fn entry_from<S: Source>(
     alloc: Global,

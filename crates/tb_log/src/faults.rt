@@ -7,7 +7,7 @@ use std::fmt;
 use tb_records::FrameFault;
 use thiserror::Error;
 
-/// Why a follower ends before its log does. All that was answered before stays answered.
+/// Why a follower ends before its log does. All answers that were written before remain valid.
 #[derive(Clone, Copy, Debug, PartialEq, Eq, Error)]
 pub enum LogFault {
     /// The reader or the writer failed.
@@ -24,11 +24,11 @@ pub enum LogFault {
     Repeat(u64),
     /// The entry at this position has more bytes than an entry may have.
     TooLong(u64),
-    /// The entry at this position does not have its checksum.
+    /// The entry at this position has a wrong checksum.
     Damaged(u64),
-    /// The entry at this position has a pair that is none.
+    /// The entry at this position has bytes that are not a pair.
     BadEntry(u64, FrameFault),
-    /// A request of the entry at this position is new, and the end of time leaves no time for it.
+    /// A request of the entry at this position is new, but there is no time left for it.
     TimeExhausted(u64),
     /// `2^64 - 1` items were taken.
     TooMany,

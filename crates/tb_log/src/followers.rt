@@ -28,7 +28,7 @@ impl<A: Allocator + Clone> Model for Follower<A> {
     ghost view = { λ f. record { state = f.machine; position = f.position; log = f.log; replies = f.replies } };
 }
 
-/// Writes bytes: Device where the writer fails or takes nothing.
+/// Writes bytes; returns `Device` if the writer fails or takes nothing.
 fn write<W: Sink>(writer: &mut W, bytes: &[u8]) -> Result<(), LogFault>
     ensures { WritesBytes result bytes.now (W.output writer.old) (W.output writer.new) }
 {
@@ -94,7 +94,7 @@ impl<A: Allocator + Clone> Follower<A> {
         self.position
     }
 
-    /// The machine behind the pairs of all entries.
+    /// The machine after the pairs of all entries.
     pub fn machine(&self) -> &Machine<A>
         ensures { result.now ≡ self.now.state }
     {

@@ -29,14 +29,14 @@ pub fn serve_content<A: Allocator + Clone, W: Sink>(
         match read_timed_from(global, &mut source) {
             Ok(Some((moment, request))) => follower.answer(global, writer, index, moment, request)?,
             Ok(None) => return Ok(()),
-            // The content is pairs, so that no other fault can come here.
+            // The content consists of pairs, so no other fault can occur here.
             Err(_) => return Err(LogFault::NoMemory),
         }
     }
     unreachable!()
 }
 
-/// Reads the next entry, behind its kind, and serves it.
+/// Reads the next entry, after its kind, and serves it.
 fn take_entry<A: Allocator + Clone, R: Source, W: Sink>(
     global: Global,
     follower: &mut Follower<A>,
@@ -51,7 +51,7 @@ fn take_entry<A: Allocator + Clone, R: Source, W: Sink>(
     serve_content(global, follower, &content, writer)
 }
 
-/// Takes the next item: false where there is none.
+/// Takes the next item; returns false if there is no next item.
 fn take_next<A: Allocator + Clone, R: Source, W: Sink>(
     global: Global,
     follower: &mut Follower<A>,
@@ -104,7 +104,7 @@ fn follow_in<A: Allocator + Clone, R: Source, W: Sink>(
     Err(LogFault::TooMany)
 }
 
-/// Passes on what is answered where the next item may have to be waited for.
+/// Passes on the output if the next item may have to be waited for.
 fn pass_on_before_waiting<R: Source, W: Sink>(reader: &R, writer: &mut W)
     ensures { Sent [] (W.output writer.old) (W.output writer.new) }
 {
@@ -113,7 +113,7 @@ fn pass_on_before_waiting<R: Source, W: Sink>(reader: &R, writer: &mut W)
     }
 }
 
-/// Says whether bytes begin with a whole item, as far as an entry's numbers give its length.
+/// Returns whether bytes begin with a whole item, with the length that an entry's numbers give.
 fn holds_item(bytes: &[u8]) -> bool {
     match bytes {
         [2, ..] => true,
@@ -124,9 +124,9 @@ fn holds_item(bytes: &[u8]) -> bool {
     }
 }
 
-/// Follows a log from its first entry until the input ends, and returns the position of the last entry. Each entry is served as
-/// a whole behind those before it; each reply is written with the position and its index in the entry; each question is
-/// answered by the position and both hashes. On a fault all items before it are answered, and the rest of the log is unread.
+/// Follows a log from its first entry until the input ends, and returns the position of the last entry. Each entry is served as a whole after those
+/// before it; each reply is written with the position and its index in the entry; each question is answered by the position and both hashes. On a
+/// fault all items before it are answered, and the rest of the log is unread.
 pub fn follow<R: Source, W: Sink>(
     alloc: Global,
     profile: Profile,

@@ -26,7 +26,7 @@ fn fill<S: Source>(source: &mut S, buffer: &mut [u8]) -> Result<usize, LogFault>
     Ok(filled)
 }
 
-/// Fills the buffer. Short where the input ends before.
+/// Fills the buffer. Returns `Short` if the input ends before that.
 #[tactic(auto, using(crate::proofs::Taking::all_filled, crate::proofs::Taking::cut_short, crate::proofs::Taking::misses_by))]
 fn fill_all<S: Source>(source: &mut S, buffer: &mut [u8]) -> Result<(), LogFault>
     ensures { FillsBuffer buffer.new result (S.input source.old) (S.input source.new) }
@@ -37,7 +37,7 @@ fn fill_all<S: Source>(source: &mut S, buffer: &mut [u8]) -> Result<(), LogFault
     Ok(())
 }
 
-/// The byte that begins the next item; None where the input ends before it.
+/// The byte that begins the next item; `None` if the input ends before it.
 #[tactic(auto, using(crate::proofs::Taking::none_filled, crate::proofs::Taking::one_filled))]
 pub fn kind_from<S: Source>(source: &mut S) -> Result<Option<u8>, LogFault>
     ensures { BeginsItem result (S.input source.old) (S.input source.new) }
@@ -72,7 +72,7 @@ pub(crate) fn u32_from<S: Source>(source: &mut S) -> Result<u32, LogFault>
     Ok(LittleEndian::read_u32(bytes))
 }
 
-/// So many bytes. The memory for them is taken before the first is read.
+/// So many bytes. The memory for them is allocated before the first is read.
 #[tactic(auto, using(crate::proofs::Taking::missed_whole))]
 pub(crate) fn bytes_from<S: Source>(
     alloc: Global,

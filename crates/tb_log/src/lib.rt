@@ -7,10 +7,10 @@
 //! - `checksums`: the checksum of an entry.
 //! - `chains`: `Chain`, a hash of parts that came one after another.
 //! - `inputs`: bytes and numbers from a reader.
-//! - `entries`: an entry's content from a reader, tested.
+//! - `entries`: an entry's content from a reader, checked.
 //! - `followers`: `Follower`, a machine with the position and the hashes; the answers to a pair and to a question.
 //! - `following`: `follow`, all items of a log.
-//! - `laws`: that the replies are those to the script which the entries encode.
+//! - `laws`: that the replies are those to the script that the entries encode.
 #![tactic(auto)]
 
 mod chains;

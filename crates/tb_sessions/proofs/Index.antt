@@ -61,7 +61,7 @@ linked_out {R} {R'} {B} {B'} k d l stood row client = record {
     client_before : (c j : ℕ) → B' c ≡ Some j → (c ≢ d) × (B c ≡ Some j)
     client_before = before client
 
--- no two rows have one commit, where the row that was put in has a new one
+-- no two rows have one commit, if the row that was added has a new one
 still_differ : {R R' : ℕ → Option Row} (k : ℕ) (r : Row) → PutAt k r R R' → ((q j : ℕ) (x y : Row) → R q ≡ Some x → R j ≡ Some y → x.commit ≡ y.commit → q ≡ j)
     → ((q : ℕ) (x : Row) → R q ≡ Some x → x.commit ≢ r.commit) → (q j : ℕ) (x y : Row) → R' q ≡ Some x → R' j ≡ Some y → x.commit ≡ y.commit → q ≡ j
 still_differ k r put differ unlike q j x y is too same = elim (put_or_before put q x is) [
@@ -110,7 +110,7 @@ linked_in {R} {R'} {B} {B'} k r l absent fresh unlike row client = record {
   differ = still_differ k r row l.differ unlike;
 }
 
--- a later row comes in place of a client's, and the client is where it was
+-- a later row replaces a client's, and the client is where it was
 linked_renewed : {R R' : ℕ → Option Row} {B : ℕ → Option ℕ} (k : ℕ) (r old : Row) → IsLinked R B → R k ≡ Some old → old.commit ≤ r.commit → B r.commit ≡ None → ((q : ℕ) (x : Row) → R q ≡ Some x → x.commit ≢ r.commit)
     → PutAt k r R R' → IsLinked R' B
 linked_renewed {R} {R'} {B} k r old l found later fresh unlike row = record {
@@ -130,7 +130,7 @@ linked_renewed {R} {R'} {B} k r old l found later fresh unlike row = record {
   differ = still_differ k r row l.differ unlike;
 }
 
--- a client goes from the commit where it is to its row's
+-- a client is moved from its commit to its row's
 linked_moved : {R : ℕ → Option Row} {B M B' : ℕ → Option ℕ} (k d : ℕ) (r : Row) → IsLinked R B → B d ≡ Some k → R k ≡ Some r → GoneAt d B M → PutAt r.commit k M B' → IsLinked R B'
 linked_moved {R} {B} {M} {B'} k d r l stood here gone put = record {
   noted = λ q x is. elim (decide q k) [
@@ -254,7 +254,7 @@ module _ {n : ℕ} {rows : Map ℕ Row} {clients : Map ℕ ℕ} (i : IsIndexed n
         clients_fit = i.clients_fit;
       }
 
-  -- no client is at the commit of a row that is not at the commit where its client is
+  -- no client is at the commit of a row whose client is at another commit
   moved_fresh : (k d : ℕ) (r : Row) → client_at_commit clients d ≡ Some k → kept_row rows k ≡ Some r → r.commit ≢ d → client_at_commit clients r.commit ≡ None
   moved_fresh k d r stood here behind =
       none_where (client_at_commit clients r.commit) (λ j is. behind (i.linked.once r.commit d k (is ∙ ap Some (i.linked.apart k j r here is)) stood))
@@ -304,7 +304,7 @@ each_passes p (x ∷ xs) all = by (p x) refl all (each_passes p xs)
     by true is all later = (is, later all)
     by false is all later = absurd (cc)
 
--- the one that passes, where all that pass are of one key
+-- the element that passes, if all that pass have the same key
 find_only : {X : Type 0} (p : X → Bool) (key : X → ℕ) (k : ℕ) (r : X) (xs : List X) → Each (λ x. p x ≡ true → key x ≡ k) xs → find (λ x. key x == k) xs ≡ Some r → p r ≡ true → find p xs ≡ Some r
 find_only p key k r [] each found passes = found
 find_only p key k r (x ∷ xs) each found passes = by (key x == k) refl (p x) refl found (λ later. find_only p key k r xs each.1 later passes)
@@ -315,7 +315,7 @@ find_only p key k r (x ∷ xs) each found passes = by (key x == k) refl (p x) re
     by false at true is found later = absurd (let same : key x ≡ k = each.0 is in grind (arith, nat_tests))
     by false at false is found later = later found
 
--- the client at the first commit has the row of least commit, where that is the row's
+-- the client at the first commit has the row of least commit, if that is the row's commit
 pub oldest_first : {n : ℕ} {rows : Map ℕ Row} {clients : Map ℕ ℕ} → IsIndexed n rows clients → (c k : ℕ) (r : Row) → slice_get (entries clients) 0 ≡ Some (c, k) → kept_row rows k ≡ Some r → r.commit ≡ c → oldest (values_of (entries rows)) ≡ Some r
 oldest_first {n} {rows} {clients} i c k r first here commit =
     let found = sym (found-row client_of k (entries rows) i.own) ∙ here in

@@ -17,6 +17,6 @@ each_admitted P clients_max rows row here each =
       | false ↦ each-put client_of P row (without (driven_out clients_max rows) rows) here (each_without P (driven_out clients_max rows) rows each)
     ]
 
--- a client without a row has none where another's is taken out
+-- a client without a row has no row after another client's row is removed
 pub absent_without : (rows : List Row) (client gone : ℕ) → row_of rows client ≡ None → row_of (taken_out client_of gone rows) client ≡ None
 absent_without rows client gone absent = none-found (λ row. client_of row == client) (taken_out client_of gone rows) (each-taken_out client_of (λ row. (client_of row == client) ≡ false) gone rows (none-fails (λ row. client_of row == client) rows absent))

@@ -44,11 +44,11 @@ module _ {n : ℕ} {rows : Map ℕ Row} {clients : Map ℕ ℕ} (rows' : Map ℕ
       }
 
 module _ (rows rows' : Map ℕ Row) (k : ℕ) (row left : Row) (found : kept_row rows k ≡ Some row) (is : entries rows' ≡ set_value (is_at (nat_cmp k)) (entries rows) left) where
-  -- where the row is left as it was
+  -- if the row is left as it was
   pub entries_kept : left ≡ row → entries rows' ≡ entries rows
   entries_kept same = is ∙ ap (λ v. set_value (is_at (nat_cmp k)) (entries rows) v) same ∙ set_value_same (is_at (nat_cmp k)) (entries rows) row found
 
-  -- where it is left so, or in its place is a later row of the client
+  -- if it is left so, or replaced by a later row of the client
   module _ {n : ℕ} {clients : Map ℕ ℕ} (i : IsIndexed n rows clients) (renewal : IsRenewal (values_of (entries rows)) row left) where
     own_left : client_of left ≡ k
     own_left =
@@ -69,7 +69,7 @@ module _ (rows rows' : Map ℕ Row) (k : ℕ) (row left : Row) (found : kept_row
             let of : k ≡ left.client = sym own_left in
             index_renewed i left row (subst (λ q. kept_row rows q ≡ Some row) of found) l.later (subst (λ q. entries rows' ≡ set_value (is_at (nat_cmp q)) (entries rows) left) of is) spare
 
--- what a call leaves that answered Ok
+-- what a call leaves that returned Ok
 module _ {F A : Type 0} (c : Serving F A) {f : F} {r : Message} {n : ℕ} {rows : Map ℕ Row} {clients : Map ℕ ℕ} (f' : F) (r' : Message) (rows' : Map ℕ Row) (row left : Row)
     (found : kept_row rows r.client ≡ Some row) (is : entries rows' ≡ set_value (is_at (nat_cmp r.client)) (entries rows) left)
     (i : IsIndexed n rows clients) (renews : Renews c f (values_of (entries rows)) r)
@@ -86,6 +86,6 @@ module _ {F A : Type 0} (c : Serving F A) {f : F} {r : Message} {n : ℕ} {rows 
   pub rows_served : ServedBy c f (values_of (entries rows)) r answer f' r' (values_of (entries rows'))
   rows_served = record { row = row; left = left; new = new; served = rw ok at serves; put = rows_after rows rows' r.client row left found is i renewal }
 
--- what holds where a result is Err, of one that is
+-- what holds of every Err holds of a result that is Err
 pub of_err : {A E P : Type 0} (o : Result A E) (e : E) → o ≡ Err e → OnErr o P → P
 of_err o e is p = rw is at p

@@ -29,7 +29,7 @@ each_latest (row ∷ rows) = (omega arith, each-map (λ (x : Row). x.commit ≤ 
 pub no_later : {n : ℕ} {rows : Map ℕ Row} {clients : Map ℕ ℕ} → IsIndexed n rows clients → (k : ℕ) (row : Row) → kept_row rows k ≡ Some row → row.commit ≤ latest (values_of (entries rows))
 no_later {rows = rows} i k row here = each-find (λ (x : Row). x.commit ≤ latest (values_of (entries rows))) (λ x. client_of x == k) row (values_of (entries rows)) (each_latest (values_of (entries rows))) (sym (found-row client_of k (entries rows) i.own) ∙ here)
 
--- the first commit; 0 where there is no client
+-- the first commit; 0 if there is no client
 abbrev pub first_commit : List (ℕ × ℕ) → ℕ
 first_commit [] = 0
 first_commit (e ∷ es) = e.0
@@ -45,7 +45,7 @@ first_later {clients = clients} i later f =
       | inr at ↦ absurd (f.behind (omega (arith, low, same, at)))
     ]
 
--- the first commit rises where the first client goes to a later one
+-- the first commit rises if the first client is moved to a later one
 pub first_rises : (c k later : ℕ) (es es' : List (ℕ × ℕ)) → IsStrictlySortedBy nat_cmp (keys_of es) → es ≡ (c, k) ∷ es' → c < later → c < first_commit (insert_entry nat_cmp es' later k)
 unfolding IsStrictlySortedBy
 first_rises c k later es es' rise is less = rises es' (subst (λ fs. IsStrictlySortedBy nat_cmp (keys_of fs)) is rise)

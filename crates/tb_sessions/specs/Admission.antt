@@ -1,4 +1,4 @@
--- How the table takes a row in: in place of its client's row, or next to the others, where the row of least commit may have to go.
+-- How a row is added to the table: in the place of its client's row, or next to the others; the row of least commit may have to go for it.
 use Rattle.std.specs.Prelude.{ℕ, nat_le, nat_lt, List, length, Option, Some, None, if◌then◌else◌, find}
 use Rattle.std.specs.List.{list_all}
 use Rattle.std.specs.Option.{is_some}
@@ -15,7 +15,7 @@ pub record Table : Type 0 where
 abbrev pub oldest : List Row → Option Row
 oldest rows = find (λ row. list_all (λ other. nat_le row.commit other.commit) rows) rows
 
--- the row that a row of a client without one drives out
+-- the row that is evicted by a row of a client without one
 abbrev pub driven_out : ℕ → List Row → Option Row
 driven_out clients_max rows = if nat_lt (length rows) clients_max then None else oldest rows
 
@@ -23,7 +23,7 @@ abbrev pub without : Option Row → List Row → List Row
 without None rows = rows
 without (Some gone) rows = taken_out client_of (client_of gone) rows
 
--- the rows once a row is taken in
+-- the rows after a row is added
 abbrev pub admitted : ℕ → List Row → Row → List Row
 admitted clients_max rows row =
     if is_some (row_of rows (client_of row))

@@ -7,7 +7,7 @@ use Rattle.tb_sessions.specs.declared.classes.Class.{Class}
 use Rattle.tb_sessions.specs.declared.classes.Class.TheVariants.{New, Repeat, NoSession, SessionTooLow, NewerSession, Older, Collision, NewerRequest}
 use Rattle.tb_sessions.specs.declared.rows.Row.{Row}
 
--- the rows are in order of their clients
+-- the rows are ordered by their clients
 abbrev pub client_of : Row → ℕ
 client_of row = row.client
 
@@ -26,10 +26,10 @@ class_beside row r =
     else if r.request == row.request.request + 1 then New
     else NewerRequest
 
--- the class of a request: that by its client's row, or of a client without one
+-- the class of a request: by its client's row, or that of a client without a row
 abbrev pub class_of : List Row → Message → Class
 class_of rows r = option_map_or (λ row. class_beside row r) (row_of rows r.client) (if is_register r.body then New else NoSession)
 
--- the class of a request that is not served by a row: its own, and New only where its client has no session
+-- the class of a request that is not served by a row: its own class, which is New only if its client has no session
 abbrev pub GetsClass : List Row → Message → Class → Type 0
 GetsClass rows r class = (class ≡ class_of rows r) × (class ≡ New → row_of rows r.client ≡ None)

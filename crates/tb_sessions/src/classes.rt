@@ -11,7 +11,7 @@ pub enum Class {
     NewerSession,
     /// The session's last request has a greater number.
     Older,
-    /// The session's last request again: to be answered by the stored reply.
+    /// The session's last request again: it gets the stored reply.
     Repeat,
     /// The session's last request has this number, and another operation or body.
     Collision,

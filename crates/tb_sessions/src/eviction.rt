@@ -1,4 +1,4 @@
-//! The clients in the order in which their sessions end where the table is full.
+//! The clients in the order in which their sessions end if the table is full.
 ghost use Rattle.std.specs.Prelude.{IfSome};
 ghost use Rattle.std.specs.Option.{IfNone};
 ghost use Rattle.tb_sessions.specs.private.Indexed.{IsIndexed, IsFirstIndexed, IsFirstBehind, FindsOldest};
@@ -7,7 +7,7 @@ use crate::rows::Row;
 use avl_tree::AvlMap;
 use std::alloc::Global;
 
-/// The commit of the first client's row, where the client is at an earlier one.
+/// The commit of the first client's row, if the client is at an earlier one.
 fn first_behind(
     rows: &AvlMap<u128, Row, Global>,
     clients: &AvlMap<u64, u128, Global>,
@@ -24,8 +24,8 @@ fn first_behind(
     }
 }
 
-/// Moves clients to the commits of their rows, from the first on, until the first is at its row's: of a full table
-/// alone, since no session ends of another.
+/// Moves clients to the commits of their rows, from the first on, until the first is at its row's. It does so only in a full table, because a session
+/// ends only there.
 pub fn bring_up(
     clients_max: usize,
     rows: &AvlMap<u128, Row, Global>,

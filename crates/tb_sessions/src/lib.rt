@@ -1,12 +1,11 @@
-//! The sessions of clients: how a request relates to what its client sent last, and which session ends where there are
-//! too many.
+//! The sessions of clients: how a request relates to what its client sent last, and which session ends if there are too many.
 //!
 //! Modules, each over those before it:
 //!
 //! - `classes`: `Class`, how a request relates to its client's session.
 //! - `rows`: `Row`, what is kept of a client; the class of a request by it.
-//! - `eviction`: who is evicted next: the client whose place in the second map comes first, brought up to its row's commit
-//!   number where it lags behind.
+//! - `eviction`: the client that is evicted next: the first one in the second map, after it was moved up to its row's commit number if it was at an
+//!   earlier one.
 //! - `table`: `Sessions`, rows by client in one `AvlMap`, and a second from a commit number to its client.
 //!
 //! A client is in the second map at its row's commit number, or at one that its row had before. Only in a full table

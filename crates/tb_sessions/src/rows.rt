@@ -9,7 +9,7 @@ use tb_records::{Body, Reply, Request, Status};
 /// A client's session: its last committed request and the reply to it.
 #[derive(Drop)]
 pub struct Row {
-    /// Whose session it is.
+    /// The client of the session.
     pub client: u128,
     /// The commit number of the register that made the session.
     pub session: u64,
@@ -29,7 +29,7 @@ fn filler() -> Request {
     }
 }
 
-/// What is in a node for a row that isn't used. Nothing reads it.
+/// The content of a node for a row that is not in use. Nothing reads it.
 impl Default for Row {
     fn default() -> Row {
         let request = filler();

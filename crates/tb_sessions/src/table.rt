@@ -1,4 +1,4 @@
-//! The sessions of the clients: at most one of each, and at most so many in all.
+//! The sessions of the clients: at most one for each client, and at most so many in all.
 ghost use Rattle.std.specs.Prelude.{◌≡◌, ◌≢◌, ◌<◌, ◌≤◌, true, false, if◌then◌else◌, IfOk, IfErr, OnOk, OnErr, MatchOption, Some, None, [], length};
 ghost use Rattle.std.specs.Option.{option_map};
 ghost use Rattle.tb_records.specs.Messages.{is_register};
@@ -16,13 +16,13 @@ use std::alloc::{AllocError, Global};
 use std::marker::Model;
 use tb_records::{Body, ClientsMax, Request};
 
-/// The sessions of the clients, with capacity for all that there may be.
+/// The sessions of the clients, with capacity for the greatest number of them.
 #[derive(Drop)]
 pub struct Sessions {
     clients_max: usize,
     /// The rows by client.
     rows: AvlMap<u128, Row, Global>,
-    /// The clients, each by its row's commit or by one that its row had before. Of a full table the first is at its row's.
+    /// The clients, each by its row's commit or by one that its row had before. In a full table the first is at its row's.
     clients: AvlMap<u64, u128, Global>,
 }
 
@@ -50,7 +50,7 @@ fn class_alone(request: &Request) -> Class
     }
 }
 
-/// Calls the closure with a request and its client's row, where the request is New compared with it; else answers the class.
+/// Calls the closure with a request and its client's row, if the request is New compared with it; otherwise returns the class.
 fn serve_new<R, F: FnMut(&mut Request, &mut Row) -> R>(
     row: &mut Row,
     request: &mut Request,
@@ -89,7 +89,7 @@ impl Sessions {
         })
     }
 
-    /// The row of a client; None of a client without a session.
+    /// The row of a client; `None` for a client without a session.
     pub fn stored(&self, client: u128) -> Option<&Row>
         ensures { MatchOption result (row_of self.now.rows client ≡ None)
             (λ row. row_of self.now.rows client ≡ Some row.now) }
@@ -97,8 +97,7 @@ impl Sessions {
         self.rows.get(&client)
     }
 
-    /// How a request relates to the sessions: New where it is to be executed, Repeat where it is answered by the stored
-    /// reply, else why it is refused.
+    /// How a request relates to the sessions: New if it is to be executed, Repeat if it gets the stored reply, otherwise why it is refused.
     pub fn classify(&self, request: &Request) -> Class
         ensures { result ≡ class_of self.now.rows request.now }
     {
@@ -108,8 +107,8 @@ impl Sessions {
         }
     }
 
-    /// The client whose session ends where a client without one registers: the one whose last reply has the least
-    /// commit number, None where the table is not full.
+    /// The client whose session ends if a client without one registers: the one whose last reply has the least commit number; `None` if the table is
+    /// not full.
     pub fn evictee(&self) -> Option<u128>
         ensures { result ≡ option_map client_of (driven_out self.now.clients_max self.now.rows) }
     {
@@ -122,9 +121,8 @@ impl Sessions {
         }
     }
 
-    /// Takes a row in, and gives back the row that leaves: the client's own; or, of a client without one where the
-    /// table is full, the row of least commit. The row is of a request that is New here, and of a later commit than any
-    /// row here.
+    /// Adds a row, and returns the row that leaves: the client's own; or, if the client has no row and the table is full, the row of least commit.
+    /// The row is one of a request that is New here, with a later commit than any row here.
     ///
     /// It is inlined into its callers, so that a row is not copied on its way in and out.
     #[inline(always)]
@@ -148,9 +146,9 @@ impl Sessions {
         gone
     }
 
-    /// Serves a request that is New compared with its client's row: the closure is called once, with the request and the row, and may
-    /// put a later row of the client in its place. Any other request, and one of a client without a row, gets its class, and
-    /// nothing is called or changed. The closure is lent, so that the caller has the state that the call left it in.
+    /// Serves a request that is New compared with its client's row: the closure is called once, with the request and the row, and may put a later row
+    /// of the client in its place. Any other request, and one of a client without a row, gets its class, and nothing is called or changed. The
+    /// closure is borrowed, so that the caller has the state that the call left it in.
     ///
     /// It is inlined into its callers, as `record` does.
     #[inline(always)]
@@ -185,7 +183,7 @@ impl Sessions {
         }
     }
 
-    /// Exchanges a row and that of its client, where the client has one, and says that it has.
+    /// Exchanges a row and that of its client, if the client has one, and returns whether it has.
     fn renew(&mut self, row: &mut Row) -> bool
         requires later { Each (λ (other : Row). other.commit < row.old.commit) self.old.rows }
         ensures renewed { result ≡ true → ExchangesSession self.old row.old self.new row.new }
@@ -202,7 +200,7 @@ impl Sessions {
         true
     }
 
-    /// Takes the row of least commit out.
+    /// Removes the row of least commit.
     fn drive_out(&mut self) -> Row
         requires { self.old.clients_max ≤ length self.old.rows }
         ensures table { self.new
@@ -219,7 +217,7 @@ impl Sessions {
         row
     }
 
-    /// Puts a row among those of other clients.
+    /// Adds a row next to those of other clients.
     fn put_in(&mut self, row: Row)
         requires absent { row_of self.old.rows row.client ≡ None }
         requires later { Each (λ (other : Row). other.commit < row.commit) self.old.rows }

@@ -1,4 +1,4 @@
--- What letting trees go counts.
+-- What the freeing of trees counts.
 use Rattle.std.specs.Prelude.{ℕ, ◌+◌}
 use Rattle.avl_tree.specs.declared.tree.Tree.{Tree}
 use Rattle.avl_tree.specs.declared.tree.Tree.TheVariants.{Empty, Fork'}

@@ -1,4 +1,4 @@
--- The side of a node that a search goes on in, and what the node ends as, once a `&mut` to that side has ended.
+-- The side of a node in which a search goes on, and the node after a `&mut` to that side has ended.
 use Rattle.std.specs.Borrow.{Fml, RattleType, MutBor, Lends}
 use Rattle.std.specs.declared.alloc.Allocator.{Ghosts}
 use Rattle.std.specs.declared.cmp.Ordering.{Ordering}
@@ -8,7 +8,7 @@ use Rattle.avl_tree.specs.declared.tree.Tree.{Tree}
 use Rattle.avl_tree.specs.contracts.tree.Node.{the_row as node_row}
 use Rattle.avl_tree.specs.contracts.tree.Tree.{the_row as tree_row}
 
--- right of a smaller key, else left
+-- the right side if the key that is looked for is greater, otherwise the left side
 abbrev pub side_of : {K V A : Type 0} → Ordering → Node K V A → Tree K V A
 side_of Less n = n.left
 side_of Equal n = n.left

@@ -1,4 +1,4 @@
--- The rows of the sessions by client, and next to them each client by a commit of its own: its row's, or an earlier one.
+-- The rows of the sessions by client, and next to them each client by a commit: its row's, or an earlier one.
 use Rattle.std.specs.Prelude.{ℕ, ◌≡◌, ◌≢◌, ◌+◌, ◌<◌, ◌≤◌, length, Option, Some}
 use Rattle.std.specs.Ordering.{nat_cmp}
 use Rattle.std.specs.List.{slice_get}
@@ -19,7 +19,8 @@ kept_row rows client = lookup (is_at (nat_cmp client)) (entries rows)
 abbrev pub client_at_commit : Map ℕ ℕ → ℕ → Option ℕ
 client_at_commit clients commit = lookup (is_at (nat_cmp commit)) (entries clients)
 
--- each client with a row is at one commit, no later than its row's; and what one client is at, or has in its row, is no other's commit
+-- each client with a row is at one commit, no later than its row's; the commit that a client is at, and the commit of its row, belong to no other
+-- client
 pub record IsLinked (kept_row : ℕ → Option Row) (client_at_commit : ℕ → Option ℕ) : Type 0 where
   pub noted : (client : ℕ) (row : Row) → kept_row client ≡ Some row → (commit : ℕ) × (commit ≤ row.commit) × (client_at_commit commit ≡ Some client)
   pub kept : (commit client : ℕ) → client_at_commit commit ≡ Some client → (row : Row) × (kept_row client ≡ Some row) × (commit ≤ row.commit)
@@ -27,7 +28,7 @@ pub record IsLinked (kept_row : ℕ → Option Row) (client_at_commit : ℕ → 
   pub apart : (client other : ℕ) (row : Row) → kept_row client ≡ Some row → client_at_commit row.commit ≡ Some other → other ≡ client
   pub differ : (client other : ℕ) (row beside : Row) → kept_row client ≡ Some row → kept_row other ≡ Some beside → row.commit ≡ beside.commit → client ≡ other
 
--- what the table's two maps keep: rows under their own clients, linked with the clients by commit, and capacity in both
+-- what holds of the table's two maps: rows under their own clients, linked with the clients by commit, and capacity in both
 pub record IsIndexed (clients_max : ℕ) (rows : Map ℕ Row) (clients : Map ℕ ℕ) : Type 0 where
   pub own : Each (λ e. client_of e.1 ≡ e.0) (entries rows)
   pub rows_rise : IsStrictlySortedBy nat_cmp (keys_of (entries rows))
@@ -53,11 +54,11 @@ pub record IsFirstBehind (rows : Map ℕ Row) (clients : Map ℕ ℕ) (later : �
   pub is : row.commit ≡ later
   pub behind : later ≢ commit
 
--- the same, and where the table is full the first of the clients is the one whose session ends next
+-- the same, and if the table is full the first of the clients is the one whose session ends next
 pub record FindsOldest (clients_max : ℕ) (rows : Map ℕ Row) (clients : Map ℕ ℕ) : Type 0 where
   pub indexed : IsIndexed clients_max rows clients
   pub first : clients_max ≤ length (entries rows) → IsFirstIndexed rows clients
 
--- a row took the place of its client's row in the table, and that row was left in exchange
+-- a row took the place of its client's row in the table, and that row was returned in exchange
 abbrev pub ExchangesSession : Table → Row → Table → Row → Type 0
 ExchangesSession before row after left = (row_of before.rows row.client ≡ Some left) × (after ≡ record before { rows = replaced client_of row before.rows })

@@ -1,4 +1,4 @@
--- A `&` to a map holds a `&` to each field, and nothing besides.
+-- A `&` to a map holds exactly a `&` to each field.
 use base.Fml.{ftrue}
 use denote.RattleType.{RattleType}
 use denote.Param.Laws.{Laws}

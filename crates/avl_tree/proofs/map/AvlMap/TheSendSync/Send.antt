@@ -1,4 +1,4 @@
--- A map may go to another thread where its keys, values and allocator may.
+-- A map may go to another thread if its keys, values and allocator may.
 use denote.Exit.{Exit, unchanged, leaves, hidden, under}
 use denote.RattleType.{RattleType}
 use denote.Struct.Struct.{exits_of}

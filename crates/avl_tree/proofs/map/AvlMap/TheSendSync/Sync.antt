@@ -1,4 +1,4 @@
--- A map may be shared by threads where its keys, values and allocator may.
+-- A map may be shared by threads if its keys, values and allocator may.
 use denote.RattleType.{RattleType}
 use denote.Struct.Owning.{shape, to}
 use denote.Param.Send.{IsSync, struct_sync, view_sync, sendable}
