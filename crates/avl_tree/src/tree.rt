@@ -21,7 +21,7 @@ pub enum Tree<K, V, A: Allocator> {
 
 /// A node.
 ///
-/// A search reads the key and one of the sides, so they come first, and the key before both: if a link holds a handle of its allocator, both sides
+/// A search reads the key and one of the sides, so they come first, and the key before both. If a link holds a handle of its allocator, both sides
 /// and the key take more than the rest of a cache line. The fields of a spare node are never read.
 #[cycle(avl)]
 #[derive(Drop)]

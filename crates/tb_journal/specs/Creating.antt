@@ -21,7 +21,7 @@ is_torn_from (byte ∷ bytes) (own ∷ first) = (byte == 0 || byte == own) && is
 abbrev pub is_blank : List ℕ → Bool
 is_blank file = is_torn_from file (journal_of [])
 
--- a file of at most 12 bytes without a record: its first bytes, or the latch after them, are not complete
+-- a file of at most 12 bytes without a record: it is no journal, its first latch is damaged or missing, or it is a journal without records
 pub record IsUnborn (file : List ℕ) : Type 0 where
   pub short : length file ≤ 12
   pub none : (contents file ≡ NotAJournal) ⊎ ((contents file ≡ Damaged 8) ⊎ (contents file ≡ Records []))

@@ -79,7 +79,7 @@ pub record TakesSnapshot {G : Type 0} (grows : G → List ℕ → Type 0) (file 
   pub same : contents shown ≡ contents later
   pub long : length shown ≡ length later
 
--- the same of a snapshot that showed something before: its bytes are those, and what was committed since
+-- the same for a snapshot that showed something before: its bytes are those, and what was committed since
 pub record Refreshes {G : Type 0} (grows : G → List ℕ → Type 0) (file shown : List ℕ) (snapshot : Snapped G) : Type 0 where
   pub takes : TakesSnapshot grows file snapshot
   pub goes_on : Later shown takes.shown

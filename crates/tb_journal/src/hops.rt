@@ -9,7 +9,7 @@ use crate::reading::{asked, is_closed};
 // Latch, length and checksum of a block.
 const FIXED_BYTES: usize = 11;
 
-// Where the blocks of a piece lead.
+// The place to which the blocks of a piece lead.
 #[derive(Clone, Copy)]
 pub enum Hop {
     // To a closed latch at this offset.
@@ -60,7 +60,7 @@ fn step(rest: &[u8], at: usize, len: usize) -> Hop
     }
 }
 
-// Says whether these bytes begin with a closed latch.
+// Returns whether these bytes begin with a closed latch.
 pub fn is_end(rest: &[u8]) -> bool
     ensures { (at : ℕ) (file : List ℕ) → HasAhead 11 at file rest.now → FindsLatch at file result }
 {

@@ -19,7 +19,7 @@
 //! - `laws`: what holds of every file that grows.
 //! - `scans`: `Scan`, a file read record by record, ahead in pieces of 64 KiB or one whole block; `read_journal`, to its end.
 //! - `seeking`: `Seek`, which seeks a record at any offset of a file by its checksum, for example after damage.
-//! - `opening`: `finds_blank`, whether a file is empty; `create`, a journal in an empty file; `Journal::open` and `recover`, which cut off what follows the records.
+//! - `opening`: `finds_blank`; `create`, a journal in an empty file; `Journal::open` and `recover`, which cut off what follows the records.
 //!
 //! specs/Contents is what a file's bytes represent, specs/Device what each call of a device does, specs/Scans what was read of
 //! a file, specs/Steps, Opening and Creating what the journal's calls leave.

@@ -19,7 +19,7 @@ pub enum Head {
     Whole(usize),
 }
 
-// Where the records end, and how many they are.
+// The offset at which the records end, and their number.
 #[derive(Clone, Copy)]
 pub struct Extent {
     pub end: usize,

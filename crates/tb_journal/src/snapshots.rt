@@ -24,7 +24,7 @@ const PIECE_BYTES: usize = 1 << 16;
 // The offset of the first block.
 const START_BYTES: usize = MAGIC.len();
 
-// Where the blocks of a file end, how many bytes it has, and whether a closed latch was found.
+// The offset at which the blocks of a file end, how many bytes it has, and whether a closed latch was found.
 #[derive(Clone, Copy)]
 pub struct Found {
     pub end: usize,
@@ -205,7 +205,7 @@ fn put_behind(into: &mut [u8], skip: usize)
     }
 }
 
-// Where a file ends, from its first bytes on.
+// The end of a file, found from its first bytes on.
 fn find<G: Growing>(file: &mut G, piece: &mut [u8]) -> Result<Found, JournalFault>
     requires { 11 ≤ length piece.old }
     ensures found { (bytes : List ℕ) → G.grows file.old bytes → IfOk result (IsEndFound (G.grows file.new) bytes) }
@@ -235,7 +235,7 @@ fn is_journal(bytes: &[u8]) -> bool
     bytes.starts_with(&MAGIC)
 }
 
-// Where a file ends now, if a closed latch was found at this offset. Usually that latch is still closed.
+// The current end of a file, if a closed latch was found at this offset. Usually that latch is still closed.
 fn find_more<G: Growing>(file: &mut G, piece: &mut [u8], end: usize) -> Result<Found, JournalFault>
     requires near { IsNear end }
     requires some { 11 ≤ length piece.old }
@@ -275,7 +275,7 @@ fn still_closed<G: Growing>(
     Ok((len, is_end(&piece[..count])))
 }
 
-// Where a file ends if its blocks lead to this offset.
+// The end of a file whose blocks lead to this offset.
 fn find_end<G: Growing>(file: &mut G, piece: &mut [u8], from: usize) -> Result<Found, JournalFault>
     requires { 11 ≤ length piece.old }
     ensures found { Finds (G.grows file.old) (G.grows file.new) from result }
@@ -304,7 +304,7 @@ fn find_end<G: Growing>(file: &mut G, piece: &mut [u8], from: usize) -> Result<F
     Err(JournalFault::Full)
 }
 
-// The number of bytes, and then where the blocks of the piece at this offset lead.
+// The number of bytes, and then the place to which the blocks of the piece at this offset lead.
 fn hop_sized<G: Growing>(
     file: &mut G,
     piece: &mut [u8],
@@ -325,7 +325,7 @@ fn hop_sized<G: Growing>(
     }
 }
 
-// Where the blocks of the piece at this offset lead.
+// The place to which the blocks of the piece at this offset lead.
 fn hop_from<G: Growing>(file: &mut G, piece: &mut [u8], at: usize) -> Result<Hop, JournalFault>
     requires some { 11 ≤ length piece.old }
     requires near { at < 2 ^ 62 }

@@ -184,9 +184,9 @@ impl<A: Allocator + Clone> Ledger<A> {
         expire(&mut self.work.rows, t);
     }
 
-    /// Creates accounts, as an entry with the time `t`: expires to `t`, then takes the events; the one at index i of n has the timestamp `t - n + i +
-    /// 1`. Returns the index and result code of each event that is not accepted, by rising index. A chain of linked events is applied as a whole or
-    /// not at all.
+    /// Creates accounts, as an entry with the time `t`: expires to `t`, then takes the events. The one at index i of n has the timestamp
+    /// `t - n + i + 1`. Returns the index and result code of each event that is not accepted, by rising index. A chain of linked events is applied as
+    /// a whole or not at all.
     pub fn create_accounts(
         &mut self,
         global: Global,

@@ -27,9 +27,9 @@
 //!
 //! Memory for a batch is reserved first: rows, failed ids, timeouts, results, undo log. specs/private/Capacity says what the tables can still take,
 //! and what events use of it; specs/private/Steps what events require of a batch in progress and what they leave. Undoing a chain makes nodes spare,
-//! and cannot fail. specs/Verdicts follows the order in which the tests are applied to an event, each test once: an account's own, exists, new; a
-//! transfer's own, exists, failed id; then a post or void (its own, those of the pending transfer that it names, the closed accounts), or any other
-//! (its own, the pair of accounts, the amounts).
+//! and cannot fail. specs/Verdicts follows the order in which the tests are applied to an event, each test once. For an account: its own, exists,
+//! new. For a transfer: its own, exists, failed id; then for a post or void its own, those of the pending transfer that it names, and the closed
+//! accounts, and for any other its own, the pair of accounts, and the amounts.
 #![tactic(auto)]
 
 mod batches;

@@ -64,7 +64,7 @@ pub fn failed_ids()
     ensures { FailedIds }
 {}
 
-/// A pending transfer holds its amount, and a closing one its account, until the very moment it expires.
+/// A pending transfer holds its amount, and a closing one its account, until the moment at which it expires.
 pub fn expiry()
     ensures one { Expiry One }
     ensures two { Expiry Two }

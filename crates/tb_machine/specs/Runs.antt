@@ -33,7 +33,7 @@ is_new_in S p = is_new (class_of S.rows p.1)
 abbrev pub IsTimely : State → Pair → Type 0
 IsTimely S p = is_new (class_of S.rows p.1) ≡ true → has_time S p ≡ true
 
--- a pair is new, and the end of time leaves no time for it
+-- a pair is new, but there is no time left for it
 abbrev pub IsUntimely : State → Pair → Type 0
 IsUntimely S p = (is_new_in S p ≡ true) × (has_time S p ≡ false)
 

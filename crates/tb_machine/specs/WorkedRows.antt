@@ -97,7 +97,7 @@ Refusals =
     ∷ (0, 1, 4) ∷ (4, 1, 0) ∷ (5, 1, 0) ∷ (6, 1, 0) ∷ (3, 2, 0) ∷ (2, 0, 0) ∷ (1, 1, 0) ∷ [])
     × (entered_count 2 (first_requests ++ refused_requests) ≡ 4)
 
--- client 7 moves the greatest amount, 2^128 - 1, from account 1 to account 2, and then 1 more, which would overflow account 1's debits: the second
+-- client 7 moves the greatest amount, 2^128 - 1, from account 1 to account 2, and then 1 more, which would overflow account 1's debits. The second
 -- transfer is refused (49), and account 2's sum is the greatest that has a frame
 abbrev greatest : Message
 greatest = asked 7 1 2 (CreateTransfers (worked_transfer 11 1 2 AMOUNT_MAX ∷ worked_transfer 12 1 2 1 ∷ []))

@@ -73,7 +73,7 @@ pub fn one_dump()
     ensures { OneDump }
 {}
 
-/// The laws of legal histories also hold with a mark among the entries, from which on profile 2 serves: keys are unique, a repeat gets its first
+/// The laws of legal histories also hold with a mark among the entries, from which on profile 2 serves. Keys are unique, a repeat gets its first
 /// reply, no request is new again, a session that was removed stays out, limits and sums hold.
 pub fn laws_with_a_mark()
     ensures keys { OneKeyWith }
@@ -84,8 +84,8 @@ pub fn laws_with_a_mark()
     ensures ledgers { LedgersBalanceWith }
 {}
 
-/// These are legal with a mark: a legal history with one more entry that may come next; that of a machine that changes to profile 2; what is accepted
-/// of the pairs of a script, with the mark before the first entry above a number; what a dump wrote.
+/// These are legal with a mark: a legal history with one more entry that may come next, and that of a machine that changes to profile 2. So is what
+/// is accepted of the pairs of a script, with the mark before the first entry above a number, and what a dump wrote.
 pub fn legal_with_a_mark()
     ensures next { NextIsLegalWith }
     ensures moved { MovedIsLegalWith }
@@ -105,8 +105,7 @@ pub fn one_record()
 {}
 
 /// After entries, with or without a mark, each id is unique in the books. So each accepted post or void of a following entry settles: the pending
-/// transfer that it names exists and is pending, its whole amount leaves the pending sums on both sides, and what is posted is added to the posted
-/// sums.
+/// transfer that it names exists and holds. Its whole amount leaves the pending sums on both sides, and what is posted is added to the posted sums.
 pub fn posts_and_voids_settle()
     ensures ids_rise { IdsRiseAfter }
     ensures settle { PostsAndVoidsSettle }

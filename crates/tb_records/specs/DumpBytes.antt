@@ -70,7 +70,7 @@ pub record Begins (before rest : List ℕ) : Type 0 where
   pub entry : 0 < commit
   pub bytes : before ≡ numbers_bytes commit time ++ rest
 
--- there are some bytes, and too few for two numbers
+-- there is at least one byte, but too few for two numbers
 abbrev pub IsCut : List ℕ → Type 0
 IsCut b = (0 < length b) × (length b < 16)
 

@@ -12,8 +12,8 @@ pub record Input : Type 0 where
   pub halted : Bool
   pub at_hand : List ℕ
 
--- a writer: the bytes written, if it reports them, the number of its errors, how often it took none of the bytes offered, whether its last result was
--- one of these, and whether it took bytes that it has not passed on
+-- a writer: the bytes written, if it reports them, the number of its errors, and how often it took none of the bytes offered. Then whether its last
+-- result was one of these, and whether it took bytes that it has not passed on
 pub record Output : Type 0 where
   pub written : Option (List ℕ)
   pub failed : ℕ

@@ -122,6 +122,6 @@ abbrev pub Closes : ℕ → ℕ → ℕ → ℕ → List ℕ → List ℕ → Re
 Closes count at end len read into result = (file : List ℕ) → end ≤ length file → ReadsAt count at file read
     → IfOk result (λ told. ReadsAt told at (take end file ++ behind_blocks (len - (end + 4))) into)
 
--- an offset that is far from the greatest one
+-- an offset far below the greatest one
 abbrev pub IsNear : ℕ → Type 0
 IsNear end = end ≤ 2 ^ 62 + 2 ^ 63

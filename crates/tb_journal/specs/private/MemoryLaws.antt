@@ -1,4 +1,4 @@
--- The proofs of the laws that `Device` asks of a file in memory. `rt` takes the proof of a trait's law from specs/ only.
+-- The proofs of the laws that `Device` requires of a file in memory. `rt` takes the proof of a trait's law from specs/ only.
 use Rattle.std.specs.Prelude.{◌≡◌, ℕ, zero, suc, ◌+◌, ◌-◌, ◌≤◌, ◌&&◌, nat_le, Bool, true, false, List, [], ◌∷◌, ◌++◌, length, take, drop, reverse, refl, if◌then◌else◌}
 use Rattle.std.proofs.Common.{arith, subst, sym, ◌∙◌, ap, length-append, length-drop, length-take}
 use Rattle.std.proofs.lemmas.List.{take_at, drop_at, take_all, take_min, length-take-le}

@@ -164,7 +164,7 @@ impl<V: Keyed, A: Allocator + Clone> Table<V, A> {
         }
     }
 
-    /// Makes capacity for exactly `n` more rows. If there is no memory the rows stay, and no capacity is lost.
+    /// Makes capacity until `n` more rows fit. If there is no memory the rows stay, and no capacity is lost.
     pub fn reserve(&mut self, alloc: &A, n: usize) -> Result<(), AllocError>
         ensures rows { self.new.items ≡ self.old.items }
         ensures ok { OnOk result (n ≤ self.new.spare) }

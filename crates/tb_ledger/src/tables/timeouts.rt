@@ -96,7 +96,7 @@ impl<A: Allocator + Clone> Timeouts<A> {
         Timeouts { keys: None }
     }
 
-    /// Makes capacity for exactly `n` more timeouts. If there is no memory they stay, and no capacity is lost.
+    /// Makes capacity until `n` more timeouts fit. If there is no memory they stay, and no capacity is lost.
     pub fn reserve(&mut self, alloc: &A, n: usize) -> Result<(), AllocError>
         ensures timeouts { self.new.items ≡ self.old.items }
         ensures ok { OnOk result (n ≤ self.new.spare) }

@@ -92,7 +92,7 @@ abbrev pub IfUnserved : Served → Type 0 → Type 0
 IfUnserved (served.Unserved class) P = P
 IfUnserved other P = Unit {0}
 
--- an entry was entered and written, after a mark if one is due; or there was no memory for it, and nothing was written
+-- an entry was entered and written, after a mark if one is due; a failed writer leaves a prefix of this, and without memory nothing was written
 abbrev pub DumpsEntry : Option ℕ → Result (Unit {0}) RunFault → State → State → Entry → Output → Output → Type 0
 DumpsEntry at (Ok done) S T e before after = (T ≡ step (changed_profile (marks_at at S.commit) S) e) × Sent (mark_before (marks_at at S.commit) ++ dumped e) before after
 DumpsEntry at (Err (fault.Frame f)) S T e before after = (f ≡ Device) × CutOff (mark_before (marks_at at S.commit) ++ dumped e) before after
