@@ -49,8 +49,8 @@ enum tb_status {
     TB_TIME_EXHAUSTED = 5,
     /* no record has this id, and the room has 128 bytes */
     TB_ABSENT = 6,
-    /* the room is too small. tb_embed_serve has served the request, tells how many bytes the reply
-       has, and gives it where the same request is sent next */
+    /* the room is too small. tb_embed_serve has served the request, returns the reply's length, and
+       gives the reply if the same request is sent next */
     TB_TOO_SMALL = 7
 };
 /* end of statuses */
@@ -96,7 +96,7 @@ enum tb_reply_status {
     TB_REPLY_STATUS_COLLISION = 5,
     /* it skips a number */
     TB_REPLY_STATUS_NEWER_REQUEST = 6,
-    /* it is new and not yet shown (seats alone answer this) */
+    /* it is new and not yet shown (only seats return this) */
     TB_REPLY_STATUS_NOT_YET = 7
 };
 
@@ -119,9 +119,9 @@ enum tb_fault {
     TB_FAULT_REGISTER_NUMBERS = 7,
     /* another operation has request 0 */
     TB_FAULT_REQUEST_ZERO = 8,
-    /* a device failed: never of bytes */
+    /* a device failed; bytes alone never give this */
     TB_FAULT_DEVICE = 9,
-    /* there was no memory: never of bytes */
+    /* out of memory; bytes alone never give this */
     TB_FAULT_NO_MEMORY = 10,
     /* session, commit and status do not go together */
     TB_FAULT_REPLY_NUMBERS = 11

@@ -64,7 +64,7 @@ const (
 	StatusOlder         Status = 4 // it has a number below the client's last
 	StatusCollision     Status = 5 // it has the last number and another content
 	StatusNewerRequest  Status = 6 // it skips a number
-	StatusNotYet        Status = 7 // it is new and not yet shown (seats alone answer this)
+	StatusNotYet        Status = 7 // it is new and not yet shown (only seats return this)
 )
 
 var statusNames = map[Status]string{
@@ -118,7 +118,7 @@ const (
 	AccountExistsWithDifferentUserData32  CreateAccountResult = 18 // the account of this id has another user_data_32
 	AccountExistsWithDifferentLedger      CreateAccountResult = 19 // the account of this id has another ledger
 	AccountExistsWithDifferentCode        CreateAccountResult = 20 // the account of this id has another code
-	AccountExists                         CreateAccountResult = 21 // this very account is there
+	AccountExists                         CreateAccountResult = 21 // the same account exists already
 )
 
 var createAccountResultNames = map[CreateAccountResult]string{
@@ -177,7 +177,7 @@ const (
 	TransferDebitAccountIDMustNotBeIntMax              CreateTransferResult = 9  // its debit_account_id is the largest number
 	TransferCreditAccountIDMustNotBeZero               CreateTransferResult = 10 // its credit_account_id is 0
 	TransferCreditAccountIDMustNotBeIntMax             CreateTransferResult = 11 // its credit_account_id is the largest number
-	TransferAccountsMustBeDifferent                    CreateTransferResult = 12 // debit and credit account are one
+	TransferAccountsMustBeDifferent                    CreateTransferResult = 12 // debit and credit account are the same
 	TransferPendingIDMustBeZero                        CreateTransferResult = 13 // it has a pending_id, and neither posts nor voids
 	TransferPendingIDMustNotBeZero                     CreateTransferResult = 14 // it posts or voids, and its pending_id is 0
 	TransferPendingIDMustNotBeIntMax                   CreateTransferResult = 15 // it posts or voids, and its pending_id is the largest number
@@ -210,7 +210,7 @@ const (
 	TransferExistsWithDifferentUserData32              CreateTransferResult = 43 // the transfer of this id has another user_data_32
 	TransferExistsWithDifferentTimeout                 CreateTransferResult = 44 // the transfer of this id has another timeout
 	TransferExistsWithDifferentCode                    CreateTransferResult = 45 // the transfer of this id has another code
-	TransferExists                                     CreateTransferResult = 46 // this very transfer is there
+	TransferExists                                     CreateTransferResult = 46 // the same transfer exists already
 	TransferOverflowsDebitsPending                     CreateTransferResult = 47 // it is pending, and the debit account's debits_pending would leave 128 bits
 	TransferOverflowsCreditsPending                    CreateTransferResult = 48 // it is pending, and the credit account's credits_pending would leave 128 bits
 	TransferOverflowsDebitsPosted                      CreateTransferResult = 49 // the debit account's debits_posted would leave 128 bits
@@ -309,12 +309,12 @@ type AccountFlags uint16
 
 // All of AccountFlags.
 const (
-	AccountLinked                     AccountFlags = 1  // the next event stands or falls with this one
-	AccountDebitsMustNotExceedCredits AccountFlags = 2  // what is debited, pending and posted, is at most what is credited for good
-	AccountCreditsMustNotExceedDebits AccountFlags = 4  // what is credited, pending and posted, is at most what is debited for good
+	AccountLinked                     AccountFlags = 1  // linked to the next event: both succeed, or both fail
+	AccountDebitsMustNotExceedCredits AccountFlags = 2  // pending and posted debits together are at most the posted credits
+	AccountCreditsMustNotExceedDebits AccountFlags = 4  // pending and posted credits together are at most the posted debits
 	AccountHistory                    AccountFlags = 8  // kept with the account; it changes nothing here
 	AccountImported                   AccountFlags = 16 // refused as reserved_flag
-	AccountClosed                     AccountFlags = 32 // no transfer enters the account but a void
+	AccountClosed                     AccountFlags = 32 // the account accepts no transfer except a void
 )
 
 var accountFlagNames = []struct {
@@ -357,7 +357,7 @@ type TransferFlags uint16
 
 // All of TransferFlags.
 const (
-	TransferLinked              TransferFlags = 1   // the next event stands or falls with this one
+	TransferLinked              TransferFlags = 1   // linked to the next event: both succeed, or both fail
 	TransferPending             TransferFlags = 2   // the amount is held until the transfer is posted or voided, or expires
 	TransferPostPendingTransfer TransferFlags = 4   // it posts the pending transfer of its pending_id
 	TransferVoidPendingTransfer TransferFlags = 8   // it voids the pending transfer of its pending_id

@@ -51,7 +51,7 @@ export declare const Status: {
   readonly Collision: 5;
   /** It skips a number. */
   readonly NewerRequest: 6;
-  /** It is new and not yet shown (seats alone answer this). */
+  /** It is new and not yet shown (only seats return this). */
   readonly NotYet: 7;
 };
 /** The names of Status. */
@@ -101,7 +101,7 @@ export declare const CreateAccountResult: {
   readonly exists_with_different_ledger: 19;
   /** The account of this id has another code. */
   readonly exists_with_different_code: 20;
-  /** This very account is there. */
+  /** The same account exists already. */
   readonly exists: 21;
 };
 /** The names of CreateAccountResult. */
@@ -133,7 +133,7 @@ export declare const CreateTransferResult: {
   readonly credit_account_id_must_not_be_zero: 10;
   /** Its credit_account_id is the largest number. */
   readonly credit_account_id_must_not_be_int_max: 11;
-  /** Debit and credit account are one. */
+  /** Debit and credit account are the same. */
   readonly accounts_must_be_different: 12;
   /** It has a pending_id, and neither posts nor voids. */
   readonly pending_id_must_be_zero: 13;
@@ -199,7 +199,7 @@ export declare const CreateTransferResult: {
   readonly exists_with_different_timeout: 44;
   /** The transfer of this id has another code. */
   readonly exists_with_different_code: 45;
-  /** This very transfer is there. */
+  /** The same transfer exists already. */
   readonly exists: 46;
   /** It is pending, and the debit account's debits_pending would leave 128 bits. */
   readonly overflows_debits_pending: 47;
@@ -235,23 +235,23 @@ export type CreateTransferResultName = "ok" | "linked_event_failed" | "linked_ev
 
 /** The flags of accounts. */
 export declare const AccountFlags: {
-  /** The next event stands or falls with this one. */
+  /** Linked to the next event: both succeed, or both fail. */
   readonly linked: 1;
-  /** What is debited, pending and posted, is at most what is credited for good. */
+  /** Pending and posted debits together are at most the posted credits. */
   readonly debits_must_not_exceed_credits: 2;
-  /** What is credited, pending and posted, is at most what is debited for good. */
+  /** Pending and posted credits together are at most the posted debits. */
   readonly credits_must_not_exceed_debits: 4;
   /** Kept with the account; it changes nothing here. */
   readonly history: 8;
   /** Refused as reserved_flag. */
   readonly imported: 16;
-  /** No transfer enters the account but a void. */
+  /** The account accepts no transfer except a void. */
   readonly closed: 32;
 };
 
 /** The flags of transfers. */
 export declare const TransferFlags: {
-  /** The next event stands or falls with this one. */
+  /** Linked to the next event: both succeed, or both fail. */
   readonly linked: 1;
   /** The amount is held until the transfer is posted or voided, or expires. */
   readonly pending: 2;

@@ -255,7 +255,7 @@ TYPED = [
     ("an account's flag on a transfer", "create_transfers id=1 flags=history;", "line 1, column 29: history is a flag of accounts only"),
     ("`request=1` without a session", "client=1 request=1 lookup_accounts id=1;", "telovamish: no session was written, and 0 was sent: write session=N too"),
     ("`help WORD`", "help pending", "pending: flag of create_transfers"),
-    ("`help WORD` of a result", "help exists", "exists: result 21 of create_accounts: this very account is there"),
+    ("`help WORD` of a result", "help exists", "exists: result 21 of create_accounts: the same account exists already"),
 ]  # fmt: skip
 
 

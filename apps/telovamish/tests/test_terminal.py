@@ -28,7 +28,7 @@ def test_leaving_an_empty_ledger_does_not_ask(terminal):
 def test_help_of_a_word(terminal):
     terminal.enter("help pending", "pending: flag of create_transfers: the amount is held until")
     terminal.enter(
-        "help exists", "exists: result 21 of create_accounts: this very account is there"
+        "help exists", "exists: result 21 of create_accounts: the same account exists already"
     )
     terminal.enter("help newer_request", "newer_request: status: the request skips a number")
     terminal.enter("help pendin", "pendin: not known; did you mean pending?")

@@ -101,7 +101,7 @@ numbered! {
         Collision = 5 "Collision",
         /// It skips a number.
         NewerRequest = 6 "NewerRequest",
-        /// It is new and not yet shown (seats alone answer this).
+        /// It is new and not yet shown (only seats return this).
         NotYet = 7 "NotYet",
     }
 }
@@ -308,9 +308,9 @@ pub enum Fault {
     RegisterNumbers = 7,
     /// Another operation has request 0.
     RequestZero = 8,
-    /// A device failed: never of bytes.
+    /// A device failed; bytes alone never give this.
     Device = 9,
-    /// There was no memory: never of bytes.
+    /// Out of memory; bytes alone never give this.
     NoMemory = 10,
     /// Session, commit and status do not go together.
     ReplyNumbers = 11,

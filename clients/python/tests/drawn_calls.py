@@ -154,7 +154,7 @@ class Ledger:
         return reply
 
     def created(self, operation, body):
-        """The results of a create: each chain stands or falls as one."""
+        """The results of a create: each chain succeeds or fails as a whole."""
         events = [body[at : at + RECORD] for at in range(0, len(body), RECORD)]
         results, chain = {}, []
         for index, event in enumerate(events):

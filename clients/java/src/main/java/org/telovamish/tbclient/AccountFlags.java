@@ -4,17 +4,17 @@ package org.telovamish.tbclient;
 
 /** The flags of an account. */
 public final class AccountFlags {
-    /** The next event stands or falls with this one. */
+    /** Linked to the next event: both succeed, or both fail. */
     public static final int LINKED = 1;
-    /** What is debited, pending and posted, is at most what is credited for good. */
+    /** Pending and posted debits together are at most the posted credits. */
     public static final int DEBITS_MUST_NOT_EXCEED_CREDITS = 2;
-    /** What is credited, pending and posted, is at most what is debited for good. */
+    /** Pending and posted credits together are at most the posted debits. */
     public static final int CREDITS_MUST_NOT_EXCEED_DEBITS = 4;
     /** Kept with the account; it changes nothing here. */
     public static final int HISTORY = 8;
     /** Refused as reserved_flag. */
     public static final int IMPORTED = 16;
-    /** No transfer enters the account but a void. */
+    /** The account accepts no transfer except a void. */
     public static final int CLOSED = 32;
 
     private static final String[] NAMES = {

@@ -46,7 +46,7 @@ public enum CreateAccountResult implements ResultCode {
     EXISTS_WITH_DIFFERENT_LEDGER(19, "exists_with_different_ledger"),
     /** The account of this id has another code. */
     EXISTS_WITH_DIFFERENT_CODE(20, "exists_with_different_code"),
-    /** This very account is there. */
+    /** The same account exists already. */
     EXISTS(21, "exists");
 
     private final int code;

@@ -28,7 +28,7 @@ public enum CreateTransferResult implements ResultCode {
     CREDIT_ACCOUNT_ID_MUST_NOT_BE_ZERO(10, "credit_account_id_must_not_be_zero"),
     /** Its credit_account_id is the largest number. */
     CREDIT_ACCOUNT_ID_MUST_NOT_BE_INT_MAX(11, "credit_account_id_must_not_be_int_max"),
-    /** Debit and credit account are one. */
+    /** Debit and credit account are the same. */
     ACCOUNTS_MUST_BE_DIFFERENT(12, "accounts_must_be_different"),
     /** It has a pending_id, and neither posts nor voids. */
     PENDING_ID_MUST_BE_ZERO(13, "pending_id_must_be_zero"),
@@ -97,7 +97,7 @@ public enum CreateTransferResult implements ResultCode {
     EXISTS_WITH_DIFFERENT_TIMEOUT(44, "exists_with_different_timeout"),
     /** The transfer of this id has another code. */
     EXISTS_WITH_DIFFERENT_CODE(45, "exists_with_different_code"),
-    /** This very transfer is there. */
+    /** The same transfer exists already. */
     EXISTS(46, "exists"),
     /** It is pending, and the debit account's debits_pending would leave 128 bits. */
     OVERFLOWS_DEBITS_PENDING(47, "overflows_debits_pending"),

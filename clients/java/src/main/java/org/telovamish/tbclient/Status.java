@@ -18,7 +18,7 @@ public enum Status {
     COLLISION(5, "Collision"),
     /** It skips a number. */
     NEWER_REQUEST(6, "NewerRequest"),
-    /** It is new and not yet shown (seats alone answer this). */
+    /** It is new and not yet shown (only seats return this). */
     NOT_YET(7, "NotYet");
 
     private final int code;

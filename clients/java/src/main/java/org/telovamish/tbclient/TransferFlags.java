@@ -4,7 +4,7 @@ package org.telovamish.tbclient;
 
 /** The flags of a transfer. */
 public final class TransferFlags {
-    /** The next event stands or falls with this one. */
+    /** Linked to the next event: both succeed, or both fail. */
     public static final int LINKED = 1;
     /** The amount is held until the transfer is posted or voided, or expires. */
     public static final int PENDING = 2;
