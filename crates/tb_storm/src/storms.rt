@@ -173,7 +173,7 @@ fn settle<J: Naming>(
     Ok(totals)
 }
 
-/// Serves what the ports offer, until each of them is closed.
+/// Serves what the ports offer, until each of them is closed or memory runs out.
 fn serve<J: Naming, R: Wait, W: Wait + Drop, M: Moments + Drop, G: Gate + Drop>(
     rt: &R,
     stage: &Stage,

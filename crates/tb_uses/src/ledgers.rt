@@ -9,8 +9,8 @@ use std::alloc::{AllocError, Allocator, Global};
 use tb_ledger::Ledger;
 use tb_records::{EventResult, Transfer};
 
-/// Enters one transfer at the next moment, and answers what it was refused for, as the one result of its batch: nothing where it
-/// was accepted.
+/// Enters one transfer at the next moment, and returns why it was refused, as the one result of its batch: None if it was
+/// accepted.
 pub fn enter_transfer<A: Allocator + Clone>(
     ledger: &mut Ledger<A>,
     global: Global,

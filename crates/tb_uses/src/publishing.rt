@@ -7,8 +7,8 @@ use std::sync::Wait;
 use tb_published::{Naming, Publisher, Seat, SeatFault, TakeFault, Taken, Told};
 use tb_records::{Reply, Request};
 
-/// Takes a request that comes at a moment: answers what became of it, as `Publisher::take` does, and tells what the copies show
-/// then, which is the whole history, for seats to learn.
+/// Takes a request that comes at a moment: returns what became of it, as `Publisher::take` does, and what the copies show
+/// then, for seats to learn. On Ok that is the whole history.
 pub fn take_and_tell<J: Naming, W: Wait>(
     rt: &W,
     publisher: &mut Publisher<J>,
@@ -25,7 +25,7 @@ pub fn take_and_tell<J: Naming, W: Wait>(
     Ok((taken, publisher.tell()))
 }
 
-/// Learns what was told, and asks for the answer to a request: the one-thread ledger's, after the legal history that the
+/// Learns what was told, and asks for the answer to a request: it is the one-thread ledger's, after the legal history that the
 /// seat has then seen.
 pub fn learn_and_ask<J: Naming>(
     seat: &mut Seat<J>,

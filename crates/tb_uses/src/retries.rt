@@ -20,7 +20,7 @@ pub enum Left {
     NoMemory,
 }
 
-/// Enters a request that comes at a moment, where it is new and there is a time for it.
+/// Enters a request that comes at a moment, if it is new and there is a time for it.
 pub fn enter_once<A: Allocator + Clone>(
     machine: &mut Machine<A>,
     request: Request,

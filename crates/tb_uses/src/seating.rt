@@ -20,8 +20,8 @@ pub fn are_within<J: Naming>(publisher: &Publisher<J>, one: &Seat<J>, two: &Seat
     publisher.beside(one) && publisher.beside(two)
 }
 
-/// Asks two seats the same, and answers both replies: each is the one-thread ledger's after a prefix of the publisher's one
-/// legal history, and that prefix has all that the seat had seen before. None where a seat has seen what is not shown.
+/// Asks two seats the same, and returns both replies: each is the one-thread ledger's after a prefix of the publisher's one
+/// legal history, and that prefix has all that the seat had seen before. None if a seat has seen what is not shown.
 pub fn ask_two<J: Naming>(
     publisher: &Publisher<J>,
     one: &mut Seat<J>,
