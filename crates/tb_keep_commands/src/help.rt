@@ -17,8 +17,8 @@ macro_rules! page {
                                   serves standard input to standard output as tbs run does; each
                                   reply goes out when its entry is on the disk. Makes FILE if it
                                   is not there, and says so; goes on with its history if it is.
-                                  With --existing it makes none: a service starts again so.
-                                  What a crash left behind the entries is copied to
+                                  With --existing it makes no file: services start with it.
+                                  What a crash left after the entries is copied to
                                   FILE.cut-OFFSET-CHECKSUM and cut off; with --drop-torn it is
                                   not copied.
                                   With --progress, and on a terminal, its start is reported"
@@ -26,8 +26,8 @@ macro_rules! page {
   dump FILE [--after COMMIT] [--follow]
                                   writes the history of FILE, as tbs dump does. With --after only
                                   entries above that commit number, without a head. With --follow
-                                  it waits for more, until a write fails or SIGTERM comes. Of a
-                                  log FILE it writes the entries without positions"
+                                  it waits for more, until a write fails or SIGTERM comes. If FILE
+                                  is a log, it writes the entries without positions"
 "
   follow FILE CLIENTS_MAX [PROFILE] [--existing] [--drop-torn]
                                   serves a log of entries with positions; each reply goes out
@@ -38,21 +38,21 @@ macro_rules! page {
                                   serves such a log from its first entry on, in memory"
 "
   check FILE [--quick]            reads all of FILE and prints what is in it, or the damage. With
-                                  --quick only checksums, commit numbers and times are checked,
-                                  in little memory: the ledger is not replayed"
+                                  --quick only frames, checksums, commit numbers and times are
+                                  checked, in little memory: the ledger is not replayed"
 "
-  salvage FILE NEW                copies what is whole before the first damage into NEW, of a
-                                  ledger what can be read behind it too, and prints what is lost
-                                  and where. FILE is a ledger's or a log's. NEW must not exist"
+  salvage FILE NEW                copies what is whole before the first damage into NEW, and what
+                                  can be read after it, and prints what is lost and where. FILE
+                                  is a ledger or a log. NEW must not exist"
 "
-  backup FILE NEW                 the same of a FILE that is whole, else status 6"
+  backup FILE NEW                 the same for a FILE that is whole, otherwise status 6"
 "
 
 CLIENTS_MAX is 1 to 64, PROFILE 1 or 2; a file keeps those that it was made with. FILE is no
 number and does not begin with -: the file 64 is ./64. So is NEW. Options go in any order, each
 once. One run or follow serves a file at a time; the other forms only read it, also while it is
-served. The exit status is 0 where all is done; else a line of standard error names the fault:
-1 Device or NoMemory, 2 Usage or a request that is none, 4 Locked, 5 NotAJournal or Plain,
+served. The exit status is 0 if all is done; otherwise a line of standard error names the fault:
+1 Device or NoMemory, 2 Usage or a refused request, 4 Locked, 5 NotAJournal or Plain,
 6 Damaged, 7 OtherRules, 8 Full, 9 SyncFailed, 10 Gone, 11 NotCopied.
 "
         )
@@ -60,7 +60,7 @@ served. The exit status is 0 where all is done; else a line of standard error na
     (@ all $run:literal $dump:literal $follow:literal $memory:literal $check:literal $salvage:literal $backup:literal $end:literal) => {
         concat!(
             "Usage: tbd FORM\n\n",
-            "Keeps a ledger in a file: what was answered is in the file, whenever the program or the machine ends.\n",
+            "Keeps a ledger in a file: what was acknowledged is in the file, whenever the program or the machine stops.\n",
             $run, $dump, $follow, $memory, $check, $salvage, $backup,
             "\n  FORM --help                     prints the lines of one form\n",
             "  --help, -h, --version",
