@@ -59,7 +59,7 @@ filled_ended pairs session last (Open r) is = tt
 filled_ended pairs session last Idle is = is
 filled_ended pairs session last (Ended r) is = is
 
--- of the open request
+-- the same for the open request
 pub filled_open : (pairs : List (Message × Answer)) (session last : ℕ) (phase : Phase) (r : Message) → IsFilled pairs session last phase → open_request phase ≡ Some r → IsCall r → (n : ℕ) → last ≡ n + 2 → HasReturned pairs session (n + 1)
 filled_open pairs session last Unregistered r is waits call = absurd cc
 filled_open pairs session last (Open s) r is waits call = is (let same : s ≡ r = cc in ap (λ (m : Message). is_register m.body) same ∙ call)

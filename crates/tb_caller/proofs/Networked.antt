@@ -45,7 +45,7 @@ module _ (profile : Profile) (clients_max : ℕ) (mark : Option ℕ) where
       let its = each_among (IsFrameIn h) read.frame given all read.was_given in
       subst (Answered h) (one_reply read.frame its.answer a its.spells read.spells) its.answered
 
-  -- one client, beside the history
+  -- one client, next to the history
   record IsBeside (id : ℕ) (h : List Entry) (d : Endpoint) : Type 0 where
     pub kept : IsKept id d
     pub held : NoneInvented id d.sent h
@@ -81,7 +81,7 @@ module _ (profile : Profile) (clients_max : ℕ) (mark : Option ℕ) where
       pub beside : (id : ℕ) → ours id ≡ true → IsBeside id w.history (w.clients id)
 
     module _ (w : World) (on : IsRun w) where
-      -- of one client's act, to another or to itself
+      -- after one client's act: another client, or itself
       acted_beside : (k : ℕ) (act : Act) → MayAct (w.clients k) act → WasGiven act w.given → (id : ℕ) → ours id ≡ true → IsBeside id w.history (cond (eqb id k) (acted (w.clients k) act) (w.clients id))
       acted_beside k act may was id is_ours = by (eqb id k) refl
         where

@@ -22,7 +22,7 @@ use Rattle.tb_caller.specs.declared.callers.Heard.TheVariants as hearing
 use Rattle.tb_caller.specs.Clients.{Client, fresh, open_request, made, refused_in, call_fault, called, names, heard_by, heard_of, heard, ended_in, moved, received}
 use Rattle.tb_caller.specs.Calls.{IsCall}
 
--- the request of a state with so many calls
+-- the request of a state whose last number is `last`
 pub record IsOf (id session last : ℕ) (r : Message) : Type 0 where
   pub client : r.client ≡ id
   pub lawful : IsTrue (is_lawful r)
@@ -168,7 +168,7 @@ start_ended last (Open r) s = tt
 start_ended last Idle s = tt
 start_ended last (Ended r) s = tt
 
--- with no request that waits
+-- if no request waits
 idle_within : (session last : ℕ) (o : Option Message) (sent : List Message) → Each (IsWithin session last o) sent → Each (IsWithin session last None) sent
 idle_within session last o sent within = each-map (IsWithin session last o) (IsWithin session last None) sent (λ m w call. let its = w call in (its.0, its.1, its.2, tt)) within
 

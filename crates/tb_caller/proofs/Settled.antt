@@ -119,7 +119,7 @@ module _ (profile : Profile) (clients_max : ℕ) (mark : Option ℕ) (id : ℕ) 
       by true is = omega (arith, number_in_row, register_zero is)
       by false is = let w = within is in omega (arith, number_in_row, w.2)
 
-  -- the call before has returned, so that its entry is there
+  -- the call before has returned, so its entry is there
   earlier : (n : ℕ) → last ≡ n + 2 → HasReturned d.returned d.live.session (n + 1) → last ≤ row.request.request + 1
   earlier n is back =
       let entered = each_among (λ (p : Message × Answer). IsOnce profile clients_max mark h p.0 p.1) (back.request, back.answer) d.returned once back.taken in

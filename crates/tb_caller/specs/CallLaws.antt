@@ -16,7 +16,7 @@ use Rattle.tb_caller.specs.Clients.{heard_by, field_fault}
 use Rattle.tb_caller.specs.Endpoints.{Endpoint, Act, MayAct, acted, started, IsAmong}
 use Rattle.tb_caller.specs.Calls.{IsCall, IsRegistered, AreOfOne, IsTaken, NoneInvented, IsAnswered, CallsHold}
 
--- of the client, whatever replies it hears
+-- the client, whatever replies it hears
 
 abbrev pub Acts : Endpoint → List Act → Type 0
 Acts d [] = Unit {0}
@@ -26,7 +26,7 @@ abbrev pub after_acts : Endpoint → List Act → Endpoint
 after_acts d [] = d
 after_acts d (act ∷ acts) = after_acts (acted d act) acts
 
--- of what was sent, the newest first, no call has a greater number than one that was sent later
+-- in what was sent, the newest first, no call has a greater number than one that was sent later
 abbrev pub AreInTurn : List Message → Type 0
 AreInTurn [] = Unit {0}
 AreInTurn (r ∷ older) = (IsCall r → Each (λ (s : Message). IsCall s → s.request ≤ r.request) older) × AreInTurn older
@@ -41,11 +41,11 @@ pub record Sends (id : ℕ) (d : Endpoint) : Type 0 where
 abbrev pub OneClient : Type 0
 OneClient = (id : ℕ) (acts : List Act) → Acts (started id) acts → Sends id (after_acts (started id) acts)
 
--- the fields of a client are always taken up again
+-- the fields of a client's state always read back as a client
 abbrev pub FieldsAreRight : Type 0
 FieldsAreRight = (id : ℕ) (acts : List Act) → Acts (started id) acts → field_fault (after_acts (started id) acts).live ≡ None
 
--- of a history: nothing of the client was invented, and each reply that was taken was given after a prefix of it
+-- a history: nothing of the client was invented, and each reply that was taken was given after a prefix of it
 
 abbrev pub InHistory : Type 0
 InHistory = (profile : Profile) (clients_max : ℕ) (mark : Option ℕ) (id : ℕ) (h : List Entry) (sent : List Message) (returned : List (Message × Answer))
@@ -56,7 +56,7 @@ InHistory = (profile : Profile) (clients_max : ℕ) (mark : Option ℕ) (id : �
     → Each (λ (p : Message × Answer). IsAnswered profile clients_max mark h p.1) returned
     → CallsHold profile clients_max mark id h sent returned
 
--- of a server that reads a script after a legal history: each request of the client in both was sent
+-- a server that reads a script after a legal history: each request of the client in both was sent
 
 abbrev pub InScript : Type 0
 InScript = (profile : Profile) (clients_max id : ℕ) (h : List Entry) (ps : List Pair) (sent : List Message) (returned : List (Message × Answer))
@@ -69,7 +69,7 @@ InScript = (profile : Profile) (clients_max id : ℕ) (h : List Entry) (ps : Lis
     → Each (λ (p : Message × Answer). IsAmong p.1 (replies_from profile clients_max h ps)) returned
     → CallsHold profile clients_max None id (accepted profile clients_max h ps) sent returned
 
--- of several machines that each read one log up to a place of its own: the reply that a machine gave is one to what it had read
+-- several machines that each read one log up to its own place: the reply that a machine gave is one to what it had read
 pub record IsFromLog (profile : Profile) (clients_max : ℕ) (h : List Entry) (log : List Pair) (a : Answer) : Type 0 where
   pub read : List Pair
   pub prefix : IsPrefix read log
@@ -86,8 +86,8 @@ InLog = (profile : Profile) (clients_max id : ℕ) (h : List Entry) (log : List 
     → Each (λ (p : Message × Answer). IsFromLog profile clients_max h log p.1) returned
     → CallsHold profile clients_max None id (accepted profile clients_max h log) sent returned
 
--- a session that was said to be over, after a prefix of the history that has its register: no call under it is entered later,
--- so that what is in the history by then is all that ever will be
+-- a session that was said to be over, after a prefix of the history that has its register: no call under it is entered later, so what is in the
+-- history by then is all that ever will be
 
 abbrev pub OverForGood : Type 0
 OverForGood = (profile : Profile) (clients_max : ℕ) (mark : Option ℕ) (front : List Entry) (register : Entry) (m rest : List Entry) (r : Message)

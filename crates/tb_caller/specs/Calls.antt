@@ -1,4 +1,4 @@
--- What the requests of one client keep among themselves, and what a history then says of them.
+-- What holds among the requests of one client, and what a history then says of them.
 use Rattle.std.specs.Prelude.{ℕ, ◌≡◌, ◌≢◌, ◌+◌, ◌<◌, false, true, IsTrue, List, ◌∷◌, ◌++◌, length, Option}
 use mathlib.Core.List.{IsPrefix}
 use Rattle.tb_records.specs.declared.limits.Profile.{Profile}
@@ -15,7 +15,7 @@ use Rattle.tb_caller.specs.Endpoints.{IsAmong}
 abbrev pub IsCall : Message → Type 0
 IsCall r = is_register r.body ≡ false
 
--- registers, and calls of one session, no two with one number
+-- registers, and calls of one session, no two with the same number
 pub record AreOfOne (id : ℕ) (sent : List Message) : Type 0 where
   pub client : Each (λ (r : Message). r.client ≡ id) sent
   pub lawful : Each (λ (r : Message). IsTrue (is_lawful r)) sent

@@ -21,7 +21,7 @@ use Rattle.tb_caller.specs.declared.callers.Heard.TheVariants as hearing
 
 pub record Client : Type 0 where
   pub id : ℕ
-  pub session : ℕ  -- 0 before there is one
+  pub session : ℕ  -- 0 before it has one
   pub last : ℕ  -- the number of the last request that was made, 0 before
   pub phase : Phase
 
@@ -64,7 +64,7 @@ field_fault c = field_fault_in c.phase c
 abbrev pub made : Client → Body → Message
 made c body = if is_register body then asked c.id 0 0 body else asked c.id c.session (c.last + 1) body
 
--- why it makes none: a client registers first, and once; it has one request at a time; a number has 32 bits
+-- why it makes no request: a client registers first, and once; it has one request at a time; a number has 32 bits
 abbrev pub refused_in : Phase → ℕ → Message → Option CallFault
 refused_in Unregistered last r = if is_register r.body then option_map fault.Frame (number_fault r) else Some fault.NotRegistered
 refused_in (Open s) last r = Some fault.Unanswered
@@ -144,15 +144,15 @@ WritesCall (Ok done) c d body before after =
     (call_fault c body ≡ None) × (d ≡ called c (made c body)) × (after ≡ before ++ request_bytes (made c body)) × IsRequest (made c body)
 WritesCall (Err f) c d body before after = HasFault c body f × (d ≡ c) × (after ≡ before)
 
--- the frame of the request that waits is written, and true says so; without memory for it nothing is written
+-- the frame of the request that waits is written, and the result is true; without memory for it nothing is written
 abbrev pub WritesAgain : {E : Type 0} → Result Bool E → Option Message → List ℕ → List ℕ → Type 0
 WritesAgain (Ok true) (Some r) before after = (after ≡ before ++ request_bytes r) × IsRequest r
 WritesAgain (Ok false) None before after = after ≡ before
 WritesAgain (Err e) (Some r) before after = after ≡ before
 WritesAgain result o before after = ⊥
 
--- the reply whose frame the bytes begin with is taken, and the length of the frame is known; bytes that begin with none change nothing,
--- and their first fault is named
+-- the reply whose frame the bytes begin with is taken, and the length of the frame is known; bytes that begin with no frame change nothing, and their
+-- first fault is named
 abbrev pub ReadsReply : Result (Heard × Answer × ℕ) FrameFault → Client → Client → List ℕ → Type 0
 ReadsReply (Ok (h, a, n)) c d bytes = FoundReply (Ok (a, n)) bytes × (h ≡ heard c a) × (d ≡ received c a)
 ReadsReply (Err f) c d bytes = FoundReply (Err f) bytes × (d ≡ c)

@@ -24,8 +24,8 @@ abbrev pub IsAmong : {X : Type 0} → X → List X → Type 0
 IsAmong x [] = ⊥
 IsAmong x (y ∷ ys) = (x ≡ y) ⊎ IsAmong x ys
 
--- what the client's program has to keep: a call is made where it has no fault; the request that waits is sent, by its frame, and, if a
--- state is stored, once that state has it too; a reply is read after the request was sent
+-- what the client's program has to keep. A call is made only if it has no fault. The request that waits is sent, by its frame; if a state is stored,
+-- only once that state has it too. A reply is read after the request was sent.
 abbrev pub MayAct : Endpoint → Act → Type 0
 MayAct d (Call body) = call_fault d.live body ≡ None
 MayAct d (Send r) = (open_request d.live.phase ≡ Some r) × IfSome d.stored (λ s. open_request s.phase ≡ Some r) × IsRequest r
@@ -40,7 +40,7 @@ returned_by hearing.Ended o a pairs = pairs
 returned_by hearing.Refused o a pairs = pairs
 returned_by hearing.Other o a pairs = pairs
 
--- where nothing is stored there is no other process
+-- if nothing is stored, no other process goes on
 abbrev pub restarted : Option Client → Client → Client
 restarted None c = c
 restarted (Some s) c = s
@@ -52,6 +52,6 @@ acted d (Hear a) = record d { live = received d.live a; returned = returned_by (
 acted d Store = record d { stored = Some d.live }
 acted d Restart = record d { live = restarted d.stored d.live }
 
--- of a client that is new
+-- a client that is new
 abbrev pub started : ℕ → Endpoint
 started id = record { live = fresh id; stored = None; sent = []; returned = [] }

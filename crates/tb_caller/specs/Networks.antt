@@ -23,7 +23,7 @@ use Rattle.tb_caller.specs.CallLaws.{Sends}
 pub record World : Type 0 where
   pub clients : ℕ → Endpoint  -- each client, by its id
   pub history : List Entry
-  pub given : List (List ℕ)  -- the frame of each answer that was given, to whomever
+  pub given : List (List ℕ)  -- the frame of each answer that was given, to any client
 
 -- a loss is a frame that never comes
 pub data Event : Type 0 where
@@ -51,7 +51,7 @@ WasGiven Restart given = Unit {0}
 abbrev pub with_client : (ℕ → Endpoint) → ℕ → Endpoint → ℕ → Endpoint
 with_client clients id d k = if k == id then d else clients k
 
--- the clients that keep the rules, by their ids; whoever else sends uses other ids
+-- the clients that keep the rules, by their ids; any other sender uses other ids
 module _ (profile : Profile) (clients_max : ℕ) (mark : Option ℕ) (ours : ℕ → Bool) where
   -- a frame that was sent may come any number of times, or never, at any time
   abbrev pub MayHappen : World → Event → Type 0

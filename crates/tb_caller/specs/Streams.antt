@@ -14,7 +14,7 @@ pub record IsReadIn (bytes : List ℕ) (a : Answer) : Type 0 where
   pub spelled : Each IsReply earlier
   pub is : IsReply a
 
--- of a server that sent the frames of some replies, or a prefix of their bytes, no other reply is read
+-- a server sent the frames of some replies, or a prefix of their bytes: no other reply is read
 abbrev pub ReadsWhatWasSent : Type 0
 ReadsWhatWasSent = (answers : List Answer) (bytes unsent : List ℕ) (a : Answer)
     → Each IsReply answers

@@ -28,9 +28,9 @@ pub enum Heard {
     Returned,
     /// The session is over.
     Ended,
-    /// The request was refused now, which says nothing of an earlier sending.
+    /// The request was refused now; an earlier sending may have been executed.
     Refused,
-    /// It is for no request that waits.
+    /// It is not for the request that waits, or no request waits.
     Other,
 }
 
@@ -205,7 +205,7 @@ impl Caller {
         self.phase.open()
     }
 
-    /// The request that a call makes; or why it makes none.
+    /// The request that a call makes; or why it makes no request.
     fn next_request(&self, body: Body) -> Result<Request, CallFault>
         ensures { IsMade result self.now body }
     {
@@ -243,7 +243,7 @@ impl Caller {
         self.phase = Phase::Open(request);
     }
 
-    /// Makes the next request, a register first; or says why there is none, and stays as it was.
+    /// Makes the next request, a register first; or returns why it can't, and stays as it was.
     pub fn make_request(&mut self, body: Body) -> Result<(), CallFault>
         ensures { Makes result self.old self.new body }
     {
@@ -262,8 +262,8 @@ impl Caller {
         Ok(())
     }
 
-    /// Appends the frame of the request that waits, the same bytes each time; false if none waits. Without memory for all of it
-    /// the vector stays as it was.
+    /// Appends the frame of the request that waits, the same bytes each time; false if no request waits. Without memory for
+    /// all of it the vector stays as it was.
     pub fn again(&self, out: &mut Vec<u8>) -> Result<bool, AllocError>
         ensures { WritesAgain result (open_request self.now.phase) out.old.items out.new.items }
     {
@@ -292,7 +292,7 @@ impl Caller {
         }
     }
 
-    /// Takes a reply that came, and says what it is for the request that waits.
+    /// Takes a reply that came, and returns what it is for the request that waits.
     pub fn take_reply(&mut self, reply: &Reply) -> Heard
         ensures heard { result ≡ heard self.old reply.now }
         ensures moved { self.new ≡ received self.old reply.now }
@@ -314,8 +314,9 @@ impl Caller {
         heard
     }
 
-    /// Reads the reply whose frame the bytes begin with, and takes it: what it is for the request that waits, the reply, and the
-    /// length of its frame. If the bytes begin with no frame, their first fault is named, and the client stays as it was.
+    /// Reads the reply whose frame the bytes begin with, and takes it. Returns what it is for the request that waits, the
+    /// reply, and the length of its frame. If the bytes begin with no frame, their first fault is returned, and the client
+    /// stays as it was.
     pub fn received(
         &mut self,
         alloc: Global,

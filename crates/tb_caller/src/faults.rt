@@ -1,4 +1,4 @@
-//! Why a call makes no request, and why fields are those of no client.
+//! Why a call makes no request, and why no client has some fields.
 ghost use Rattle.std.specs.Prelude.{◌≡◌, Some};
 ghost use Rattle.tb_caller.specs.Faults.{call_fault_name, field_fault_name};
 
@@ -27,7 +27,7 @@ pub enum CallFault {
 }
 
 impl CallFault {
-    /// The fault's name, as a message shows it: of a frame's fault that fault's own.
+    /// The fault's name, as a message shows it; for a frame's fault, that fault's own name.
     pub fn name(self) -> &'static str
         ensures { result.now ≡ call_fault_name self }
     {
@@ -61,7 +61,7 @@ impl fmt::Display for CallFault {
     }
 }
 
-/// Why fields are those of no client.
+/// Why no client has the fields.
 #[derive(Clone, Copy, Debug, PartialEq, Eq, Error)]
 pub enum FieldFault {
     /// A client that has not registered has session 0 and number 0.

@@ -5,8 +5,8 @@ ghost use Rattle.tb_caller.specs.Streams.{ReadsWhatWasSent};
 ghost use Rattle.tb_caller.specs.Worked.{BothReturn};
 
 /// Whatever it hears, and wherever its process ends: all that a client sends is its one register, and calls of one session,
-/// no two with one number, numbers in the order of sending. Each has a frame. The session is that of a register's reply. A reply is taken
-/// for a request that was sent, and has its client and its number.
+/// no two with the same number, numbers in the order of sending. Each has a frame. The session is that of a register's
+/// reply. A reply is taken for a request that was sent, and has its client and its number.
 pub fn one_client()
     ensures { OneClient }
 {}
@@ -16,13 +16,13 @@ pub fn fields_are_right()
     ensures { FieldsAreRight }
 {}
 
-/// Of a server that sent the frames of some replies, one after another, or a prefix of these bytes, no other reply is read.
+/// A server sent the frames of some replies, one after another, or a prefix of these bytes: no other reply is read.
 pub fn reads_what_was_sent()
     ensures { ReadsWhatWasSent }
 {}
 
-/// In a legal history into which nothing of a client was invented: what returned a reply that was given after a prefix of
-/// the history is there once, and its entry gave this reply; any other call is there at most once; calls are in their order.
+/// In a legal history with nothing invented of a client: a request that returned a reply, given after a prefix of the history,
+/// is there once, and its entry gave this reply. Any other call is there at most once. Calls are in their order.
 pub fn in_history()
     ensures { InHistory }
 {}
@@ -32,25 +32,25 @@ pub fn in_script()
     ensures { InScript }
 {}
 
-/// The same for several machines that read one log, each up to a place of its own, by the replies of any of them.
+/// The same for several machines that read one log, each up to its own place, by the replies of any of them.
 pub fn in_log()
     ensures { InLog }
 {}
 
-/// Once a client's session was said to be over, after a prefix of the history that has its register, no call under it is
-/// entered any more: what is in the history by then is all that ever will be.
+/// Once a client's session was said to be over, after a prefix of the history that has its register, no later call under it
+/// is entered: what is in the history by then is all that ever will be.
 pub fn over_for_good()
     ensures { OverForGood }
 {}
 
-/// Both ends together, with frames between them: any number of clients with ids of their own, whatever the network loses, repeats or
-/// delays, and whoever else uses the server.
+/// Both ends together, with frames between them: any number of clients with ids of their own, whatever the network loses,
+/// repeats or delays, and whatever other clients use the server.
 pub fn calls_once()
     ensures { CallsOnce }
 {}
 
-/// While its session is in the server's table, the call that a client waits for is entered next, or has its reply: one more sending
-/// finds out which, and is refused only if there is no time left.
+/// While its session is in the server's table, the call that a client waits for is entered next, or has its reply. One more
+/// sending finds out which, and is refused only if there is no time left.
 pub fn never_refused()
     ensures { NeverRefused }
 {}

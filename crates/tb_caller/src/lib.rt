@@ -1,6 +1,6 @@
 //! One client's session as data: what it may send, and what it takes for a reply.
 //!
-//! - `faults`: `CallFault`, why a call makes no request; `FieldFault`, why stored fields are those of no client.
+//! - `faults`: `CallFault`, why a call makes no request; `FieldFault`, why no client has some stored fields.
 //! - `callers`: `Caller`, the state of a session, which calls and replies move on, as values or as frames.
 //! - `laws`: the laws of a client, a network and a server: functions that do nothing.
 //!

@@ -54,7 +54,7 @@ module _ (tells : Type 0) {D : Type 0} (disk : D → Disk) (id : ℕ) (sent : Li
     pub none : NoneInvented id sent k.entries
     pub given : (a : Answer) → WasSentIn runs a → IsAnswered k.profile k.clients_max None k.entries a
 
-  -- of one run
+  -- one run
   module _ (h : History) (r : Run D) (keepable : IsKeepable h) (is : IsRunFrom tells disk h r) where
     stands : IsLedger (longer h (entries_from (history_state h) is.backs.pairs)) r.file
     stands = lasts tells disk h r.first r.all r.file r.bytes keepable is.began is.state is.served is.backs

@@ -25,7 +25,7 @@ WasSentIn [] a = ⊥
 WasSentIn (r ∷ runs) a = IsReadIn r.bytes a ⊎ WasSentIn runs a
 
 module _ (tells : Type 0) {D : Type 0} (disk : D → Disk) where
-  -- it began with the file of a history, and whatever it acknowledged is in the file that it left
+  -- it began with the file of a history, and all that it acknowledged is in the file that it left
   pub record IsRunFrom (h : History) (r : Run D) : Type 0 where
     pub began : recorded (disk r.first.device).seen ≡ records_of h
     pub state : r.first.state ≡ history_state h

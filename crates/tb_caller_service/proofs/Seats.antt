@@ -1,4 +1,4 @@
--- What a seat answers is an answer after a prefix of the history.
+-- What a seat returns is an answer after a prefix of the history.
 use Rattle.std.proofs.Common.{List, None}
 use Rattle.tb_records.specs.Messages.{Message, Answer}
 use Rattle.tb_records.proofs.ByKey.{each-map}

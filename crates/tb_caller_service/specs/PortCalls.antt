@@ -1,4 +1,4 @@
--- A client of a server that takes requests from ports, and is asked by seats.
+-- A client of a server that takes requests from ports, and whose seats are asked.
 use Rattle.std.specs.Prelude.{ℕ, ◌≡◌, ◌<◌, List, None}
 use Rattle.std.specs.List.{All}
 use Rattle.tb_records.specs.Messages.{Message, Answer}
@@ -14,7 +14,7 @@ use Rattle.tb_caller_service.specs.SeatCalls.{IsFromSeat}
 abbrev pub OffersSent : ℕ → List Message → ℕ → (ℕ → List Message) → Type 0
 OffersSent id sent count offered = (p : ℕ) → p < count → All (λ (r : Message). r.client ≡ id → IsAmong r sent) (offered p)
 
--- a run begins with the history `before`, and ends with another that what its ports offered led to
+-- a run begins with the history `before`, and ends with another, which comes from what its ports offered
 abbrev pub InService : Type 0
 InService = (o : Opening) (before h : List Entry) (count : ℕ) (offered : ℕ → List Message) (id : ℕ) (sent : List Message) (returned : List (Message × Answer))
     → LegalIn o h

@@ -7,7 +7,7 @@ use Rattle.tb_machine.specs.declared.entries.Entry.{Entry}
 use Rattle.tb_published.specs.Openings.{Opening, LegalIn, AnswersIn}
 use Rattle.tb_caller.specs.Calls.{AreOfOne, IsTaken, NoneInvented, CallsHold}
 
--- what a seat answered that had seen a prefix of the history, as its contract says it
+-- what a seat returned that had seen a prefix of the history, as its contract says
 pub record IsFromSeat (o : Opening) (h : List Entry) (a : Answer) : Type 0 where
   pub seen : List Entry
   pub request : Message

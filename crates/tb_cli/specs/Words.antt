@@ -27,7 +27,7 @@ abbrev pub is_option : List ℕ → Bool
 is_option [] = false
 is_option (first ∷ rest) = first == 45
 
--- one digit or more, and nothing else: no name of a file. `./64` names the file `64`
+-- one or more digits, and nothing else: not the name of a file. `./64` names the file `64`
 abbrev pub is_number : List ℕ → Bool
 is_number word = nat_lt 0 (length word) && list_all is_ascii_digit word
 
@@ -78,7 +78,7 @@ abbrev pub operand_next : Reader → Option Operand → ℕ → List ℕ → Res
 operand_next reader None at word = Err fault.TooMany
 operand_next reader (Some next) at word = operand_read reader next (with_operand reader.given next at word)
 
--- one word more: the value of the option before it, an option, or an operand
+-- one more word: the value of the option before it, an option, or an operand
 abbrev pub with_word : FormName → Reader → ℕ → List ℕ → Result Reader Fault
 with_word name reader at word =
     if reader.waits then value_read reader (with_value reader.given word)
@@ -89,13 +89,13 @@ abbrev pub operands_end : FormName → Reader → ℕ → Option Operand → Res
 operands_end name reader at None = Ok reader.given
 operands_end name reader at (Some next) = if is_optional next then Ok reader.given else Err (record { shown = at; fault = fault.Missing name next })
 
--- the words end: no value is missing, and no operand but one that may be omitted
+-- the words end: no value is missing, and no operand except one that may be omitted
 abbrev pub at_end : FormName → Reader → ℕ → Result Given Wrong
 at_end name reader at =
     if reader.waits then Err (record { shown = at; fault = fault.NoValue })
     else operands_end name reader at (slice_get (operands_of name) reader.operands)
 
--- what words give for a form, the first of them at a place, behind what was read
+-- what words give for a form, after what was read; the first of them has this place
 abbrev pub reads : FormName → Reader → ℕ → List (List ℕ) → Result Given Wrong
 reads name reader at [] = at_end name reader at
 reads name reader at (word ∷ rest) =
@@ -116,7 +116,7 @@ abbrev pub form_given : FormName → Result Given Wrong → Result Asked Wrong
 form_given name (Ok given) = Ok (Form name given)
 form_given name (Err wrong) = Err wrong
 
--- words behind that of a form: one of them asks for help, or they are what the form takes
+-- words after that of a form: one of them asks for help, or they are what the form takes
 abbrev pub asked_by : Option FormName → List (List ℕ) → Result Asked Wrong
 asked_by None rest = Err (record { shown = 1; fault = fault.NoForm })
 asked_by (Some name) rest = if list_any is_help rest then Ok (Help name) else form_given name (reads name first_reader 1 rest)
@@ -125,11 +125,11 @@ asked_by (Some name) rest = if list_any is_help rest then Ok (Help name) else fo
 abbrev pub form_named : List FormName → List ℕ → Option FormName
 form_named forms word = find (λ known. pointwise nat_eq (form_word known) (whole_word word)) forms
 
--- the word at a place; an empty one where there is none
+-- the word at a place; an empty one if there is no word
 abbrev pub word_at : List (List ℕ) → ℕ → List ℕ
 word_at words at = get_or words at []
 
--- the word of a place that is given; an empty one where none is
+-- the word of a place that is given; an empty one if no place is given
 abbrev pub given_word : List (List ℕ) → Option ℕ → List ℕ
 given_word words None = []
 given_word words (Some at) = word_at words at
@@ -141,7 +141,7 @@ asked_of forms words =
     else asked_by (form_named forms (word_at words 0)) (drop 1 words)
 
 -- what a line shows of a fault
--- no FILE is given, and nothing behind it
+-- no FILE is given, and nothing after it
 abbrev pub file_text : FormName → List ℕ
 file_text form.Run = codes "FILE and CLIENTS_MAX are missing"
 file_text form.Follow = codes "FILE and CLIENTS_MAX are missing"

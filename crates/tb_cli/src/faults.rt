@@ -5,20 +5,20 @@ ghost use Rattle.tb_cli.specs.Words.{word_fault_text, file_text};
 use crate::table::{FormName, Operand};
 use tb_commands::with_clients_range;
 
-/// What is wrong with a word, or missing behind the last one.
+/// What is wrong with a word, or missing after the last one.
 #[derive(Clone, Copy, Debug, PartialEq, Eq)]
 pub enum Fault {
-    /// It is the word of no form.
+    /// No form has this word.
     NoForm,
-    /// It is no option of the form.
+    /// The form has no such option.
     NoOption(FormName),
     /// The option was given before.
     Twice,
     /// It is not of the operand's kind.
     Wrong(Operand),
-    /// It is no value of the option before it.
+    /// It is not a value of the option before it.
     WrongValue,
-    /// The form has no operand more.
+    /// The form has no more operands.
     TooMany,
     /// This operand of the form is missing.
     Missing(FormName, Operand),
@@ -26,14 +26,14 @@ pub enum Fault {
     NoValue,
 }
 
-/// Which word is wrong: the last one of so many; and what is wrong with it, or missing behind it.
+/// Which word is wrong: the last of the `shown` first ones; and what is wrong with it, or missing after it.
 #[derive(Clone, Copy, Debug, PartialEq, Eq)]
 pub struct Wrong {
     pub shown: usize,
     pub fault: Fault,
 }
 
-/// What is missing where no FILE is given.
+/// What is missing if no FILE is given.
 fn missing_file(form: FormName) -> &'static str
     ensures { result.now ≡ file_text form }
 {
@@ -45,7 +45,7 @@ fn missing_file(form: FormName) -> &'static str
 }
 
 impl Fault {
-    /// What is wrong, as a line shows it behind the words.
+    /// What is wrong, as a line shows it after the words.
     pub fn text(self) -> &'static str
         ensures { result.now ≡ word_fault_text self }
     {
@@ -82,5 +82,5 @@ impl Fault {
 /// What is wrong with a number of clients that is out of its range.
 pub const CLIENTS_WRONG: &str = with_clients_range!("CLIENTS_MAX is ", "");
 
-/// What is wrong where no number of clients is given.
+/// What is wrong if no number of clients is given.
 pub const CLIENTS_MISSING: &str = with_clients_range!("CLIENTS_MAX is missing, ", "");

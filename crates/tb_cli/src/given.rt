@@ -12,7 +12,7 @@ pub struct Given {
     pub file: Option<usize>,
     pub new: Option<usize>,
     pub clients_max: Option<ClientsMax>,
-    /// 1 where it is omitted.
+    /// 1 if it is omitted.
     pub profile: Profile,
     pub existing: bool,
     pub progress: bool,
@@ -37,14 +37,14 @@ pub const NOTHING: Given = Given {
     after: None,
 };
 
-/// Says that a word is digits alone.
+/// Says that a word is one or more digits, and nothing else.
 fn is_number(word: &[u8]) -> bool
     ensures { result ≡ is_number word.now }
 {
     !word.is_empty() && word.iter().all(|byte| byte.is_ascii_digit())
 }
 
-/// What is given, with the word at a place for an operand; None where the word is not of its kind.
+/// What is given, with the word at a place for an operand; None if the word is not of its kind.
 pub(crate) fn with_operand(given: Given, operand: Operand, at: usize, word: &str) -> Option<Given>
     ensures { result ≡ with_operand given operand at word.now }
 {
@@ -71,7 +71,7 @@ pub(crate) fn with_operand(given: Given, operand: Operand, at: usize, word: &str
     }
 }
 
-/// What is given, with an option; None where it was given before.
+/// What is given, with an option; None if it was given before.
 pub(crate) fn with_option(given: Given, option: OptionName) -> Option<Given>
     ensures { result ≡ with_option given option }
 {
@@ -101,7 +101,7 @@ pub(crate) fn with_option(given: Given, option: OptionName) -> Option<Given>
     }
 }
 
-/// What is given, with the value of an option; None where the word is no commit number.
+/// What is given, with the value of an option; None if the word is not a commit number.
 pub(crate) fn with_value(given: Given, word: &str) -> Option<Given>
     ensures { result ≡ with_value given word.now }
 {

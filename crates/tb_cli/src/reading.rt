@@ -29,7 +29,7 @@ pub struct Reader {
     pub waits: bool,
 }
 
-/// Before the first word behind a form's.
+/// Before the first word after a form's.
 const START: Reader = Reader {
     given: NOTHING,
     operands: 0,
@@ -46,7 +46,7 @@ fn is_option(word: &str) -> bool
     }
 }
 
-/// Behind a word that is the value of the option before it.
+/// After a word that is the value of the option before it.
 fn read_value(reader: Reader, word: &str) -> Result<Reader, Fault>
     ensures { result ≡ value_read reader (with_value reader.given word.now) }
 {
@@ -67,7 +67,7 @@ fn find_option(form: FormName, word: &str) -> Option<&'static OptionName>
     form.options().iter().find(|known| known.word() == word)
 }
 
-/// Behind a word that begins with `-`.
+/// After a word that begins with `-`.
 fn read_option(form: FormName, reader: Reader, word: &str) -> Result<Reader, Fault>
     ensures { result ≡ option_named form reader (find (λ known. pointwise nat_eq (option_word known) word.now) (options_of form)) }
 {
@@ -85,7 +85,7 @@ fn read_option(form: FormName, reader: Reader, word: &str) -> Result<Reader, Fau
     }
 }
 
-/// Behind a word that is to be the next operand.
+/// After a word that is to be the next operand.
 fn read_operand(form: FormName, reader: Reader, at: usize, word: &str) -> Result<Reader, Fault>
     ensures { result ≡ operand_next reader (slice_get (operands_of form) reader.operands) at word.now }
 {
@@ -103,7 +103,7 @@ fn read_operand(form: FormName, reader: Reader, at: usize, word: &str) -> Result
     }
 }
 
-/// Behind one word more.
+/// After one more word.
 fn read_word(form: FormName, reader: Reader, at: usize, word: &str) -> Result<Reader, Fault>
     ensures { result ≡ with_word form reader at word.now }
 {
@@ -116,7 +116,7 @@ fn read_word(form: FormName, reader: Reader, at: usize, word: &str) -> Result<Re
     read_operand(form, reader, at, word)
 }
 
-/// What is given where the words end.
+/// What is given when the words end.
 fn read_end(form: FormName, reader: Reader, at: usize) -> Result<Given, Wrong>
     ensures { result ≡ at_end form reader at }
 {
@@ -184,7 +184,7 @@ fn with_form(form: FormName, given: Result<Given, Wrong>) -> Result<Asked, Wrong
     }
 }
 
-/// What the words ask for, of which the first one is that of a form.
+/// What the words ask for, if the first one is that of a form.
 fn ask(form: FormName, words: &[String]) -> Result<Asked, Wrong>
     requires { 1 ≤ length words.now }
     ensures { result ≡ asked_by (Some form) (map string_bytes (drop 1 words.now)) }
@@ -195,7 +195,7 @@ fn ask(form: FormName, words: &[String]) -> Result<Asked, Wrong>
     with_form(form, read_from(form, words, 1))
 }
 
-/// The word at a place; an empty one where there is none.
+/// The word at a place; an empty one if there is no word.
 fn word_at(words: &[String], at: usize) -> &str
     ensures { result.now ≡ word_at (map string_bytes words.now) at }
 {
@@ -205,7 +205,7 @@ fn word_at(words: &[String], at: usize) -> &str
     }
 }
 
-/// The word of a place that is given; an empty one where none is.
+/// The word of a place that is given; an empty one if no place is given.
 pub fn given_word(words: &[String], at: Option<usize>) -> &str
     ensures { result.now ≡ given_word (map string_bytes words.now) at }
 {

@@ -28,7 +28,7 @@ pub enum FormName {
 /// An operand of a form.
 #[derive(Clone, Copy, Debug, PartialEq, Eq)]
 pub enum Operand {
-    /// The name of a file: no number. `./64` names the file `64`.
+    /// The name of a file, which is not a number. `./64` names the file `64`.
     File,
     /// The name of a new file.
     New,

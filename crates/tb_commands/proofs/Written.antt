@@ -5,7 +5,7 @@ use Rattle.tb_records.specs.declared.faults.FrameFault.TheVariants as frame
 use Rattle.tb_records.specs.Transport.{Output, Sent, CutOff}
 use Rattle.tb_commands.specs.ExitStatuses.{PrintsLine}
 
--- what a writer answers, a line's own answer leaves out
+-- a line was printed, whatever its writer returned
 pub printed_by : (result : Result (Unit {0}) FrameFault) (line : List ℕ) (before after : Output)
     → MatchResult result (λ _. Sent line before after) (λ f. (f ≡ frame.Device) × CutOff line before after) → PrintsLine line before after
 printed_by (Ok done) line before after sent = inl sent

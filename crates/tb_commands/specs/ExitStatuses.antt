@@ -1,5 +1,4 @@
--- The exit status of each outcome: 0 done, 1 a device or memory failed, 2 the input or the arguments are wrong. And the line
--- that a fault is reported by.
+-- The exit status of each outcome: 0 done, 1 a device or memory failed, 2 the input or the arguments are wrong. And the line that reports a fault.
 use Rattle.std.specs.Prelude.{ℕ, ◌≡◌, ◌⊎◌, ◌++◌, List, Some, None, Result, Ok, Err, codes, map, string_bytes}
 use Rattle.std.specs.declared.alloc.Global.{Global}
 use Rattle.std.specs.declared.string.String.{String}
@@ -44,7 +43,7 @@ fault_exit_status Usage = 2
 fault_exit_status (Serving fault) = run_exit_status fault
 fault_exit_status (Replaying fault) = dump_exit_status fault
 
--- the exit status of a form that was done, or not to its end
+-- the exit status of a form that was done, or ended with a fault
 abbrev pub outcome_exit_status : Result ℕ CommandFault → ℕ
 outcome_exit_status (Ok count) = 0
 outcome_exit_status (Err fault) = fault_exit_status fault
@@ -62,16 +61,16 @@ line_named name = codes "tbs: " ++ name ++ codes "\n"
 abbrev pub fault_line : CommandFault → List ℕ
 fault_line fault = line_named (command_fault_name fault)
 
--- a line was written, or a prefix of it, where the writer failed or took nothing
+-- a line was written; or a prefix of it, if the writer failed or took nothing
 abbrev pub PrintsLine : List ℕ → Output → Output → Type 0
 PrintsLine line before after = Sent line before after ⊎ CutOff line before after
 
--- nothing is reported of a form that was done, and of a fault its line
+-- nothing is reported for a form that was done, and its line for a fault
 abbrev pub Prints : Result ℕ CommandFault → Output → Output → Type 0
 Prints (Ok count) before after = after ≡ before
 Prints (Err fault) before after = PrintsLine (fault_line fault) before after
 
--- what a form was served with: the number of replies, or of entries, or the fault that came
+-- what a form did, and its outcome: the number of replies or of entries, or the fault that came
 abbrev pub Performs : Form → Result ℕ CommandFault → Input → Input → Output → Output → Type 0
 Performs (Run clients_max profile) (Ok count) before after start written = Ran profile clients_max (Ok count) before after start written
 Performs (Run clients_max profile) (Err (Serving fault)) before after start written = Ran profile clients_max (Err fault) before after start written
@@ -81,7 +80,7 @@ Performs Replay (Ok count) before after start written = ReplayRan (Ok count) bef
 Performs Replay (Err (Replaying fault)) before after start written = ReplayRan (Err fault) before after start written
 Performs form outcome before after start written = ⊥
 
--- of what a reader gave and a writer took
+-- the same for what a reader gave and a writer took
 abbrev pub PerformsOn : {R W : Type 0} → sources.Ghosts R → sinks.Ghosts W → Form → Result ℕ CommandFault → R → R → W → W → Type 0
 PerformsOn source sink form outcome before after start written =
     Performs form outcome (source.input before) (source.input after) (sink.output start) (sink.output written)
@@ -90,7 +89,7 @@ PerformsOn source sink form outcome before after start written =
 abbrev pub RefusesWords : {R W : Type 0} → List (String Global) → ℕ → R → R → W → W → Type 0
 RefusesWords words exit_status before after start written = form_of (map string_bytes words) ≡ None → (exit_status ≡ 2) × (after ≡ before) × (written ≡ start)
 
--- and the line of usage is reported
+-- words that ask for no form: the line of usage is reported
 abbrev pub PrintsUsage : {E : Type 0} → sinks.Ghosts E → List (String Global) → E → E → Type 0
 PrintsUsage lines words quiet told = form_of (map string_bytes words) ≡ None → PrintsLine (fault_line Usage) (lines.output quiet) (lines.output told)
 
@@ -101,12 +100,12 @@ pub record Exits (form : Form) (exit_status : ℕ) (before after : Input) (start
   pub exit_status_is : exit_status ≡ outcome_exit_status outcome
   pub line : Prints outcome quiet told
 
--- the form that words ask for was served, where they ask for one
+-- the form that words ask for was served, if they ask for one
 abbrev pub ServesWords : List (List ℕ) → ℕ → Input → Input → Output → Output → Output → Output → Type 0
 ServesWords words exit_status before after start written quiet told =
     (form : Form) → form_of words ≡ Some form → Exits form exit_status before after start written quiet told
 
--- of what a reader gave, and a writer and a writer of lines took, before and after a call
+-- the same for what a reader gave, and a writer and a writer of lines took, before and after a call
 abbrev pub On : {R W E : Type 0} → sources.Ghosts R → sinks.Ghosts W → sinks.Ghosts E
     → (Input → Input → Output → Output → Output → Output → Type 0) → R → R → W → W → E → E → Type 0
 On source sink lines Does first last start written quiet told =

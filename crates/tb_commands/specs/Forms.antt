@@ -12,21 +12,21 @@ use Rattle.tb_commands.specs.declared.arguments.Form.TheVariants.{Run, Dump, Rep
 abbrev pub digit_of : ℕ → Option ℕ
 digit_of byte = if nat_le 48 byte && nat_le byte 57 then Some (byte - 48) else None
 
--- the number that digits spell behind those that spelled n
+-- the number of the digits, after those whose number is n
 abbrev pub number_from : ℕ → List ℕ → Option ℕ
 number_from n [] = Some n
 number_from n (byte ∷ bytes) = option_and_then (λ digit. number_from (n * 10 + digit) bytes) (digit_of byte)
 
--- the number that a word spells: one or more digits, leading zeros allowed
+-- the number of a word: one or more digits, leading zeros allowed
 abbrev pub number_of : List ℕ → Option ℕ
 number_of [] = None
 number_of (byte ∷ bytes) = number_from 0 (byte ∷ bytes)
 
--- a number with one digit more, where it is at most `high`
+-- a number with one more digit, if it is at most `high`
 abbrev pub with_digit : ℕ → ℕ → ℕ → Option ℕ
 with_digit n byte high = option_and_then (λ digit. if nat_le (n * 10 + digit) high then Some (n * 10 + digit) else None) (digit_of byte)
 
--- the number, where it is in the range
+-- the number, if it is in the range
 abbrev pub within : ℕ → ℕ → Option ℕ → Option ℕ
 within low high None = None
 within low high (Some n) = if nat_le low n && nat_le n high then Some n else None

@@ -10,7 +10,7 @@ pub enum Form {
     /// Serve a script.
     Run(ClientsMax, Profile),
     /// Serve a script, and write the history that it makes, with a mark before the first entry whose commit number is above
-    /// the one that is given.
+    /// the given one.
     Dump(ClientsMax, Option<u64>),
     /// Replay a dump.
     Replay,
@@ -28,7 +28,7 @@ fn digit(byte: u8) -> Option<u128>
     }
 }
 
-/// A number with one digit more, where it is at most `high`.
+/// A number with one more digit, if it is at most `high`.
 fn with_digit(n: u128, byte: u8, high: u128) -> Option<u128>
     ensures { result ≡ with_digit n byte high }
 {
@@ -36,7 +36,7 @@ fn with_digit(n: u128, byte: u8, high: u128) -> Option<u128>
     if n <= high { Some(n) } else { None }
 }
 
-/// The number that a word spells, where it is at most `high`.
+/// The number of a word, if it is at most `high`.
 fn number_up_to(word: &[u8], high: u128) -> Option<u128>
     ensures { result ≡ within 0 high (number_of word.now) }
 {
@@ -50,7 +50,7 @@ fn number_up_to(word: &[u8], high: u128) -> Option<u128>
     Some(n)
 }
 
-/// The number that a word spells, where it is from `low` to `high`.
+/// The number of a word, if it is from `low` to `high`.
 pub fn number(word: &[u8], low: u64, high: u64) -> Option<u64>
     ensures { result ≡ within low high (number_of word.now) }
 {
@@ -60,14 +60,15 @@ pub fn number(word: &[u8], low: u64, high: u64) -> Option<u64>
     }
 }
 
-/// The id that a word spells.
+/// The id of a word.
 pub fn read_id(word: &[u8]) -> Option<u128>
     ensures { result ≡ id_of word.now }
 {
     number_up_to(word, u128::MAX)
 }
 
-/// Two texts with the range of a number of clients between them, 1 to `CLIENTS_MAX`: each message and each page of usage says it so.
+/// Two texts with the range of a number of clients between them, 1 to `CLIENTS_MAX`: each message and each page of usage
+/// shows it so.
 #[macro_export]
 macro_rules! with_clients_range {
     ($before:literal, $behind:literal) => {
@@ -75,14 +76,14 @@ macro_rules! with_clients_range {
     };
 }
 
-/// The number of clients that a word spells, from 1 to `CLIENTS_MAX`.
+/// The number of clients of a word, from 1 to `CLIENTS_MAX`.
 pub fn read_clients_max(word: &[u8]) -> Option<ClientsMax>
     ensures { result ≡ clients_of word.now }
 {
     ClientsMax::new(number(word, 1, CLIENTS_MAX as u64)? as u32)
 }
 
-/// The profile that a word spells, 1 or 2.
+/// The profile of a word, 1 or 2.
 pub fn read_profile(word: &[u8]) -> Option<Profile>
     ensures { result ≡ profile_word word.now }
 {
@@ -119,7 +120,7 @@ fn form_with(word: &str, clients_max: &str) -> Option<Form>
     }
 }
 
-/// What a word with the number of clients and one number more asks for.
+/// What a word with the number of clients and one more number asks for.
 fn form_with_two(word: &str, clients_max: &str, last: &str) -> Option<Form>
     ensures { result ≡ form_with_two word.now clients_max.now last.now }
 {
@@ -131,7 +132,7 @@ fn form_with_two(word: &str, clients_max: &str, last: &str) -> Option<Form>
     }
 }
 
-/// What the words ask for; None where they are none of the three forms.
+/// What the words ask for; None if they are not one of the three forms.
 pub fn read_form(words: &[String]) -> Option<Form>
     ensures { result ≡ form_of (map string_bytes words.now) }
 {

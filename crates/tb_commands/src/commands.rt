@@ -12,10 +12,10 @@ use std::rt::Env;
 use tb_machine::{RunFault, dump, replay, run};
 use tb_records::{Buffered, Counting, DumpFault, FrameFault, Sink, Source};
 
-/// Why the program ends with an exit status other than 0; shown by its name alone.
+/// Why the program ends with an exit status other than 0; shown only by its name.
 #[derive(Clone, Copy, Debug, PartialEq, Eq)]
 pub enum CommandFault {
-    /// The arguments are none of the program's forms.
+    /// The arguments are not one of the program's forms.
     Usage,
     /// The script could not be served to its end.
     Serving(RunFault),
@@ -44,7 +44,7 @@ impl From<DumpFault> for CommandFault {
 }
 
 impl CommandFault {
-    /// 1 where a device or memory failed, 2 where the input or the arguments are wrong.
+    /// 1 if a device or memory failed, 2 if the input or the arguments are wrong.
     pub fn exit_status(self) -> u8
         ensures value { result ≡ fault_exit_status self }
         ensures failing { 0 < result }
@@ -95,8 +95,9 @@ fn perform<R: Source, W: Sink>(
     Ok(count)
 }
 
-/// Does what the words ask for, and answers the exit status: 0 done, where nothing goes to `faults`, else that of the
-/// fault, whose line goes there. Arguments that are none of the program's forms are found before any input is read.
+/// Does what the words ask for, and returns the exit status: 0 if it is done, and then nothing goes to `faults`; otherwise
+/// that of the fault, whose line goes there. Arguments that are not one of the program's forms are found before any input is
+/// read.
 pub fn command<R: Source, W: Sink, E: Sink>(
     alloc: Global,
     words: &[String],
@@ -135,7 +136,7 @@ pub fn words<R: Env + AllocGlobal>(rt: &R) -> io::Result<Vec<String>> {
     Ok(words)
 }
 
-/// Serves the command that the words are, between an input and an output, both buffered, and answers the exit status.
+/// Serves the command that the words are, between an input and an output, both buffered, and returns the exit status.
 /// Replies are held back only while more requests are buffered.
 pub fn serve<R: Read + Drop, W: Write + Drop, E: Sink>(
     alloc: Global,
@@ -164,7 +165,7 @@ pub fn serve<R: Read + Drop, W: Write + Drop, E: Sink>(
     exit_status
 }
 
-/// The fault where the words cannot be had: a word is no text, or there is no memory for them.
+/// The fault if the words are not available: a word is not text, or there is no memory for them.
 pub fn fault_of(error: &io::Error) -> CommandFault {
     match error.kind() {
         io::ErrorKind::OutOfMemory => CommandFault::Serving(RunFault::NoMemory),
@@ -172,7 +173,7 @@ pub fn fault_of(error: &io::Error) -> CommandFault {
     }
 }
 
-/// Prints the fault, and answers its exit status.
+/// Prints the fault, and returns its exit status.
 pub fn refuse<E: Sink>(fault: CommandFault, faults: &mut E) -> u8
     ensures value { result ≡ fault_exit_status fault }
     ensures printed { PrintsLine (fault_line fault) (E.output faults.old) (E.output faults.new) }

@@ -1,4 +1,4 @@
-//! The line that a fault is reported by.
+//! The line that reports a fault.
 ghost use Rattle.std.specs.Prelude.{◌≡◌, ◌≤◌, ◌++◌, codes, length};
 ghost use Rattle.tb_commands.specs.ExitStatuses.{line_named, PrintsLine};
 
@@ -8,7 +8,7 @@ use tb_records::{Sink, put_all};
 /// The bytes that a fault's line may have: a program's name with its colon, a fault's name of at most 26 letters, and the line's end.
 pub const LINE_BYTES: usize = 32;
 
-/// The line of a fault with a name, by a program, in a buffer of its own, so that it needs no memory.
+/// The line of a fault with a name, by a program, in a buffer of its own, so it needs no memory.
 pub fn line_by(program: &str, name: &str) -> ArrayVec<u8, LINE_BYTES>
     requires program { length program.now ≤ 5 }
     requires short { length name.now ≤ 26 }

@@ -11,7 +11,7 @@ use Rattle.tb_embed.specs.private.Filling.{FillsRoom, room_output}
 named_same : (named name : ℕ) (front bytes : List ℕ) → named ∷ front ≡ name ∷ bytes → (named ≡ name) × (front ≡ bytes)
 named_same named name front bytes e = (cc, cc)
 
--- a room before and after; the caller's bytes are the room's where its name is still that of the caller's reference
+-- a room before and after; the caller's bytes are the room's if its name is still that of the caller's reference
 module _ (lent name named empty at stalled stalls : ℕ) (was is kept held : Bool) (start room bytes : List ℕ) (S T : State) (p : Pair)
     (same : name ≡ lent) (at_start : empty ≡ 0) (within : at ≤ length room) (full : is ≡ true → at ≡ length room) (back : lent ≡ named → bytes ≡ room) where
   abbrev Served : Result (Unit {0}) RunFault → Type 0
@@ -44,7 +44,7 @@ module _ (lent name named empty at stalled stalls : ℕ) (was is kept held : Boo
   pub given_broken : (f : RunFault) → Served (Err f) → FillsRoom (Err f) S T p bytes
   given_broken f turn = broken f (begun (Err f) turn)
 
--- a prefix of the answer that fills the room is all of it, where the room is long enough
+-- a prefix of the answer that fills the room is all of it, if the room is long enough
 pub filled_whole : (answer room : List ℕ) (n len : ℕ) → room ≡ take n answer → len ≡ length answer → len ≤ length room → take len room ≡ answer
 filled_whole answer room n len e is long =
     let short : length room ≡ min n (length answer) = ap length e ∙ length-take n answer in

@@ -81,7 +81,7 @@ one_request bytes r s mine yours = (spelled_once r s [] [] mine.is yours.is (ap 
 fits_room : (n : ℕ) (room answer : List ℕ) → n ≤ length room → take n room ≡ answer → length answer ≤ length room
 fits_room n room answer within is = omega (arith, ap length is, length-take n room, within)
 
--- a new request has a time, or none
+-- a new request has a time, or it has no time
 no_time : (S : State) (p : Pair) → (is_new_in S p ≡ true → has_time S p ≡ true) → is_new_in S p ≡ true → has_time S p ≡ false → ⊥
 no_time S p timely new none = let e : true ≡ false = sym (timely new) ∙ none in cc
 

@@ -18,7 +18,7 @@ whole_frame bytes r spells (inr (n, s, short, other)) =
     let same = found_only (Ok (s, n)) bytes bytes [] r (omega arith, other) spells (sym (append-nil bytes)) in
     absurd omega (arith, same.1)
 
--- what a request is answered, its frame is
+-- a request's frame gets the answer that the request gets
 pub frame_answered : (outcome : Outcome) (S T : State) (moment : ℕ) (bytes room : List ℕ) (r : Message) → Spells bytes r → AnswersCall outcome S T (moment, r) room → AnswersFrame outcome S T moment bytes room
 frame_answered (Done n) S T moment bytes room r spells right = (r, spells, right)
 frame_answered NoMemory S T moment bytes room r spells right = (r, spells, right)

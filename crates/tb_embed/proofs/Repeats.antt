@@ -18,7 +18,7 @@ answered_known S r New is said = absurd cc
 answered_known S r c is said = refl
 
 module _ (S : State) (moment again : ℕ) (r : Message) (lawful : IsLawful r) (timely : IsTimely S (moment, r)) where
-  -- where a request is not new, nothing moves
+  -- if a request is not new, nothing moves
   stays : (T : State) → after_pair S (moment, r) ≡ T → is_new_in T (again, r) ≡ false → answer_to T r ≡ answer_to (after_pair S (moment, r)) r → IsAnsweredAgain S moment again r
   stays T e known same =
       let again_after : after_pair T (again, r) ≡ T = after_known T (again, r) known in (

@@ -12,19 +12,19 @@ use Rattle.tb_embed.specs.declared.outcomes.Outcome.TheVariants.{Done, TooSmall}
 use Rattle.tb_embed.specs.Calls.{ServesFrame}
 use Rattle.tb_embed.specs.Outcomes.{outcome_status}
 
--- a call of tb_embed_serve: the moment and the bytes that it was given, how it fared, and the room after it
+-- a call of tb_embed_serve: the moment and the bytes that it was given, its outcome, and the room after it
 pub record Call : Type 0 where
   pub moment : ℕ
   pub bytes : List ℕ
   pub outcome : Outcome
   pub room : List ℕ
 
--- calls one after another; what shows a record between them leaves the server as it is
+-- calls one after another; a call that shows a record between them leaves the server as it is
 abbrev pub Follow : State → List Call → State → Type 0
 Follow S [] T = T ≡ S
 Follow S (c ∷ cs) T = (U : State) × ServesFrame (Some S) (Some U) c.moment c.bytes c.room c.outcome × Follow U cs T
 
--- the calls that were answered, also where the room was too small for the reply
+-- the calls whose requests were answered, also if the room was too small for the reply
 abbrev pub is_answered : Outcome → Bool
 is_answered (Done n) = true
 is_answered (TooSmall n) = true
@@ -33,13 +33,13 @@ is_answered outcome = false
 abbrev pub answered_calls : List Call → List Call
 answered_calls cs = filter (λ c. is_answered c.outcome) cs
 
--- what was returned of the reply: its bytes in the room, or how many they are; they are read as that reply and no other
+-- what was returned of the reply: its bytes in the room, or how many they are; they are read only as that reply
 abbrev pub ReportsReply : Outcome → List ℕ → Answer → Type 0
 ReportsReply (Done n) room a = SpellsReply (take n room) a
 ReportsReply (TooSmall n) room a = (n ≡ length (reply_bytes a)) × IsReply a
 ReportsReply outcome room a = ⊥
 
--- the call asked with this request at this moment, and got this reply
+-- the call had this request at this moment, and got this reply
 pub record Asked (c : Call) (p : Pair) (a : Answer) : Type 0 where
   pub moment : c.moment ≡ p.0
   pub spelled : Spells c.bytes p.1
@@ -61,8 +61,8 @@ pub record MakesHistory (profile : Profile) (clients_max : ℕ) (cs : List Call)
 abbrev pub CallsMakeHistory : Type 0
 CallsMakeHistory = (profile : Profile) (clients_max : ℕ) (cs : List Call) (T : State) → Follow (start profile clients_max) cs T → MakesHistory profile clients_max cs T
 
--- unless memory runs out, one status is right: a closed handle before bytes that are no request, these before a new request
--- without a time, and that before a room that is too small
+-- unless memory runs out, one status is right: a closed handle before bytes that are no request, these before a new request without a time, and that
+-- before a room that is too small
 abbrev pub OneStatus : Type 0
 OneStatus = (S T U : State) (moment : ℕ) (bytes room other : List ℕ) (a b : Outcome)
     → ServesFrame (Some S) (Some T) moment bytes room a → ServesFrame (Some S) (Some U) moment bytes other b → length room ≡ length other

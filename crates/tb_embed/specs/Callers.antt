@@ -83,8 +83,8 @@ heard_code hearing.Ended = 1
 heard_code hearing.Refused = 2
 heard_code hearing.Other = 3
 
--- a call of a body: its request is made, and its frame fills so many bytes of the room, which are kept; or why it is not, and nothing
--- changes
+-- a call of a body: its request is made, its frame fills the first n bytes of the room, and the client's numbers are kept; or the call says why not,
+-- and nothing changes
 abbrev pub CallsBody : Step → TbCaller → TbCaller → Body → List ℕ → Type 0
 CallsBody (step.Done n) before after body room = (c : Client)
     × HasNumbers before c
@@ -103,7 +103,7 @@ CallsBody step.NoClient before after body room = (3 < before.phase) × (after �
 CallsBody step.NoMemory before after body room = ⊥
 CallsBody step.Malformed before after body room = ⊥
 
--- the body is that of the frame of a request, whose numbers do not count
+-- the body is that of the frame of a request, whose numbers are ignored
 abbrev pub CallsFrame : Step → TbCaller → TbCaller → List ℕ → List ℕ → Type 0
 CallsFrame step.Malformed before after request room = IsMalformed request × (after ≡ before)
 CallsFrame step.NoMemory before after request room = after ≡ before
@@ -117,7 +117,7 @@ Checks step.NoClient kept frame = IsNoClient kept frame
 Checks step.NoMemory kept frame = Unit {0}
 Checks other kept frame = ⊥
 
--- the reply whose frame the bytes begin with is taken; or why it is not, and nothing changes
+-- the reply whose frame the bytes begin with is taken; or the call says why not, and nothing changes
 abbrev pub Receives : Result (Heard × ℕ) Step → TbCaller → TbCaller → List ℕ → List ℕ → Type 0
 Receives (Ok (h, n)) before after frame bytes = (c : Client)
     × (a : Answer)

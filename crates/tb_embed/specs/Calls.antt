@@ -1,4 +1,4 @@
--- What each call makes of a server, and what it answers.
+-- What each call makes of a server, and what it returns.
 use Rattle.std.specs.Prelude.{ℕ, Bool, true, false, not, ◌≡◌, ◌==◌, ◌&&◌, ◌||◌, ◌⊎◌, ◌+◌, ◌*◌, ◌^◌, ◌<◌, ◌≤◌, nat_le, List, length, take, Option, Some, None, if◌then◌else◌}
 use Rattle.std.specs.Option.{option_map, is_none}
 use Rattle.tb_records.specs.declared.faults.FrameFault.{FrameFault}
@@ -18,7 +18,7 @@ use Rattle.tb_embed.specs.declared.outcomes.Outcome.{Outcome}
 use Rattle.tb_embed.specs.declared.outcomes.Outcome.TheVariants.{Done, Closed, Usage, NoMemory, Unread, Malformed, TimeExhausted, Absent, TooSmall}
 use Rattle.tb_embed.specs.declared.servers.TbServer.{TbServer}
 
--- where the server of a handle is; a closed handle has none
+-- the state of a handle's server; a closed handle has no server
 abbrev pub standing : TbServer → Option State
 standing handle = option_map (λ (server : Server). server.machine) handle.held.state
 
@@ -48,10 +48,9 @@ OpensHandle profile clients_max before after outcome = ⊥
 abbrev pub IsMalformed : List ℕ → Type 0
 IsMalformed bytes = ((fault : FrameFault) × (request_fault bytes ≡ Some fault)) ⊎ ((n : ℕ) × (r : Message) × (n < length bytes) × Spells (take n bytes) r)
 
--- what a request that comes at a moment makes of the machine, and of the room for its reply: it is answered, or its reply
--- needs more room than there is and can be had by sending the request again; or the machine is as it was, since no
--- time is left for a new request, or no memory to enter it. The numbers of each reply fit, so that its bytes are read as
--- that reply and no other
+-- what a request that comes at a moment makes of the machine, and of the room for its reply: it is answered; or its reply needs more room than there
+-- is, and the same request, sent again, gets it. Or the machine is as it was: no time is left for a new request, or there is no memory to enter it.
+-- The numbers of each reply fit, so that its bytes are read only as that reply
 abbrev pub AnswersCall : Outcome → State → State → Pair → List ℕ → Type 0
 AnswersCall (Done n) S T p room = IsTimely S p × (T ≡ after_pair S p) × (n ≤ length room) × SpellsReply (take n room) (answer_to (after_pair S p) p.1)
 AnswersCall (TooSmall n) S T p room = IsTimely S p × (T ≡ after_pair S p) × (length room < n) × (n ≡ length (answer_bytes S p)) × IsReply (answer_to (after_pair S p) p.1)
@@ -59,20 +58,20 @@ AnswersCall TimeExhausted S T p room = (is_new_in S p ≡ true) × (has_time S p
 AnswersCall NoMemory S T p room = (is_new_in S p ≡ true) × (has_time S p ≡ true) × (T ≡ S)
 AnswersCall outcome S T p room = ⊥
 
--- the same of bytes: malformed ones change nothing, and neither does running out of memory while those are read that have no fault; but
--- for that, memory is wanting only where the bytes are the frame of a request that is new and has a time
+-- the same for bytes: malformed ones change nothing, and neither does running out of memory while bytes without a fault are read. Otherwise memory
+-- runs out only if the bytes are the frame of a request that is new and has a time
 abbrev pub AnswersFrame : Outcome → State → State → ℕ → List ℕ → List ℕ → Type 0
 AnswersFrame Malformed S T moment bytes room = IsMalformed bytes × (T ≡ S)
 AnswersFrame Unread S T moment bytes room = (request_fault bytes ≡ None) × (T ≡ S)
 AnswersFrame outcome S T moment bytes room = (r : Message) × Spells bytes r × AnswersCall outcome S T (moment, r) room
 
--- a request that was served at a moment and comes again at another one moves nothing, and is answered by the same bytes
+-- a request that was served at a moment and comes again at another one changes nothing, and gets the same bytes
 abbrev pub IsAnsweredAgain : State → ℕ → ℕ → Message → Type 0
 IsAnsweredAgain S moment again r =
     (after_pair (after_pair S (moment, r)) (again, r) ≡ after_pair S (moment, r))
     × (answer_bytes (after_pair S (moment, r)) (again, r) ≡ answer_bytes S (moment, r))
 
--- the same by a handle; a closed one answers so, and stays closed
+-- the same by a handle; a closed one returns that it is closed, and stays closed
 abbrev pub ServesFrame : Option State → Option State → ℕ → List ℕ → List ℕ → Outcome → Type 0
 ServesFrame (Some S) (Some T) moment bytes room outcome = AnswersFrame outcome S T moment bytes room
 ServesFrame None None moment bytes room outcome = outcome ≡ Closed

@@ -1,3 +1,3 @@
--- what private contracts alone cite
+-- what only private contracts cite
 pub mod Filling
 pub mod Calling

@@ -11,8 +11,8 @@ use std::alloc::Global;
 use tb_machine::{Machine, RunFault, serve_pair};
 use tb_records::{FrameFault, Request, read_request};
 
-/// Serves a request, and writes what there is room for of its reply. Answers the number of bytes written; where the room is
-/// too small, it is full.
+/// Serves a request, and writes as much of its reply as there is room for. Returns the number of bytes written; if the room
+/// is too small, it is full.
 fn fill(
     machine: &mut Machine<Global>,
     moment: u64,

@@ -5,10 +5,11 @@ use crate::calling::{call, check, receive};
 use crate::steps::{Step, TbCaller, heard_code};
 use std::alloc::Global;
 
-/// Makes the next request, the register first, and writes its frame, which the caller keeps, and stores before it is sent. What is
-/// asked for is the body of the frame `request`, whose client, session and number do not count. Statuses: 0 made, in so many
-/// bytes; 1 to 5 no request is made, as the session's phase says; 6 no frame of a request, or bytes behind it, or the
-/// client's id is 0; 7 the room is too small, and so many bytes are needed; 8 no memory; 9 wrong numbers; 13 no such phase.
+/// Makes the next request, the register first, and writes its frame, which the caller keeps, and stores before it is sent.
+/// The request's body is that of the frame `request`, whose client, session and number are ignored. Statuses: 0 made, and
+/// `written` is the length of its frame; 1 to 5 no request is made, as the session's phase says; 6 no frame of a request, or
+/// bytes after it, or the client's id is 0; 7 the room is too small, and `written` is how many bytes it needs; 8 no memory;
+/// 9 wrong numbers; 13 no such phase.
 #[unsafe(no_mangle)]
 pub extern "C" fn tb_caller_call(
     alloc: Global,
@@ -25,9 +26,9 @@ pub extern "C" fn tb_caller_call(
     step.status()
 }
 
-/// Takes the reply that the bytes begin with, where `frame` is that of the request that waits: what it is for this request, and
-/// the length of the reply's frame. Statuses: 0 taken; 6 the bytes begin with no frame of a reply; 8 no memory; 9 to 13 the
-/// numbers and the frame are not of one client.
+/// Takes the reply that the bytes begin with, if `frame` is that of the request that waits. Reports what the reply is for
+/// this request, and the length of its frame. Statuses: 0 taken; 6 the bytes begin with no frame of a reply; 8 no memory; 9
+/// to 13 the numbers and the frame are not of one client.
 #[unsafe(no_mangle)]
 pub extern "C" fn tb_caller_received(
     alloc: Global,

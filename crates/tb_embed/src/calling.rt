@@ -67,7 +67,7 @@ fn client(alloc: Global, kept: &TbCaller, frame: &[u8]) -> Result<Caller, Step>
     }
 }
 
-/// The phase of a number in which a request may be made. What waits is not read for that.
+/// The phase of a number in which a request may be made. The request that waits is not read for that.
 fn resting(number: u32) -> Result<Phase, Step>
     ensures { IsResting result number }
 {

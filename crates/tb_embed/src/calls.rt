@@ -1,4 +1,4 @@
-//! The calls that C makes. Each takes the handle by reference, answers a status, and needs nothing of its caller but what
+//! The calls that C makes. Each takes the handle by reference, returns a status, and needs from its caller only what
 //! embed/tb_embed.h says of pointers.
 ghost use Rattle.std.specs.Prelude.{◌≡◌, None};
 ghost use Rattle.tb_embed.specs.Outcomes.{Reports, ReportsLength};
@@ -25,9 +25,9 @@ pub extern "C" fn tb_embed_open(
 }
 
 /// Serves the frame of a request that comes at a moment, in nanoseconds, and writes the frame of the reply into the room.
-/// Statuses: 0 answered, in so many bytes; 1 a closed handle; 3 no memory; 4 no frame of a request, or bytes behind it; 5
-/// no time is left; 7 answered, but the room is too small, and so many bytes are needed: the same request, sent next, gets
-/// the same reply.
+/// Statuses: 0 answered, and `written` is the length of the reply; 1 a closed handle; 3 no memory; 4 no frame of a request,
+/// or bytes after it; 5 no time is left; 7 answered, but the room is too small, and `written` is how many bytes it needs.
+/// The same request, sent next, gets the same reply.
 #[unsafe(no_mangle)]
 pub extern "C" fn tb_embed_serve(
     alloc: Global,
@@ -60,7 +60,7 @@ pub extern "C" fn tb_embed_account(
     show_account(alloc, server, id(id_low, id_high), account).status()
 }
 
-/// Writes the 128 bytes of a transfer as it was recorded, its id in two halves. Statuses as of an account.
+/// Writes the 128 bytes of a transfer as it was recorded, its id in two halves. The statuses are those for an account.
 #[unsafe(no_mangle)]
 pub extern "C" fn tb_embed_transfer(
     alloc: Global,
@@ -74,7 +74,7 @@ pub extern "C" fn tb_embed_transfer(
     show_transfer(alloc, server, id(id_low, id_high), transfer).status()
 }
 
-/// Closes the handle, and frees its server where there is one.
+/// Closes the handle, and frees its server if it has one.
 #[unsafe(no_mangle)]
 pub extern "C" fn tb_embed_close(alloc: Global, server: &mut TbServer)
     ensures { standing server.new ≡ None }

@@ -1,4 +1,4 @@
-//! A server behind a pointer that the caller of the library keeps, or none.
+//! A server behind a pointer that the caller of the library keeps, or no server.
 ghost use Rattle.std.specs.Prelude.{◌≡◌, true, Option, None, Some};
 ghost use Rattle.std.specs.Option.{is_some};
 ghost use Rattle.tb_embed.specs.Kept.{kept};
@@ -16,7 +16,7 @@ pub struct Server {
     pub machine: Machine<Global>,
 }
 
-/// A server behind a pointer without a type, as C can hold it; or none, and then the pointer is null.
+/// A server behind a pointer without a type, as C can hold it; or no server, and then the pointer is null.
 #[repr(C)]
 #[derive(Drop)]
 pub struct Held {
@@ -64,5 +64,5 @@ impl Held {
     }
 }
 
-// What a handle owns is its server's box alone.
+// A handle owns only its server's box.
 unsafe impl Send for Held {}

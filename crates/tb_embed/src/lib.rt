@@ -1,11 +1,11 @@
-//! The server inside another program: calls for C, and for what calls C, over a handle that the caller keeps. embed/tb_embed.h
-//! declares them.
+//! The server inside another program: calls for C, and for languages that call C, over a handle that the caller keeps.
+//! embed/tb_embed.h declares them.
 //!
 //! Modules, each over those before it:
 //!
-//! - `outcomes`: `Outcome`, how a call fared, and its status.
+//! - `outcomes`: `Outcome`, the outcome of a call, and its status.
 //! - `loose`: a box as its pointer, and back.
-//! - `held`: a server behind a pointer that the caller keeps, or none.
+//! - `held`: a server behind a pointer that the caller keeps, or no server.
 //! - `servers`: `TbServer`, the handle.
 //! - `rooms`: the caller's buffer, as a writer.
 //! - `replies`: how long a reply is, and that its numbers fit.
@@ -13,7 +13,7 @@
 //! - `asking`: one frame read, served and answered.
 //! - `showing`: accounts and transfers shown outside sessions.
 //! - `calls`: what C calls over a server.
-//! - `steps`: a client's session as C keeps it, and how a call over it fared.
+//! - `steps`: a client's session as C keeps it, and the outcome of a call over it.
 //! - `calling`: what the calls over a client's session do.
 //! - `callers`: what C calls over a client's session.
 //! - `laws`: laws of the calls: functions that do nothing.

@@ -1,11 +1,11 @@
-//! How a call fared, and the status that reports it to a caller in C.
+//! The outcome of a call, and the status that reports it to a caller in C.
 ghost use Rattle.std.specs.Prelude.{◌≡◌};
 ghost use Rattle.tb_embed.specs.Outcomes.{outcome_status, length_of};
 
-/// How a call fared.
+/// The outcome of a call.
 #[derive(Clone, Copy, Debug, PartialEq, Eq)]
 pub enum Outcome {
-    /// It did what it is for, and wrote so many bytes.
+    /// It did what it is for, and wrote this many bytes.
     Done(usize),
     /// The handle is closed.
     Closed,
@@ -21,7 +21,7 @@ pub enum Outcome {
     TimeExhausted,
     /// No record has the id.
     Absent,
-    /// The room is too small: so many bytes were to be written.
+    /// The room is too small: this many bytes were to be written.
     TooSmall(usize),
 }
 
@@ -42,7 +42,7 @@ impl Outcome {
         }
     }
 
-    /// The number of bytes that were written, or that the room is to have.
+    /// The number of bytes that were written, or that the room must have.
     pub fn length(self) -> usize
         ensures { result ≡ length_of self }
     {

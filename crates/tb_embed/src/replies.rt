@@ -10,7 +10,7 @@ use tb_machine::Machine;
 use tb_records::{Reply, ReplyBody, Sink, send_reply};
 use tb_sessions::Class;
 
-/// Takes the bytes of a reply, all of them, and keeps none.
+/// Takes the bytes of a reply, all of them, and stores none of them.
 #[derive(Drop)]
 struct Taker {
     held: bool,
@@ -67,7 +67,7 @@ pub(crate) fn frame_length(reply: &Reply) -> usize
     }
 }
 
-/// The number of bytes of the reply to a client's request of a class, once it was served.
+/// The number of bytes of the reply to a client's request of a class, after it was served.
 pub(crate) fn reply_length(machine: &Machine<Global>, class: Class, client: u128) -> usize
     ensures length { result ≡ length_by class (row_of machine.now.rows client) }
     ensures fits { FitsBy class (row_of machine.now.rows client) }

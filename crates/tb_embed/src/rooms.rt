@@ -10,9 +10,9 @@ use tb_records::Sink;
 pub(crate) struct Room<'a> {
     bytes: &'a mut [u8],
     at: usize,
-    // How often nothing was taken of bytes that were offered.
+    // How often bytes were offered and none of them was taken.
     stalls: u64,
-    // Says that nothing was taken the last time, of bytes that were offered.
+    // Says that none of the bytes offered last was taken.
     halted: bool,
     // Says that bytes were taken since the last time that they were passed on.
     held: bool,
@@ -21,7 +21,7 @@ pub(crate) struct Room<'a> {
 }
 
 impl<'a> Room<'a> {
-    /// The whole room, in which nothing is written yet.
+    /// The whole room, with nothing written yet.
     pub(crate) fn over(bytes: &'a mut [u8]) -> Room<'a>
         ensures same { result.bytes.ghost_name ≡ bytes.entry.ghost_name }
         ensures empty { result.at ≡ 0 }

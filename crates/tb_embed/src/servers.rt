@@ -27,7 +27,7 @@ impl TbServer {
         }
     }
 
-    /// Takes the server out of the handle, which is closed then.
+    /// Takes the server out of the handle, which is then closed.
     pub(crate) fn take(&mut self, alloc: Global) -> Option<Box<Server>>
         ensures left { self.new.held.state ≡ None }
         ensures taken { MatchOption result (self.old.held.state ≡ None)

@@ -1,12 +1,12 @@
-//! A client's session as C keeps it, and how a call over it fared.
+//! A client's session as C keeps it, and the outcome of a call over it.
 ghost use Rattle.std.specs.Prelude.{◌≡◌};
 ghost use Rattle.tb_embed.specs.Callers.{call_code, field_code, step_code, step_length, heard_code};
 
 use tb_caller::{CallFault, FieldFault, Heard};
 
-/// A client's session: its id in two halves, its session, the number of its last request, and its phase: 0 not registered, 1 a
-/// request waits for its reply, 2 none waits, 3 the session is over. The frame of the request that waits, or was left in
-/// doubt, is kept next to it. All 0 but the id is a new client.
+/// A client's session: its id in two halves, its session, the number of its last request, and its phase: 0 not registered, 1
+/// a request waits for its reply, 2 no request waits, 3 the session is over. The frame of the request that waits, or was
+/// left in doubt, is kept next to it. A new client is all 0 except its id.
 #[repr(C)]
 #[derive(Clone, Copy, Debug, PartialEq, Eq)]
 pub struct TbCaller {
@@ -17,16 +17,16 @@ pub struct TbCaller {
     pub phase: u32,
 }
 
-/// How a call over a client's session fared.
+/// The outcome of a call over a client's session.
 #[derive(Clone, Copy, Debug, PartialEq, Eq)]
 pub enum Step {
-    /// It did what it is for: a frame of so many bytes was written or read.
+    /// It did what it is for: a frame of this many bytes was written or read.
     Done(usize),
     /// The call makes no request.
     NoCall(CallFault),
     /// The bytes are not one frame of a request, or do not begin with that of a reply.
     Malformed,
-    /// The room is too small: so many bytes were to be written.
+    /// The room is too small: this many bytes were to be written.
     TooSmall(usize),
     /// There was no memory, and nothing changed.
     NoMemory,
@@ -51,7 +51,7 @@ fn call_code(fault: CallFault) -> u32
     }
 }
 
-/// The status of fields that are of no client.
+/// The status of fields that no client has.
 fn field_code(fault: FieldFault) -> u32
     ensures { result ≡ field_code fault }
 {
@@ -91,7 +91,7 @@ impl Step {
         }
     }
 
-    /// The number of bytes that were written or read, or that the room is to have.
+    /// The number of bytes that were written or read, or that the room must have.
     pub fn length(self) -> usize
         ensures { result ≡ step_length self }
     {

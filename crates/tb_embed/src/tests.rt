@@ -17,7 +17,7 @@ const REGISTER: [u8; 48] = [
     0, 0, 0, 0, 0, 0, 0, 0, 0, 0, 0, 0, 0, 0, 0, 0, // length
 ];
 
-/// The reply: besides what the request has, session 1 and commit 1.
+/// The reply: what the request has, and session 1 and commit 1.
 fn registered() -> [u8; 48] {
     let mut reply = REGISTER;
     reply[16] = 1;
@@ -25,7 +25,7 @@ fn registered() -> [u8; 48] {
     reply
 }
 
-/// What a serving answered: the status, and the length that it reported.
+/// What a serving returned: the status, and the length that it reported.
 #[derive(Clone, Copy, Debug, PartialEq, Eq)]
 struct Fared {
     status: u32,

@@ -1,5 +1,6 @@
-//! What several tests and tools make or do: accounts, transfers and bodies of requests, each named by the fields in which it differs
-//! (ledger 700 and code 10 otherwise), input in turns, waiting for a thread, and freeing what a call did not take.
+//! What several tests and tools make or do: accounts, transfers and bodies of requests, each named by the fields in which it
+//! differs (ledger 700 and code 10 otherwise). Also input in turns, waiting for a thread, and freeing what a call did not
+//! take.
 //!
 //! Modules:
 //!

@@ -1,4 +1,4 @@
-//! What becomes of values behind a call that fails.
+//! What becomes of values after a call that fails.
 
 /// Whether a call took what it was passed. What it returns is freed.
 pub fn is_taken<T: Drop>(handed: Result<(), T>) -> bool {

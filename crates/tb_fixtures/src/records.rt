@@ -17,7 +17,7 @@ pub fn account(id: u128) -> Account {
     }
 }
 
-/// An account with a flag besides.
+/// An account with one more flag.
 pub fn account_with(flag: AccountFlag, account: Account) -> Account {
     Account {
         flags: account.flags | flag as u16,
@@ -55,7 +55,7 @@ pub fn transfer(
     }
 }
 
-/// A transfer with a flag besides.
+/// A transfer with one more flag.
 pub fn transfer_with(flag: TransferFlag, transfer: Transfer) -> Transfer {
     Transfer {
         flags: transfer.flags | flag as u16,
@@ -68,7 +68,7 @@ pub fn linked(transfer: Transfer) -> Transfer {
     transfer_with(TransferFlag::Linked, transfer)
 }
 
-/// A transfer that expires so many seconds after its timestamp.
+/// A transfer that expires `timeout` seconds after its timestamp.
 pub fn with_timeout(timeout: u32, transfer: Transfer) -> Transfer {
     Transfer {
         timeout,

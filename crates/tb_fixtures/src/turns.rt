@@ -1,13 +1,13 @@
-//! Answers leave before more is waited for: a reader that fails where it is asked for more while an answer is held back, and the
-//! writer that holds it.
+//! Answers leave before more is waited for: a reader that fails if it is asked for more while an answer is held back, and
+//! the writer that holds it.
 use std::alloc::Global;
 use std::cell::Cell;
 use std::io::{self, Error, ErrorKind, Read, Write};
 
-/// Where a part of the input ends, and how many bytes answer all up to there.
+/// The end of a part of the input, and how many bytes answer all up to there.
 pub type Turn = (usize, usize);
 
-/// A reader whose bytes come in pieces. It fails where fewer or more bytes are passed on than answer what came so far.
+/// A reader whose bytes come in pieces. It fails if fewer or more bytes are passed on than answer what came so far.
 #[derive(Drop)]
 pub struct Waiting<'a> {
     rest: &'a [u8],
@@ -18,7 +18,7 @@ pub struct Waiting<'a> {
 }
 
 impl<'a> Waiting<'a> {
-    /// Nothing of these bytes has come yet.
+    /// None of these bytes has come yet.
     pub fn new(
         rest: &'a [u8],
         piece: usize,

@@ -11,7 +11,7 @@ use Rattle.tb_oracle.specs.Streams.{Exchange, HasExchanged, IsExchange, ReadsSte
 pub none_exchanged : (input output : Option (List ℕ)) → HasExchanged [] input input output output
 none_exchanged input output = record { right = All-nil IsExchange; read = Consumes-nil input; written = Appends-nil output }
 
--- one step more
+-- one more step
 pub exchanged_more : (xs : List Exchange) (x : Exchange) (input left rest output written more : Option (List ℕ))
     → HasExchanged xs input left output written
     → ReadsStep x.head x.rest left rest

@@ -133,7 +133,7 @@ pub record IsStepAnswer (head rest answer : List ℕ) : Type 0 where
   pub is : Steps (kind_at head) outcome before after given
   pub answer_is : answer ≡ step_answer_bytes outcome after
 
--- why a step has none
+-- why a step has no answer
 
 -- the bytes are not one frame of a request: they have this fault, or more bytes follow a frame
 abbrev pub IsNoRequest : FrameFault → List ℕ → Type 0

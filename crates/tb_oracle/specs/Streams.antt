@@ -25,7 +25,7 @@ ReadsStepHead (Err f) head before after = Unit {0}
 abbrev pub ReadsRest : List ℕ → ℕ → Option (List ℕ) → Option (List ℕ) → Type 0
 ReadsRest bytes count before after = Consumes before after bytes × (length bytes ≡ count)
 
--- a step, of which the head says how many bytes follow it
+-- a step; its head says how many bytes follow it
 abbrev pub ReadsStep : List ℕ → List ℕ → Option (List ℕ) → Option (List ℕ) → Type 0
 ReadsStep head rest before after = Consumes before after (head ++ rest) × IsStep head rest
 
@@ -59,7 +59,7 @@ IsOfReading f = (oracle_exit_status f ≡ 1) ⊎ (f ≡ Frame frame.Short) ⊎ (
 abbrev pub StopsStream : OracleFault → Option (List ℕ) → Type 0
 StopsStream f left = IsOfReading f ⊎ ((head rest : List ℕ) × (after : Option (List ℕ)) × ReadsStep head rest left after × IsFault f head rest)
 
--- all steps were read and answered; or a fault came after some, of which no answer is missing if the fault is the input's
+-- all steps were read and answered; or a fault came after some steps, and all their answers were written if the fault is the input's
 abbrev pub AnswersSteps : Result (Unit {0}) OracleFault → Option (List ℕ) → Option (List ℕ) → Option (List ℕ) → Option (List ℕ) → Type 0
 AnswersSteps (Ok done) before after output_before output = (xs : List Exchange) × HasExchanged xs before after output_before output × IsAtEnd after
 AnswersSteps (Err f) before after output_before output =

@@ -10,7 +10,7 @@ use std::alloc::Global;
 use std::io::{Read, Write};
 use tb_records::FrameFault;
 
-/// The most bytes after a head: two of the longest frames are shorter.
+/// The most bytes after a head; two of the longest frames are shorter.
 const LENGTH_MAX: u64 = 1 << 22;
 
 /// Reads the head of the next step. False if the input ends before it.
@@ -39,7 +39,7 @@ fn length_at(head: &[u8]) -> u64
     LittleEndian::read_u64(&head[30..])
 }
 
-/// Reads so many bytes.
+/// Reads `count` bytes.
 fn read_rest<R: Read>(alloc: Global, reader: &mut R, count: usize) -> Result<Vec<u8>, OracleFault>
     ensures fault { IfErr result IsOfReading }
     ensures read { IfOk result (λ bytes. ReadsRest bytes.items count (R.remaining reader.old) (R.remaining reader.new)) }
@@ -74,7 +74,7 @@ fn read_step<R: Read>(
     Ok(Some(rest))
 }
 
-/// Answers the steps of a reader until it ends. On a fault all steps before it are answered.
+/// Answers the steps of a reader until it ends. On a fault of the input, all steps before it are answered.
 pub fn answer_all<R: Read, W: Write>(
     alloc: Global,
     reader: &mut R,

@@ -9,12 +9,12 @@ use tb_caller::FieldFault;
 use tb_records::FrameFault;
 use thiserror::Error;
 
-/// Why the next step has no answer. All before it are answered.
+/// Why the next step has no answer. All steps before it are answered.
 #[derive(Clone, Copy, Debug, PartialEq, Eq, Error)]
 pub enum OracleFault {
     /// The input ends within a step, or a step's frame of a request is wrong; a device failed, or there is no memory.
     Frame(FrameFault),
-    /// The fields are those of no client.
+    /// No client has the fields.
     Field(FieldFault),
     /// No phase has this number.
     UnknownPhase,

@@ -1,5 +1,5 @@
-//! `tb_oracle`: the proved session of one client, a step at a time. Each step of standard input has a client's fields and what
-//! is done with them, a call or bytes that came; its outcome and the fields after it go to standard output.
+//! `tb_oracle`: the proved session of one client, a step at a time. Each step of standard input has a client's fields and
+//! what is done with them: a call, or bytes that came. Its outcome and the fields after it go to standard output.
 //!
 //! Modules, each over those before it:
 //!

@@ -3,11 +3,12 @@
 //! A step is a head of 38 bytes and a rest: the frame of the request that waits or was left in doubt, and what is given. An
 //! answer is a head of 46 bytes, and the frame of that request after the step.
 //!
-//! - Both heads begin with the client's id (16 bytes), its session (8), its last number (4), and its phase (1): 0 not registered,
-//!   1 a request waits for its reply, 2 none waits, 3 the session is over.
-//! - Then a step's has what is done (1), 0 a call of the body of the given frame, 1 the given bytes came; and the length of the
-//!   rest (8).
-//! - An answer's has the outcome (1, `Outcome`), the length of the frame (8), and the length of the reply's frame (8).
+//! - Both heads begin with the client's id (16 bytes), its session (8), its last number (4), and its phase (1): 0 not
+//!   registered, 1 a request waits for its reply, 2 no request waits, 3 the session is over.
+//! - A step's head then has what is done (1): 0 a call of the body of the given frame, 1 the given bytes came; and the
+//!   length of the rest (8).
+//! - An answer's head then has the outcome (1, `Outcome`), the length of the frame (8), and the length of the reply's frame
+//!   (8).
 ghost use Rattle.std.specs.Prelude.{◌≡◌, IfOk, IfErr, length};
 ghost use Rattle.tb_oracle.specs.Steps.{id_at, step_session, last_at, phase_code, phase_frame, call_fault_code, outcome_code, reply_length, step_answer_bytes, IsStepAnswer, IsFault, ReadsPhaseFields, ReadsClientFields, TakesCall, TakesReply};
 
@@ -24,7 +25,7 @@ pub enum Outcome {
     Made,
     /// The call makes no request.
     NoCall(CallFault),
-    /// The bytes begin with a reply, whose frame has this length: what it is for the request that waits.
+    /// The bytes begin with a reply, whose frame has this length: what the reply is for the request that waits.
     Reply(Heard, usize),
     /// The bytes begin with no reply.
     NoReply(FrameFault),

@@ -52,7 +52,7 @@ adds_moves v e old len cs log kept pre away =
     let P : List Cell → Type 0 = λ c. (0 < length c) × ((cell c 0).1 ≡ true) × Goes CountsEntries shown moved 0 (v, (no_nib, None)) (λ n. either (n == old) (old + 1) n) (Adds (step 0 old (old + 1) e) (v, (no_nib, None))) c log in
     subst P (sym kept.words) (omega arith, refl, adds_goes log v e old len pre (length log == old) refl)
 
--- where the count was the one expected, the entry was added
+-- if the count was the one expected, the entry was added
 pub added : (s : Step Entry) (v : View Entry ℕ) (found : ℕ) (w : View Entry ℕ) → found ≡ s.old → Adds s v found w → w.0 ≡ v.0 ++ s.ask ∷ []
 added s v found w same adds = subst (λ b. MatchBool b (w.0 ≡ v.0 ++ s.ask ∷ []) (length w.0 ≡ found)) (eq-eqb found s.old same) adds
 

@@ -43,13 +43,13 @@ pub answers_ok : {E : Type 0} (o : Opening) (h : List Entry) (r : Message) (resu
 answers_ok o h r (Ok a) legal lawful is = (legal, answers o.profile o.clients_max h r a legal (ap is_none lawful) is)
 answers_ok o h r (Err e) legal lawful is = tt
 
--- what holds of a value holds of it where an error is given another name
+-- what holds of a value still holds of it when an error is given another name
 pub renamed : {A E F : Type 0} (r : Result A E) (s : Result A F) (P : A → Type 0) (Q : E → F → Type 0) → MatchResult r (λ x. s ≡ Ok x) (λ e. IsErrAnd s (Q e)) → IfOk r P → IfOk s P
 renamed {A} {E} {F} (Ok x) s P Q is holds = subst (λ (t : Result A F). IfOk t P) (sym is) holds
 renamed (Err e) (Ok x) P Q is holds = absurd is
 renamed (Err e) (Err f) P Q is holds = tt
 
--- only a new request is answered by NotYet
+-- the status is NotYet only for a new request
 new_of : (class : Class) → status_of class ≡ status.NotYet → class ≡ New
 new_of New is = refl
 new_of Repeat is = absurd cc

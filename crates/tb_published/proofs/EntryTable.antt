@@ -1,4 +1,4 @@
--- The table of a request that is entered, from what its calls answer.
+-- The table of a request that is entered, from what its calls return.
 use Rattle.std.proofs.Common.{◌≡◌, inl, inr, length, length-append, ℕ, ◌+◌, max, true, List, [], ◌∷◌, ◌++◌, Result, Ok, Err, is_none, refl, sym, ap, ◌∙◌, subst, arith, IsTrue, leb-true}
 use Rattle.tb_records.specs.Messages.{Message, IsLawful}
 use Rattle.tb_records.specs.declared.limits.TheConstants.{LAST_MOMENT}
@@ -72,7 +72,7 @@ module _ {o : Opening} {h : List Entry} {S : State} {offered : Prefix} {copies :
   tied_by r now (Err fault.TimeExhausted) T m t lawful by = tied_same T m t by.2 by.3
   tied_by r now (Err (fault.Unpublished c)) T m t lawful by = absurd by
 
--- what is entered behind all that is shown, and can't be shown then
+-- what is entered after all that is shown, and can't be shown then
 module _ (o : Opening) (h : List Entry) (r : Message) (now : ℕ) where
   pub takes_unshown : (t : Taken) (f : TakeFault) (m s : List Entry) → Enters o h r now (Ok t) m → IsPrefix h s → ShowsHistory (Err f) m s → TakesRequest o h r now (Err f) m s
   takes_unshown (taken.Committed c) (fault.Unpublished d) m s by pre ends =

@@ -10,7 +10,7 @@ prefix_self (x ∷ xs) = (let r = prefix_self xs in r.0, ap (λ ys. x ∷ ys) (p
 pub prefix_trans : {A : Type 0} (xs ys zs : List A) → IsPrefix xs ys → IsPrefix ys zs → IsPrefix xs zs
 prefix_trans xs ys zs p q = (p.0 ++ q.0, sym (append_assoc xs p.0 q.0) ∙ (ap (λ w. w ++ q.0) p.1 ∙ q.1))
 
--- of two prefixes of one list the shorter begins the longer
+-- the shorter of two prefixes of one list begins the longer
 pub prefix_shorter : {A : Type 0} (xs ys zs : List A) → IsPrefix xs zs → IsPrefix ys zs → length xs ≤ length ys → IsPrefix xs ys
 prefix_shorter [] ys zs p q le = (ys, refl)
 prefix_shorter (x ∷ xs) [] zs p q le = absurd (omega arith)
@@ -20,7 +20,7 @@ prefix_shorter (x ∷ xs) (y ∷ ys) (z ∷ zs) p q le =
     let rest = prefix_shorter xs ys zs (p.0, cc (p.1)) (q.0, cc (q.1)) (omega arith) in
     (rest.0, cc (heads, rest.1))
 
--- of two prefixes of one list one begins the other
+-- one of two prefixes of one list begins the other
 pub prefix_either : {A : Type 0} (xs ys zs : List A) → IsPrefix xs zs → IsPrefix ys zs → IsPrefix xs ys ⊎ IsPrefix ys xs
 prefix_either [] ys zs p q = inl (ys, refl)
 prefix_either (x ∷ xs) [] zs p q = inr (x ∷ xs, refl)
@@ -41,7 +41,7 @@ prefix_whole (x ∷ xs) (y ∷ ys) p le =
 pub prefix_length : {A : Type 0} (xs ys : List A) → IsPrefix xs ys → length xs ≤ length ys
 prefix_length xs ys p = omega (arith, sym (ap length p.1) ∙ length-append xs p.0)
 
--- the list goes on behind a prefix with the item that is there
+-- after a prefix, the list goes on with the item that is there
 next_at : {A : Type 0} (xs ys : List A) (x : A) → IsPrefix xs ys → length xs < length ys → x ≡ get_or ys (length xs) x → IsPrefix (xs ++ x ∷ []) ys
 next_at [] [] x p lt at = absurd (omega arith)
 next_at [] (y ∷ ys) x p lt at = (ys, ap (λ z. z ∷ ys) at)

@@ -17,7 +17,7 @@ begins_self l = (refl, prefix_self l.list)
 pub begins_trans : (l m n : Prefix) → IsPrefixOf l m → IsPrefixOf m n → IsPrefixOf l n
 begins_trans l m n first then_it = (first.0 ∙ then_it.0, prefix_trans l.list m.list n.list first.1 then_it.1)
 
--- of two that agree the shorter begins the longer
+-- the shorter of two that agree begins the longer
 pub shorter_begins : (l m : Prefix) → Agree l m → length l.list ≤ length m.list → IsPrefixOf l m
 shorter_begins l m agree less =
     ⊎_elim (λ (mine : IsPrefixOf l m). mine) (λ (its : IsPrefixOf m l). (sym its.0, prefix_shorter l.list m.list l.list (prefix_self l.list) its.1 less)) agree
@@ -55,7 +55,7 @@ looks seat v x = sees seat v x x (begins_self x)
 pub admits : Admits ShowsToReaders None
 admits x views shows seat l at = ⊎_elim (shows seat l) (λ e. absurd (none_some l e)) (at_snoc views None (Some l) seat at)
 
--- the publisher tells what it has seen, and a place that has seen nothing takes it over
+-- the publisher tells what it has seen, and a place that has seen nothing copies it
 pub forks : (seat : ℕ) (v : Option Prefix) → Forks ShowsToReaders seat v v v
 forks seat v x views shows here j l at =
     ⊎_elim (λ e.
@@ -80,7 +80,7 @@ merges seat v other w x views shows here apart there j l at =
 absorbed_next : (l : Prefix) (o : PostedEntry) → o.front ≡ with_entry l o.entry → absorbed l o ≡ o.front
 absorbed_next l o is = ap (λ b. cond b o.front l) (eq-eqb (length o.front.list) (length l.list + 1) (ap (λ (m : Prefix). length m.list) is ∙ length-append l.list (o.entry ∷ [])))
 
--- a copy that takes in the posted entries behind it has the last one's front
+-- a copy that takes in the posted entries after it has the last one's front
 pub absorb_all : (l : Prefix) (os : List PostedEntry) → FollowsPrefix l os → fold absorbed l os ≡ prefix_after l os
 absorb_all l [] follows = refl
 absorb_all l (o ∷ os) follows = ap (λ (m : Prefix). fold absorbed m os) (absorbed_next l o follows.0) ∙ absorb_all o.front os follows.1

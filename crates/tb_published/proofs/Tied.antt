@@ -19,7 +19,7 @@ shown_front {o} {h} {S} {offered} {copies} t =
     let shown = copies.shown in
     prefix_trans shown.list offered.list h (subst (λ (l : Prefix). IsPrefix shown.list l.list) t.leads (posted_extend shown copies.posted t.follows).1) t.offered_is
 
--- what is no longer than what they show, where one begins with the other, is a prefix of the history too
+-- if a list is no longer than what they show, and one of the two begins with the other, the list is a prefix of the history too
 pub within_history : {o : Opening} {h : List Entry} {S : State} {offered : Prefix} {copies : TwoCopies} (xs : List Entry)
     → Ties o h S offered copies → OneBegins copies.shown.list xs → length xs ≤ length copies.shown.list → IsPrefix xs h
 within_history {o} {h} {S} {offered} {copies} xs t one less =
@@ -41,7 +41,7 @@ pub after_join : (l : Prefix) (os more : List PostedEntry) → prefix_after l (o
 after_join l os more = fold_append (λ _ (o : PostedEntry). o.front) l os more
 
 module _ {o : Opening} {h : List Entry} {S : State} where
-  -- one posted entry more
+  -- one more posted entry
   tied_offer : (offered : Prefix) (copies : TwoCopies) (posted : PostedEntry) (grown : Prefix) → Ties o h S offered copies
       → posted.front ≡ grown → grown ≡ with_entry offered posted.entry → IsPrefix grown.list h → Ties o h S grown (and_waiting copies (Some posted))
   tied_offer offered copies posted grown t front is pre = record {
@@ -54,11 +54,11 @@ module _ {o : Opening} {h : List Entry} {S : State} where
     leads = after_join copies.shown copies.posted (posted ∷ []) ∙ front;
   }
 
-  -- with none waiting there are no more
+  -- if none waits, there are no more
   tied_alone : (offered : Prefix) (copies : TwoCopies) → Ties o h S offered (and_waiting copies None) → Ties o h S offered copies
   tied_alone offered copies t = subst (λ (os : List PostedEntry). Ties o h S offered (record copies { posted = os })) (append-nil copies.posted) t
 
-  -- the next entry was posted, or none
+  -- the next entry was posted, or no entry
   pub tied_pick : (offered : Prefix) (copies : TwoCopies) (waiting next : Option PostedEntry) (grown : Prefix) → is_some waiting ≡ false
       → Ties o h S offered (and_waiting copies waiting)
       → MatchOption next (grown ≡ offered) (λ (posted : PostedEntry). (posted.front ≡ grown) × (grown ≡ with_entry offered posted.entry) × IsPrefix grown.list h)

@@ -7,7 +7,7 @@ use Rattle.tb_published.specs.declared.faults.OpenFault.TheVariants as open_faul
 use Rattle.tb_published.specs.declared.faults.SeatFault.{SeatFault}
 use Rattle.tb_published.specs.declared.faults.SeatFault.TheVariants as seat_fault
 
--- a fault's number, by which other programs may know it
+-- a fault's number, by which other programs identify it
 
 abbrev pub take_fault_number : TakeFault → ℕ
 take_fault_number take_fault.NoMemory = 1

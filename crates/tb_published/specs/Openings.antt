@@ -30,7 +30,7 @@ after_in o h = after o.profile o.clients_max h
 abbrev pub HoldsIn : Opening → List Entry → Message → ℕ → Type 0
 HoldsIn o h r c = Holds o.profile o.clients_max h r c
 
--- the answer to a request after its history; where it is a reply, the entry that it names holds the request
+-- the answer to a request after its history; if it is a reply, the entry that it names holds the request
 abbrev pub IsAnswerIn : Opening → List Entry → Message → Answer → Type 0
 IsAnswerIn o h r reply = IsAnswer o.profile o.clients_max h r reply
 
@@ -42,19 +42,19 @@ AnswersIn o h r reply = LegalIn o h × IsAnswerIn o h r reply
 abbrev pub HasStatusIn : Opening → List Entry → Message → Status → Type 0
 HasStatusIn o h r status = LegalIn o h × (status ≡ (answer_to (after_in o h) r).status)
 
--- the accounts with these ids, as they are after its legal history of so many entries
+-- the accounts with these ids, as they are after its legal history of `count` entries
 abbrev pub FindsAccounts : Opening → List Entry → List ℕ → ℕ → List Account → Type 0
 FindsAccounts o h ids count accounts = LegalIn o h × (count ≡ length h) × (accounts ≡ found_accounts (after_in o h).books ids)
 
--- the transfers with these ids, as they were recorded in its legal history of so many entries
+-- the transfers with these ids, as they were recorded in its legal history of `count` entries
 abbrev pub FindsTransfers : Opening → List Entry → List ℕ → ℕ → List Transfer → Type 0
 FindsTransfers o h ids count transfers = LegalIn o h × (count ≡ length h) × (transfers ≡ found_transfers (after_in o h).books ids)
 
--- of two lists one begins with the other
+-- one of two lists begins with the other
 abbrev pub OneBegins : List Entry → List Entry → Type 0
 OneBegins xs ys = IsPrefix xs ys ⊎ IsPrefix ys xs
 
--- of two lists the longer
+-- the longer of two lists
 abbrev pub longer_of : List Entry → List Entry → List Entry
 longer_of xs ys = if nat_lt (length xs) (length ys) then ys else xs
 

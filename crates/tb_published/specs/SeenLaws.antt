@@ -8,7 +8,7 @@ use Rattle.tb_machine.specs.declared.entries.Entry.{Entry}
 use Rattle.tb_machine.specs.Histories.{answer_to}
 use Rattle.tb_published.specs.Openings.{Opening, LegalIn, after_in, OneBegins}
 
--- of two prefixes of one list, one begins with the other
+-- two prefixes of one list: one begins with the other
 abbrev pub OneHistory : Type 0
 OneHistory = (whole xs ys : List Entry) → IsPrefix xs whole → IsPrefix ys whole → OneBegins xs ys
 
@@ -20,8 +20,8 @@ pub record Has (h : List Entry) (r : Message) : Type 0 where
   pub whole : h ≡ front ++ entry ∷ rest
   pub request : entry.request ≡ r
 
--- m, which a seat has seen, begins with h, which was told once the request was committed: then it is NotYet only where it
--- is a register whose client has no row any more
+-- a seat has seen m, which begins with h, and h was told after the request was committed: then the request is NotYet only if it is a register whose
+-- client has no row any more
 abbrev pub NeverNotYet : Type 0
 NeverNotYet = (o : Opening) (h m : List Entry) (r : Message) → Has h r → IsPrefix h m → LegalIn o m
     → (answer_to (after_in o m) r).status ≡ status.NotYet

@@ -26,15 +26,15 @@ Enters o h r now (Err fault.NoMemory) m = (class_in o h r ≡ New) × (has_time 
 Enters o h r now (Err fault.TimeExhausted) m = (class_in o h r ≡ New) × (has_time (after_in o h) (now, r) ≡ false) × (m ≡ h)
 Enters o h r now (Err (fault.Unpublished c)) m = ⊥
 
--- it is taken: entered, and shown by the copies, which show s afterwards. It is not judged before they show all of h; where
--- they could not, h stays as it was, and where they could not show its entry, they still show all of h
+-- it is taken: entered, and shown by the copies, which show s afterwards. It is judged only after they show all of h: if they could not, h stays as
+-- it was; if they could not show its entry, they still show all of h
 abbrev pub TakesRequest : Opening → List Entry → Message → ℕ → Result Taken TakeFault → List Entry → List Entry → Type 0
 TakesRequest o h r now (Ok t) m s = Enters o h r now (Ok t) m × (s ≡ m)
 TakesRequest o h r now (Err (fault.Unpublished c)) m s = (c ≡ length m) × (length s < length m) × ((m ≡ h) ⊎ (Enters o h r now (Ok (taken.Committed c)) m × (s ≡ h)))
 TakesRequest o h r now (Err fault.NoMemory) m s = Enters o h r now (Err fault.NoMemory) m × (s ≡ m)
 TakesRequest o h r now (Err fault.TimeExhausted) m s = Enters o h r now (Err fault.TimeExhausted) m × (s ≡ m)
 
--- the whole history is shown, or less than it
+-- the whole history is shown, or a shorter prefix of it
 abbrev pub ShowsHistory : Result ℕ TakeFault → List Entry → List Entry → Type 0
 ShowsHistory (Ok c) m s = (c ≡ length m) × (s ≡ m)
 ShowsHistory (Err (fault.Unpublished c)) m s = (c ≡ length m) × (length s < length m)

@@ -1,4 +1,4 @@
--- what private contracts alone cite
+-- what only private contracts cite
 pub mod Prefixes
 pub mod PostedEntries
 pub mod Ties

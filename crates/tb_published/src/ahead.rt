@@ -1,12 +1,12 @@
-//! The accounts that the next requests need are searched for before the first of them is entered, interleaved, so that waits for
-//! memory overlap. The machine stays.
+//! The accounts that the next requests need are searched for before the first of them is entered. The searches are
+//! interleaved, so that waits for memory overlap. The machine stays.
 ghost use Rattle.std.specs.Prelude.{◌≡◌};
 
 use std::alloc::Global;
 use tb_machine::{Entry, Machine};
 use tb_records::{Body, Request};
 
-/// The accounts of a request's first transfer; 0 where it has none.
+/// The accounts of a request's first transfer; 0 if it has no transfer.
 fn accounts_of(request: Option<&Request>) -> (u128, u128) {
     let Some(request) = request else {
         return (0, 0);
@@ -46,7 +46,8 @@ pub(crate) fn accounts_of_entries(first: &Entry, later: &[Entry]) -> [u128; 8] {
     ])
 }
 
-/// Brings the accounts of the first four requests into the cache. One alone is not searched for: its own searches overlap.
+/// Brings the accounts of the first four requests into the cache. A single request is not searched for: its own searches
+/// overlap.
 fn touch_four(machine: &mut Machine<Global>, requests: &[Request])
     ensures { machine.new ≡ machine.old }
 {
@@ -61,7 +62,7 @@ fn touch_four(machine: &mut Machine<Global>, requests: &[Request])
     ]));
 }
 
-/// Brings the accounts of the first eight requests into the cache, where accounts are many.
+/// Brings the accounts of the first eight requests into the cache, if accounts are many.
 pub(crate) fn touch_eight(machine: &mut Machine<Global>, requests: &[Request])
     ensures { machine.new ≡ machine.old }
 {

@@ -17,8 +17,8 @@ use std::alloc::{AllocError, Global};
 use std::marker::Model;
 use std::sync::Wait;
 
-/// The copies as the publisher has them. Contracts see what they show, the posted entries that they have not taken in, and what
-/// the publisher has seen. It is not Drop: `end` ends it.
+/// The copies as the publisher has them. Contracts see what they show, the posted entries that they have not taken in, and
+/// what the publisher has seen. It is not Drop: `end` ends it.
 pub struct Copies<J: Naming>
 where
     Replica<J>: Absorb<Posted<J>, State = Replica<J>>,
@@ -45,7 +45,7 @@ where
 }
 
 impl<J: Naming> Copies<J> {
-    /// The copies of a front with no entries, which do not show it yet, with places for so many seats.
+    /// The copies of a front with no entries, which do not show it yet, with places for `seats` seats.
     fn new(alloc: Global, front: &Front, seats: SeatCount) -> Result<Copies<J>, AllocError>
         requires named { front.now.opening ≡ J.opening }
         requires empty { front.now.list ≡ [] }
@@ -63,7 +63,7 @@ impl<J: Naming> Copies<J> {
         Ok(Copies { writer })
     }
 
-    /// The copies of a front with no entries, which they show, with places for so many seats.
+    /// The copies of a front with no entries, which they show, with places for `seats` seats.
     pub(crate) fn begin<W: Wait>(
         alloc: Global,
         rt: &W,
@@ -82,8 +82,8 @@ impl<J: Naming> Copies<J> {
         Ok(copies)
     }
 
-    /// Has the copies take in what was posted, and shows what they have then. Where a copy finds no memory, they show what
-    /// they showed, and what was posted waits.
+    /// Has the copies take in what was posted, and show what they have then. If a copy finds no memory, they show what they
+    /// showed before, and what was posted waits.
     fn swapped<W: Wait>(self, rt: &W) -> (Copies<J>, Result<(), AllocError>)
         requires { FollowsPrefix self.shown self.posted }
         ensures { Swapped result.1 self result.0 }
@@ -101,7 +101,7 @@ impl<J: Naming> Copies<J> {
         replace_with(self, rt, Copies::swapped)
     }
 
-    /// One posted entry more; it comes back where there is no capacity for it.
+    /// Appends one posted entry; it comes back if there is no capacity for it.
     pub(crate) fn append(&mut self, posted: Posted<J>) -> Result<(), Posted<J>>
         ensures { MatchResult result
             (λ _. self.new ≡ and_waiting self.old (Some posted))
@@ -127,7 +127,7 @@ impl<J: Naming> Copies<J> {
         Ok(place)
     }
 
-    /// Lets the copies go. It waits for the seats that are reading; those that ask from then on find no copy.
+    /// Drops the copies. It waits for the seats that are reading; those that ask from then on find no copy.
     pub(crate) fn end<W: Wait>(self, rt: &W) {
         let Copies { writer } = self;
         drop(writer.take(rt));

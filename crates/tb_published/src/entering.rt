@@ -25,8 +25,8 @@ pub(crate) fn stored_commit(machine: &Machine<Global>, request: &Request) -> u64
     reply.commit()
 }
 
-/// Makes capacity for an entry behind a history, and has its copies share the request's body: the history, the publisher's machine
-/// and both copies have one body between them.
+/// Reserves capacity for one more entry of a history, and has its copies share the request's body: the history, the
+/// publisher's machine and both copies share one body.
 fn make_ready(global: Global, history: &mut Vec<Entry>, entry: &mut Entry) -> Result<(), AllocError>
     ensures history { history.new.items ≡ history.old.items }
     ensures entry { entry.new ≡ entry.old }
@@ -36,7 +36,7 @@ fn make_ready(global: Global, history: &mut Vec<Entry>, entry: &mut Entry) -> Re
     entry.request.share(global)
 }
 
-/// Puts an entry behind a history and into its machine, and answers its commit number. Where there is no memory, both
+/// Appends an entry to a history, enters it into its machine, and returns its commit number. If there is no memory, both
 /// are unchanged.
 pub(crate) fn add_to(
     global: Global,
@@ -61,7 +61,7 @@ pub(crate) fn add_to(
     Ok(commit)
 }
 
-/// Enters a request that comes at a moment behind a history, and into the machine after it.
+/// Enters a request that comes at a moment into a history, and into the machine after it.
 pub(crate) fn enter_into(
     global: Global,
     machine: &mut Machine<Global>,

@@ -104,7 +104,7 @@ impl fmt::Display for OpenFault {
 pub enum SeatFault {
     /// There is no memory for the answer.
     NoMemory,
-    /// There is no copy to be read, as where the publisher is gone.
+    /// There is no copy to read: for example, the publisher is gone.
     NoCopy,
 }
 

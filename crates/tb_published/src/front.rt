@@ -1,4 +1,4 @@
-//! Prefixes of a history as tokens: each gives the number of its entries, and the entries themselves to proofs alone.
+//! Prefixes of a history as tokens: each gives the number of its entries, and the entries themselves only to proofs.
 ghost use Rattle.std.specs.Prelude.{◌≡◌, ◌+◌, ◌<◌, ◌^◌, [], length, IsTrue, IfSome, MatchBool};
 ghost use Rattle.tb_published.specs.Openings.{LegalIn};
 ghost use Rattle.tb_published.specs.private.Prefixes.{Agree, prefix_state, with_entry, IsPrefixOf, longer_prefix};
@@ -31,7 +31,7 @@ impl Rule<Entry, u64> for Law {
     ghost moves = { λ ask before after answer. Unit {0} };
 }
 
-/// Who adds an entry trades nothing.
+/// The caller that adds an entry trades nothing.
 struct Nothing;
 
 impl Gain<Entry, u64> for Nothing {
@@ -121,7 +121,7 @@ impl Front {
         both.learn(&other.seen);
     }
 
-    /// The longer of two fronts of one opening, which the other begins.
+    /// The longer of two fronts of one opening; it begins with the other.
     pub fn longer(&self, other: &Front) -> Front
         requires { other.now.opening ≡ self.now.opening }
         ensures longer { result ≡ longer_prefix self.now other.now }
@@ -136,7 +136,7 @@ impl Front {
         }
     }
 
-    /// Counts an entry that may come next, and gives the front with it; None where another entry had been counted.
+    /// Counts an entry that may come next, and gives the front with it; None if another entry had been counted.
     fn followed_by(&self, head: &Head, entry: &Entry) -> Option<Front>
         requires counted { head.now ≡ named_head self.now.opening.book }
         requires capacity { length self.now.list + 1 < 2 ^ 64 }
@@ -215,7 +215,7 @@ impl HistoryHead {
         &self.front
     }
 
-    /// Adds an entry that may come next, and says whether it did: it did not where another had been added.
+    /// Adds an entry that may come next, and says whether it did: it did not if another had been added.
     pub fn add(&mut self, entry: &Entry) -> bool
         requires capacity { length self.old.list + 1 < 2 ^ 64 }
         requires next { IsTrue (fits (prefix_state self.old) entry.now) }

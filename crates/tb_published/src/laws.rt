@@ -1,13 +1,13 @@
-//! What follows of what seats have seen, over the definitions alone. A call does nothing; its promise is the law.
+//! What follows from the definitions about what seats have seen. A call does nothing; its promise is the law.
 ghost use Rattle.tb_published.specs.SeenLaws.{NeverNotYet, OneHistory};
 
-/// A seat that learnt what was told after a request was committed never answers NotYet for it, but for a register whose
-/// session was driven out since.
+/// A seat that learnt what was told after a request was committed never answers NotYet for it, except for a register whose
+/// session was evicted since then.
 pub fn never_not_yet()
     ensures { NeverNotYet }
 {}
 
-/// Of two prefixes of one history, as the lists that two seats have seen, one begins with the other.
+/// Two prefixes of one history, as the lists that two seats have seen: one begins with the other.
 pub fn one_history()
     ensures { OneHistory }
 {}

@@ -1,8 +1,8 @@
 //! The name of an opening.
 use std::marker::Brand;
 
-/// Which opening it is, as a parameter of each type that belongs to it: so the name outlasts a lock and a channel. A
-/// program picks it once, where it calls a function that is generic in it.
+/// Which opening it is, as a parameter of each type that belongs to it: so the name outlasts a lock and a channel. A program
+/// picks it once, at its call of a function that is generic in it.
 pub trait Naming {
     ghost use Rattle.tb_published.specs.Openings.{Opening};
 

@@ -10,8 +10,8 @@ use crate::replica::Posted;
 use std::alloc::Global;
 use tb_machine::Entry;
 
-/// The next entry that the head of the history has not counted, to be posted, which is counted then. None where all are, or where
-/// there is no memory for the entry's copy.
+/// The next entry that the head of the history has not counted, to be posted; the head counts it then. None if all are
+/// counted, if there is no memory for the entry's copy, or if another entry had been counted.
 pub(crate) fn next_posted<J: Naming>(
     global: Global,
     offered: &mut HistoryHead,

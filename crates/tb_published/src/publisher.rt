@@ -56,7 +56,7 @@ where
 }
 
 impl<J: Naming> Publisher<J> {
-    /// A publisher of an empty history, with capacity for so many seats.
+    /// A publisher of an empty history, with capacity for `seats` seats.
     pub(crate) fn start<W: Wait>(
         alloc: Global,
         rt: &W,
@@ -128,8 +128,8 @@ impl<J: Naming> Publisher<J> {
         Told::new(self.copies.shown().front().again())
     }
 
-    /// Says whether the copies show all that a seat has seen: then that is a prefix of the history. Of what is shown and
-    /// what a seat has seen, one list begins with the other.
+    /// Says whether the copies show all that a seat has seen: then that is a prefix of the history. What is shown begins with
+    /// what the seat has seen, or the other way round.
     pub fn beside(&self, seat: &Seat<J>) -> bool
         ensures one { OneBegins self.now.shown seat.now }
         ensures all { IsTrue result ↔ length seat.now ≤ length self.now.shown }
@@ -139,8 +139,8 @@ impl<J: Naming> Publisher<J> {
         self.tell().holds(seat)
     }
 
-    /// Brings the accounts of the first eight requests into the cache, for calls of [`Publisher::enter`] that come next. Where accounts
-    /// are few, or there is one request, nothing is searched for. The publisher stays.
+    /// Brings the accounts of the first eight requests into the cache, for the next calls of [`Publisher::enter`]. Nothing
+    /// is searched for if accounts are few, or there is one request. The publisher stays.
     pub fn touch(&mut self, requests: &[Request])
         ensures { self.new ≡ self.old }
     {
@@ -161,8 +161,8 @@ impl<J: Naming> Publisher<J> {
         )
     }
 
-    /// Has the copies show the whole history, and answers its last commit number. It waits for readers of the copy that
-    /// is not shown.
+    /// Has the copies show the whole history, and returns its last commit number. It waits for readers of the copy that is
+    /// not shown.
     pub fn show<W: Wait>(&mut self, rt: &W) -> Result<u64, TakeFault>
         ensures history { self.new.history ≡ self.old.history }
         ensures shown { IsPrefix self.old.shown self.new.shown }
@@ -177,10 +177,10 @@ impl<J: Naming> Publisher<J> {
         }
     }
 
-    /// Takes a request that comes at a moment: shows what is not shown yet, enters the request, and shows the history
-    /// with it. NoMemory and TimeExhausted leave the history as it was, and the copies show all of it. Unpublished of the
-    /// history's old length comes before the request is judged, and leaves the history as it was; Unpublished of one more
-    /// comes after it was entered, and the copies show all but its entry.
+    /// Takes a request that comes at a moment: shows what is not shown yet, enters the request, and shows the history with
+    /// it. NoMemory and TimeExhausted leave the history as it was, and the copies show all of it. Unpublished with the
+    /// history's old length comes before the request is judged, and leaves the history as it was. Unpublished with one more
+    /// comes after the request was entered: then the copies show all except its entry.
     pub fn take<W: Wait>(&mut self, rt: &W, request: Request, now: u64) -> Result<Taken, TakeFault>
         ensures history { TakesRequest J.opening self.old.history request now result self.new.history self.new.shown }
         ensures shown { IsPrefix self.old.shown self.new.shown }
@@ -214,7 +214,7 @@ impl<J: Naming> Publisher<J> {
         self.copies.shown().front().len() == self.history.len() as u64
     }
 
-    /// Offers the entries to the copies that were not offered yet, as far as there is memory.
+    /// Offers the copies the entries that were not offered yet, as far as there is memory.
     fn offer_all(&mut self)
         ensures { self.new ≡ self.old }
     {
@@ -236,7 +236,7 @@ impl<J: Naming> Publisher<J> {
         }
     }
 
-    /// Has the copies search for the accounts of the next four entries, where accounts are many.
+    /// Has the copies search for the accounts of the next four entries, if accounts are many.
     fn look_ahead(&mut self)
         ensures { self.new ≡ self.old }
     {
@@ -256,8 +256,8 @@ impl<J: Naming> Publisher<J> {
         let _ = self.copies.swap(rt);
     }
 
-    /// Ends the opening, and gives its history out. It waits for the seats that are reading; those that ask from then on
-    /// find no copy.
+    /// Ends the opening, and returns its history. It waits for the seats that are reading; those that ask from then on find
+    /// no copy.
     pub fn close<W: Wait>(self, rt: &W) -> Vec<Entry>
         ensures history { result.items ≡ self.history }
         ensures legal { LegalIn J.opening result.items }

@@ -56,8 +56,8 @@ impl Opening {
     }
 }
 
-/// Opens an empty history: its publisher, and so many seats. The caller names the opening: it calls a function that is
-/// generic in `J`. Where it is refused, nothing is left of it.
+/// Opens an empty history: its publisher, and `seats` seats. The caller names the opening: it calls a function that is
+/// generic in `J`. If it is refused, nothing is left of it.
 pub fn open<J: Naming, W: Wait>(
     alloc: Global,
     rt: &W,
@@ -81,7 +81,7 @@ pub fn open<J: Naming, W: Wait>(
     }
 }
 
-/// So many seats of a publisher.
+/// `count` seats of a publisher.
 fn take_seats<J: Naming>(
     alloc: Global,
     publisher: &mut Publisher<J>,

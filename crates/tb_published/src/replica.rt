@@ -34,7 +34,7 @@ impl<J: Naming> Model for Posted<J> {
 }
 
 impl<J: Naming> Posted<J> {
-    /// An entry with which a front ends, to be taken in.
+    /// An entry that a front ends with, for the copies to take in.
     pub(crate) fn new(entry: Entry, front: Front) -> Posted<J>
         requires named { front.opening ≡ J.opening }
         requires last { EndsWith front.list entry }
@@ -48,8 +48,8 @@ impl<J: Naming> Posted<J> {
         }
     }
 
-    /// Has the copies search for the accounts of this entry and of the next three before they take it in. Where no other comes next,
-    /// or there is no memory, they search for none.
+    /// Has the copies search for the accounts of this entry and of the next three before they take it in. If there is no
+    /// next entry, or no memory, they search for no account.
     pub(crate) fn look_ahead(&mut self, global: Global, later: &[Entry])
         ensures { self.new ≡ self.old }
     {
@@ -121,7 +121,7 @@ impl<J: Naming> Replica<J> {
         }
     }
 
-    /// Says that a posted entry is the one behind the copy's. The publisher sends no other.
+    /// Says that a posted entry is the one after the copy's. The publisher sends no other.
     fn comes_next(&self, posted: &Posted<J>) -> bool
         ensures one { result ≡ (length posted.now.front.list == length self.now.list + 1) }
         ensures fits { IsTrue result → IsTrue (fits (prefix_state self.now) posted.now.entry) }

@@ -4,7 +4,7 @@ use crate::replica::Replica;
 use atomic_table::{Join, Split};
 use crossbeam_utils::rule::{Outcome, Protocol};
 
-/// What a reader or the publisher has seen. No value of it is made but the first, which has seen nothing.
+/// What a reader or the publisher has seen. Code makes only the first value of it, which has seen nothing.
 pub type View = Option<crate::front::Front>;
 
 /// The rule of the copies.
@@ -19,7 +19,7 @@ impl<J: Naming> Protocol<Replica<J>, View> for Published {
     ghost first = { None };
 }
 
-/// What a step of a reader or of the publisher tells.
+/// What a step of a reader or of the publisher reports.
 pub struct Look;
 
 impl<J: Naming> Outcome<Replica<J>, View> for Look {
@@ -28,7 +28,7 @@ impl<J: Naming> Outcome<Replica<J>, View> for Look {
     ghost then = { Sees };
 }
 
-/// What the publisher has seen, told to a reader that has seen nothing.
+/// What the publisher has seen, passed to a reader that has seen nothing.
 pub struct Notes;
 
 impl Split<View> for Notes {

@@ -24,8 +24,8 @@ use std::marker::Model;
 use tb_machine::{Machine, answer_of, status_of};
 use tb_records::{Account, Reply, Request, Status, Transfer};
 
-/// Unused bytes on each side of a seat. Every call of a seat writes to it, and seats mostly lie side by side: so no two that
-/// different threads read from share a cache line of 64 bytes, nor a pair of them.
+/// Unused bytes on each side of a seat. Every call of a seat writes to it, and seats mostly lie side by side. With the gaps,
+/// two seats that different threads read from share no cache line of 64 bytes, nor a pair of lines.
 type Gap = [u64; 8];
 
 /// A place at the copies from which one thread reads, without a lock and without waiting. Contracts see it as the
@@ -69,7 +69,8 @@ impl<J: Naming> Seat<J> {
         }
     }
 
-    /// Asks a question of the machine of the copy that is shown: the answer, after the entries that the seat has then seen.
+    /// Asks a question of the machine of the copy that is shown, and returns what it finds after the entries that the seat
+    /// has then seen.
     fn ask<T, Q: FnOnce(&Machine<Global>) -> T>(&mut self, question: Q) -> Result<T, SeatFault>
         requires { Q.IsAlwaysCallable question }
         ensures begins { IsPrefix self.old self.new }
@@ -92,8 +93,8 @@ impl<J: Naming> Seat<J> {
         Ok(answer)
     }
 
-    /// How a request fares after the entries that are shown: Reply where it is answered, NotYet where it is new, else
-    /// its refusal. It takes no memory.
+    /// The status of a request after the entries that are shown: Reply if its reply is stored, NotYet if it is new,
+    /// otherwise its refusal. It takes no memory.
     pub fn status(&mut self, request: &Request) -> Result<Status, SeatFault>
         ensures begins { IsPrefix self.old self.new }
         ensures status { IfOk result (HasStatusIn J.opening self.new request.now) }
@@ -107,8 +108,8 @@ impl<J: Naming> Seat<J> {
         Ok(status_of(class))
     }
 
-    /// The whole answer to a request after the entries that are shown: the stored reply, or a refusal. NoMemory where
-    /// the copy of a reply's body finds none; the seat has then seen what is shown all the same.
+    /// The whole answer to a request after the entries that are shown: the stored reply, or a refusal. NoMemory if there is
+    /// no memory for the copy of a reply's body; the seat has then seen what is shown all the same.
     pub fn answer(&mut self, request: &Request) -> Result<Reply, SeatFault>
         ensures begins { IsPrefix self.old self.new }
         ensures answer { IfOk result (AnswersIn J.opening self.new request.now) }
@@ -125,8 +126,8 @@ impl<J: Naming> Seat<J> {
         answer.map_err(|_| SeatFault::NoMemory)
     }
 
-    /// The accounts that are found, in the order of the ids, as they are now after the entries that are shown, and the
-    /// number of those entries.
+    /// The accounts that are found, in the order of the ids, as they are after the entries that are shown, and the number of
+    /// those entries.
     pub fn lookup_accounts(&mut self, ids: &[u128]) -> Result<(u64, Vec<Account>), SeatFault>
         ensures begins { IsPrefix self.old self.new }
         ensures found { IfOk result (λ t. FindsAccounts J.opening self.new ids.now t.0 t.1.items) }
@@ -151,7 +152,7 @@ impl<J: Naming> Seat<J> {
         }
     }
 
-    /// Takes over what the publisher told, where that is more than was seen.
+    /// Takes what the publisher told as seen, if that is longer than what was seen.
     pub fn learn(&mut self, told: &Told<J>)
         ensures longer { self.new ≡ longer_of self.old told.now }
         ensures own { IsPrefix self.old self.new }
@@ -160,7 +161,7 @@ impl<J: Naming> Seat<J> {
         self.front = self.front.longer(told.front());
     }
 
-    /// Says whether it has seen all that another seat has. Of what two seats have seen, one list begins with the other.
+    /// Says whether it has seen all that another seat has. One of the two lists begins with the other.
     pub fn beside(&self, other: &Seat<J>) -> bool
         ensures one { OneBegins self.now other.now }
         ensures all { IsTrue result ↔ length other.now ≤ length self.now }
@@ -168,7 +169,7 @@ impl<J: Naming> Seat<J> {
         other.is_within(&self.front)
     }
 
-    /// Says whether a front of its opening has all that it has seen. Of the two, one begins with the other.
+    /// Says whether a front of its opening has all that it has seen. One of the two begins with the other.
     pub(crate) fn is_within(&self, front: &Front) -> bool
         requires { front.now.opening ≡ J.opening }
         ensures one { OneBegins front.now.list self.now }
@@ -193,8 +194,8 @@ pub(crate) type Place<J> = Reader<Replica<J>, View, Published>;
 /// A reader with the copy that it reads, until it leaves.
 pub(crate) type Looking<J> = Reading<Replica<J>, View, Published>;
 
-/// Enters the copy that is shown, and tells its front; the place comes back where there is no copy. A copy that shows
-/// less than the reader knows is refused too: there is none, since a reader knows only what was shown.
+/// Enters the copy that is shown, and returns its front; the place comes back if there is no copy. A copy that shows less
+/// than the reader knows is refused too: no copy does, because a reader knows only what was shown.
 pub(crate) fn enter<J: Naming>(
     place: Place<J>,
     front: &Front,
@@ -218,7 +219,7 @@ pub(crate) fn enter<J: Naming>(
     Ok((reading, shown))
 }
 
-/// Asks a question of the machine of the copy that is shown: answers the front of the copy, and what the machine answered.
+/// Asks a question of the machine of the copy that is shown: returns the front of the copy, and what the machine returned.
 pub(crate) fn look<J: Naming, T, Q: FnOnce(&Machine<Global>) -> T>(
     place: Place<J>,
     front: &Front,

@@ -37,14 +37,14 @@ impl<J: Naming> Told<J> {
         }
     }
 
-    /// The commit number of its last entry; 0 where there is none.
+    /// The commit number of its last entry; 0 if it has no entry.
     pub fn commit(&self) -> u64
         ensures { result ≡ length self.now }
     {
         self.front.len()
     }
 
-    /// Says whether it has all that a seat has seen. Of the two lists one begins with the other.
+    /// Says whether it has all that a seat has seen. One of the two lists begins with the other.
     pub(crate) fn holds(&self, seat: &Seat<J>) -> bool
         ensures one { OneBegins self.now seat.now }
         ensures all { IsTrue result ↔ length seat.now ≤ length self.now }

@@ -144,7 +144,7 @@ impl Shown {
     }
 }
 
-/// A machine, what it showed before the last call, and what behind it.
+/// A machine, what it showed before the last call, and what after it.
 struct Watched<'a> {
     machine: Machine<Global>,
     named: &'a Named,
@@ -167,7 +167,7 @@ impl Drop for Watched<'_> {
 }
 
 impl Watched<'_> {
-    /// Applies an entry that may come next; where that is refused nothing has changed, and it is applied again.
+    /// Applies an entry that may come next; if that is refused, nothing has changed, and it is applied again.
     fn apply<R: Eprint>(&mut self, rt: &R, entry: &Entry) -> Result<(), Trouble> {
         self.before.look(&self.machine, self.named)?;
         if !self.machine.fits(entry) {
@@ -185,7 +185,7 @@ impl Watched<'_> {
         Err(Trouble::Wrong(Why::RefusedTwice))
     }
 
-    /// Enters the request of a pair, where it is new.
+    /// Enters the request of a pair, if it is new.
     fn enter<R: Eprint>(&mut self, rt: &R, alloc: Global, pair: &Pair) -> Result<(), Trouble> {
         if self.machine.class(&pair.request) != Class::New {
             return Ok(());

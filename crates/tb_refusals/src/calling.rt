@@ -14,10 +14,10 @@ use tb_published::{Naming, Opening, Publisher, Seat, SeatCount, SeatFault, TakeF
 use tb_records::{ClientsMax, Reply, Request, Status};
 use tb_service::{Ended, Finished, Open, Port, PortCount, service};
 
-/// So many calls are made for a request at most.
+/// The most calls that are made for a request.
 const CALLS_MAX: u32 = 200;
 
-/// So often a call asks its seat.
+/// How often a call asks its seat.
 const LOOKS_PER_CALL: u32 = 20_000;
 
 /// The server takes nothing more: a copy of the request comes back.
@@ -34,7 +34,7 @@ fn is_gone<R: Wait>(rt: &R, alloc: Global, port: &mut Port, request: &Request) -
     }
 }
 
-/// Appends a reply; false where it is NotYet.
+/// Appends a reply; false if it is NotYet.
 fn put_answer(reply: &Reply, out: &mut Vec<u8>) -> Result<bool, Trouble> {
     if reply.status() == Status::NotYet {
         return Ok(false);
@@ -43,7 +43,7 @@ fn put_answer(reply: &Reply, out: &mut Vec<u8>) -> Result<bool, Trouble> {
     Ok(true)
 }
 
-/// Says why a call was refused.
+/// Prints why a call was refused.
 fn note_fault<R: Eprint>(rt: &R, fault: SeatFault) {
     match fault {
         SeatFault::NoMemory => note(rt, "call NoMemory"),
@@ -59,7 +59,7 @@ struct Client<J: Naming> {
 }
 
 impl<J: Naming> Client<J> {
-    /// Calls once; false where the call was refused, or the reply is NotYet though the server is not gone.
+    /// Calls once; false if the call was refused, or the reply is NotYet though the server is not gone.
     fn call_once<R: Wait + Eprint>(
         &mut self,
         rt: &R,
@@ -107,7 +107,7 @@ impl<J: Naming> Client<J> {
     }
 }
 
-/// Calls the requests of all pairs, one after another, once the server has begun. False where it has no thread.
+/// Calls the requests of all pairs, one after another, once the server has begun. False if it has no thread.
 fn call_pairs<J: Naming, R: Wait + Eprint>(
     rt: &R,
     alloc: Global,
@@ -126,7 +126,7 @@ fn call_pairs<J: Naming, R: Wait + Eprint>(
     Ok(true)
 }
 
-/// The client's thread: calls once the server has begun, and closes the port. False where the server has no thread.
+/// The client's thread: calls once the server has begun, and closes the port. False if the server has no thread.
 fn call_beside<J: Naming, R: Wait + Eprint>(
     rt: &R,
     alloc: Global,
@@ -142,7 +142,7 @@ fn call_beside<J: Naming, R: Wait + Eprint>(
     called
 }
 
-/// Says how the run ended and what was refused in it.
+/// Prints how the run ended and what was refused in it.
 fn print_end<J: Naming, R: Eprint>(rt: &R, finished: &Finished<J>) {
     for (_, fault) in finished.refused.as_slice() {
         if *fault == TakeFault::NoMemory {
@@ -211,7 +211,7 @@ fn call_over<J: Naming + Send + Sync, R: Threads + Wait + Eprint + Sync>(
     Ok(Some(called))
 }
 
-/// Calls the requests of a script, and appends the answers and the history; false where the opening, the service or the
+/// Calls the requests of a script, and appends the answers and the history; false if the opening, the service or the
 /// server's thread is refused.
 pub fn call_all<J: Naming + Send + Sync, R: Threads + Wait + Eprint + Sync>(
     rt: &R,

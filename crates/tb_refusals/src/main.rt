@@ -1,8 +1,9 @@
-//! `tb_refusals FORM CLIENTS_MAX`: serves the script of standard input by calls that may want memory, and makes a call that
-//! was refused again. tests/programs/test_refusals.py runs it with each allocation refused in turn, one a run. `tb_refusals read` reads frames.
+//! `tb_refusals FORM CLIENTS_MAX`: serves the script of standard input by calls that may run out of memory, and makes a
+//! refused call again. tests/programs/test_refusals.py runs it with each allocation refused in turn, one a run. `tb_refusals
+//! read` reads frames.
 //!
 //! The forms `apply`, `take`, `offer` and `call` look at what a refused call left behind; `run`, `dump` and `replay` (which
-//! reads a dump) end at their first fault, and say of which kind it is. What was answered goes to standard output, a line for
+//! reads a dump) end at their first fault, and print its kind. What was answered goes to standard output, and a line for
 //! each refusal to standard error; Trouble::exit_status gives the exit statuses.
 //!
 //! Modules, each over those before it:
@@ -43,7 +44,7 @@ use tb_published::{Naming, Opening};
 use tb_records::{ClientsMax, Profile};
 use troubles::{Trouble, Why};
 
-/// The bytes that may be answered.
+/// The bytes of output that there is capacity for.
 const ROOM_BYTES: usize = 1 << 20;
 
 /// How the script reaches a publisher.
@@ -71,7 +72,7 @@ enum Served {
 /// What the program was asked to do.
 #[derive(Clone, Copy)]
 enum Form {
-    /// A script is served, with so many clients.
+    /// A script is served, with at most this many clients with a session.
     Serve(Served, ClientsMax),
     /// Frames are read.
     Read,
@@ -113,7 +114,7 @@ fn read_words(rt: &HostRuntime) -> Result<Form, Trouble> {
     form_of(words.as_slice())
 }
 
-/// Serves a script by an opening. False where the opening, or its service, is refused.
+/// Serves a script by an opening. False if the opening, or its service, is refused.
 fn serve_opening<J: Naming + Send + Sync, R: Threads + Wait + Eprint + Sync>(
     rt: &R,
     way: Way,
@@ -128,7 +129,7 @@ fn serve_opening<J: Naming + Send + Sync, R: Threads + Wait + Eprint + Sync>(
     }
 }
 
-/// Serves a script by a publisher: by another one where the first is refused, since one allocation a run is refused.
+/// Serves a script by a publisher: by another one if the first is refused, because one allocation a run is refused.
 fn serve_published<R: Threads + Wait + Eprint + Sync>(
     rt: &R,
     alloc: Global,
@@ -182,7 +183,7 @@ fn serve<R: Threads + Wait + Eprint + Sync>(
     }
 }
 
-/// What the program was asked to do, what it was given, and what it answers.
+/// What the program was asked to do, what it was given, and its output.
 #[derive(Drop)]
 struct Task {
     form: Form,
@@ -190,7 +191,7 @@ struct Task {
     out: Vec<u8>,
 }
 
-/// Reads the program's words and its input, and reserves memory for what is answered.
+/// Reads the program's words and its input, and reserves memory for its output.
 fn read_task(rt: &HostRuntime) -> Result<Task, Trouble> {
     let form = read_words(rt)?;
     let mut input = Vec::new(rt.alloc());

@@ -56,7 +56,7 @@ pub fn next_port(ports: &mut Vec<Port>) -> Result<Port, Trouble>
 
 type Started<'a, J, R> = Server<J, &'a R, Listed, Open>;
 
-/// A server and two ports; None where they are refused.
+/// A server and two ports; None if they are refused.
 fn two_ports<'a, J: Naming, R: Wait + Eprint>(
     rt: &'a R,
     alloc: Global,
@@ -99,14 +99,14 @@ fn two_ports<'a, J: Naming, R: Wait + Eprint>(
     Ok(Some((server, first, second)))
 }
 
-/// Offers a request; false where it comes back.
+/// Offers a request; false if it comes back.
 fn offer<R: Wait>(rt: &R, request: Request, port: &mut Port) -> bool
     ensures { port.new.service ≡ port.old.service }
 {
     is_taken(port.offer(rt, request))
 }
 
-/// Offers a request by the port whose turn it is; false where it comes back.
+/// Offers a request by the port whose turn it is; false if it comes back.
 fn offer_in_turn<R: Wait>(
     rt: &R,
     request: Request,
@@ -141,7 +141,7 @@ fn offer_by_turns<R: Wait>(
     (offered, first.close(rt), second.close(rt))
 }
 
-/// The places of a port, asked for again where that is refused.
+/// The places of a port, asked for again if that is refused.
 fn places<J: Naming, R: Eprint>(
     rt: &R,
     finished: &mut Finished<J>,
@@ -177,7 +177,7 @@ fn rise_by_two(places: &[u64], first: u64) -> bool {
     true
 }
 
-/// The places of both ports are those of their turns; answers how many there are.
+/// Checks that the places of both ports are those of their turns; returns how many there are.
 fn check_places(first: &Option<Vec<u64>>, second: &Option<Vec<u64>>) -> Result<u64, Trouble> {
     let (Some(first), Some(second)) = (first, second) else {
         return Err(Trouble::Wrong(Why::RefusedTwice));
@@ -187,7 +187,7 @@ fn check_places(first: &Option<Vec<u64>>, second: &Option<Vec<u64>>) -> Result<u
     Ok((first.len() as u64).saturating_add(second.len() as u64))
 }
 
-/// Looks accounts up; where that is refused, it is done again. Then the seat has seen all.
+/// Looks accounts up; if that is refused, it is done again. Then the seat has seen all.
 fn look<J: Naming, R: Eprint>(rt: &R, seat: &mut Seat<J>, last: u64) -> Result<(), Trouble> {
     if seat.lookup_accounts(&[1, 2]).is_err() {
         note(rt, "lookup NoMemory");
@@ -215,7 +215,7 @@ fn show_all<J: Naming, R: Wait + Eprint>(
     }
 }
 
-/// Says which places were refused, and how the run ended.
+/// Prints which places were refused, and how the run ended.
 fn print_end<J: Naming, R: Eprint>(rt: &R, finished: &Finished<J>, taken: u64) {
     for (place, fault) in finished.refused.as_slice() {
         let _ = eprintln!(rt; "refused {place} {fault}");
@@ -282,7 +282,7 @@ fn two_of_each() -> Result<(PortCount, SeatCount), Trouble> {
     Ok((ports, seats))
 }
 
-/// Serves the pairs of a script, and appends the history; false where the opening or the service is refused.
+/// Serves the pairs of a script, and appends the history; false if the opening or the service is refused.
 pub fn offer_all<J: Naming, R: Wait + Eprint>(rt: &R, work: Work<'_>) -> Result<bool, Trouble>
     requires { work.opening ≡ J.opening }
 {

@@ -6,7 +6,7 @@ use std::alloc::Global;
 use std::sync::Wait;
 use tb_published::{Naming, OpenFault, Opening, Publisher, Seat, SeatCount, open};
 
-/// A publisher and a seat; None where the opening is refused.
+/// A publisher and a seat; None if the opening is refused.
 pub fn opened<J: Naming, R: Wait + Eprint>(
     rt: &R,
     alloc: Global,

@@ -1,7 +1,7 @@
 //! Frames of requests and replies, one after another, and a line for each. tests/programs/test_damaged_frames.py gives damaged ones.
 //!
-//! Each frame is behind its kind (1 a request, 2 a reply) and the number of its bytes (u32, lowest byte first). The line is
-//! the number of the frame's fault; 0 where the bytes begin with a frame that is written again as it was; 255 where it is
+//! Each frame comes after its kind (1 a request, 2 a reply) and the number of its bytes (u32, lowest byte first). The line
+//! is the number of the frame's fault; 0 if the bytes begin with a frame that is written again as it was; 255 if it is
 //! written otherwise, or the kind is another.
 use crate::troubles::Trouble;
 use std::alloc::{AllocError, Global};
@@ -11,7 +11,7 @@ use tb_records::{FrameFault, read_reply, read_request, write_reply, write_reques
 /// The line of a frame that is read, and written otherwise.
 const OTHERWISE: u8 = 255;
 
-/// Says whether the bytes begin with what was written.
+/// 0 if the bytes begin with what was written, otherwise `OTHERWISE`.
 fn compared(bytes: &[u8], length: usize, written: &[u8]) -> u8 {
     if bytes.get(..length) == Some(written) {
         0
@@ -40,7 +40,7 @@ fn judge_reply(alloc: Global, bytes: &[u8]) -> Result<u8, FrameFault> {
     }
 }
 
-/// What is answered of a frame.
+/// The line of a frame.
 fn judge(alloc: Global, kind: u8, bytes: &[u8]) -> u8 {
     let judged = match kind {
         1 => judge_request(alloc, bytes),
@@ -53,7 +53,7 @@ fn judge(alloc: Global, kind: u8, bytes: &[u8]) -> u8 {
     }
 }
 
-/// The kind and the bytes of the next frame, and what is behind them.
+/// The kind and the bytes of the next frame, and what is after them.
 fn next_frame(input: &[u8]) -> Option<(u8, &[u8], &[u8])> {
     let (head, rest) = input.split_at_checked(5)?;
     let [kind, a, b, c, d] = *head else {

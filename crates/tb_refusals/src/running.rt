@@ -22,7 +22,7 @@ fn outcome_of_replay(answer: Result<u64, DumpFault>) -> Outcome {
     }
 }
 
-/// Says how a call ended and how many bytes are unread.
+/// Prints how a call ended and how many bytes are unread.
 fn print_outcome<R: Eprint>(rt: &R, outcome: Outcome, unread: usize) {
     let (kind, name) = outcome;
     let _ = eprintln!(rt; "{kind} {unread} {name}");
@@ -32,13 +32,13 @@ fn print_outcome<R: Eprint>(rt: &R, outcome: Outcome, unread: usize) {
 #[derive(Clone, Copy)]
 pub enum Call {
     Run,
-    /// With a mark behind the second entry.
+    /// With a mark after the second entry.
     Dump,
     /// Of a dump.
     Replay,
 }
 
-/// Makes a call, and says how it ended.
+/// Makes a call, and prints how it ended.
 pub fn call_once<R: Eprint>(
     rt: &R,
     alloc: Global,

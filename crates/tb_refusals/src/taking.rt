@@ -9,7 +9,7 @@ use std::sync::Wait;
 use tb_published::{Naming, Opening, Publisher, Seat, SeatCount, SeatFault, TakeFault, Taken};
 use tb_records::{ClientsMax, Reply, Request, Status};
 
-/// A call of `take` that was refused: where the history has grown, the next call is a repeat.
+/// A call of `take` after a refused one: if the history has grown, it is a repeat.
 fn expect_repeat(again: Result<Taken, TakeFault>, commit: u64) -> Result<(), Trouble> {
     match again {
         Ok(Taken::Repeat(c)) if c == commit => Ok(()),
@@ -17,7 +17,8 @@ fn expect_repeat(again: Result<Taken, TakeFault>, commit: u64) -> Result<(), Tro
     }
 }
 
-/// What `take` answers once nothing is refused: the history has grown by one entry where it says so, and else stayed.
+/// What `take` returns once nothing is refused: the history has grown by one entry if the result says so, and otherwise
+/// stayed.
 fn expect_taken(taken: Result<Taken, TakeFault>, before: u64, behind: u64) -> Result<(), Trouble> {
     match taken {
         Ok(Taken::Committed(c)) => {
@@ -58,7 +59,7 @@ fn expect_less<J: Naming>(
     )
 }
 
-/// Takes the request of a pair; where that is refused, it is taken again.
+/// Takes the request of a pair; if that is refused, it is taken again.
 fn take_pair<J: Naming, R: Wait + Eprint>(
     rt: &R,
     alloc: Global,
@@ -96,7 +97,7 @@ fn take_pair<J: Naming, R: Wait + Eprint>(
     }
 }
 
-/// A seat's answer; None where it is refused.
+/// A seat's answer; None if it is refused.
 fn ask<J: Naming, R: Eprint>(
     rt: &R,
     seat: &mut Seat<J>,
@@ -121,7 +122,7 @@ fn ask<J: Naming, R: Eprint>(
     }
 }
 
-/// A seat's answer; where that is refused, it is asked again.
+/// A seat's answer; if that is refused, it is asked again.
 fn answer<J: Naming, R: Eprint>(
     rt: &R,
     seat: &mut Seat<J>,
@@ -187,7 +188,7 @@ fn take_over<J: Naming, R: Wait + Eprint>(
     put_history(clients_max, publisher.history(), out)
 }
 
-/// Takes the pairs of a script, and appends the seat's answers and the history; false where the opening is refused.
+/// Takes the pairs of a script, and appends the seat's answers and the history; false if the opening is refused.
 pub fn take_all<J: Naming, R: Wait + Eprint>(rt: &R, work: Work<'_>) -> Result<bool, Trouble>
     requires { work.opening ≡ J.opening }
 {

@@ -2,7 +2,7 @@
 use std::alloc::{AllocError, AllocFailed};
 use std::io;
 
-/// What a call answered, or left behind, that it must not.
+/// What a call returned, or left behind, that it must not.
 #[derive(Clone, Copy, Debug, PartialEq, Eq)]
 pub enum Why {
     /// It was refused though allocations are refused once.
@@ -50,12 +50,12 @@ pub enum Trouble {
     SetUp,
     /// The server is gone: it ended out of memory.
     Gone,
-    /// A call answered, or left behind, what it must not.
+    /// A call returned, or left behind, what it must not.
     Wrong(Why),
 }
 
 impl Trouble {
-    /// 1 where a call was wrong, 3 where the program's own memory was refused, 4 where the server is gone.
+    /// 1 if a call was wrong, 3 if the program's own memory was refused, 4 if the server is gone.
     pub fn exit_status(self) -> u8 {
         match self {
             Trouble::Wrong(_) => 1,
@@ -83,7 +83,7 @@ impl From<io::Error> for Trouble {
     }
 }
 
-/// Says that a call was refused.
+/// Prints that a call was refused.
 pub fn note<R: Eprint>(rt: &R, what: &str) {
     let _ = eprintln!(rt; "{what}");
 }

@@ -7,7 +7,7 @@ use std::cell::Cell;
 pub struct Tally {
     /// The allocations that were asked for.
     pub asked: u64,
-    /// The first allocation that is refused; 0 for none.
+    /// The first allocation that is refused; 0 if no allocation is.
     pub refused_at: u64,
     /// The last one that is refused.
     pub refused_until: u64,
@@ -19,20 +19,20 @@ pub struct Tally {
     pub greatest: u64,
 }
 
-/// An allocator over another one, that refuses one allocation, once, or all from one on until it relents, and counts its blocks and
-/// bytes.
+/// An allocator over another one. It refuses one allocation, once, or all from one on until it relents, and counts its
+/// blocks and bytes.
 pub struct Refusing<B: Allocator> {
     inner: B,
     tally: Cell<Tally>,
 }
 
 impl<B: Allocator> Refusing<B> {
-    /// Refuses the allocation with this number, from 1; none where that is 0.
+    /// Refuses the allocation with this number, from 1; no allocation if it is 0.
     pub fn new(inner: B, refused_at: u64) -> Refusing<B> {
         Refusing::within(inner, refused_at, refused_at)
     }
 
-    /// Refuses the allocation with this number, from 1, and all behind it until it relents; none where that is 0.
+    /// Refuses the allocation with this number, from 1, and all after it until it relents; no allocation if it is 0.
     pub fn from(inner: B, refused_at: u64) -> Refusing<B> {
         let refused_until = if refused_at == 0 { 0 } else { u64::MAX };
         Refusing::within(inner, refused_at, refused_until)
@@ -53,7 +53,7 @@ impl<B: Allocator> Refusing<B> {
         }
     }
 
-    /// Grants so many allocations from now on, and refuses all behind them until it relents.
+    /// Grants `count` allocations from now on, and refuses all after them until it relents.
     pub fn allow(&self, count: u64) {
         let mut now = self.tally.get();
         now.refused_at = now.asked.wrapping_add(count).wrapping_add(1);
@@ -80,7 +80,7 @@ impl<B: Allocator> Drop for Refusing<B> {
     }
 }
 
-/// Counts an allocation of so many bytes that is asked for, and says whether it is refused.
+/// Counts an allocation of `size` bytes that is asked for, and says whether it is refused.
 fn refuses(tally: &Cell<Tally>, size: usize) -> bool {
     let mut now = tally.get();
     now.asked = now.asked.wrapping_add(1);

@@ -1,5 +1,5 @@
-//! `tb_script`: `tbs` without its storm, with the same forms, lines and exit statuses. It is built on the one-thread server alone, so it
-//! is proved and built before the copies and ports are.
+//! `tb_script`: `tbs` without its storm, with the same forms, lines and exit statuses. It is built only on the one-thread
+//! server, so it is proved and built before the copies and ports are.
 #![tactic(auto)]
 
 use std::process::ExitCode;

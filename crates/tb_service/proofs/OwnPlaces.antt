@@ -15,7 +15,7 @@ use Rattle.tb_service.specs.private.Rule.{taken_in, TalliesOrders}
 use Rattle.tb_service.specs.Places.{requests, ports, places_from}
 use Rattle.tb_service.specs.Finished.{IsOffered}
 
--- one place more
+-- one more place
 
 by_owner : (b : Bool) (n : ℕ) (longer here more : List ℕ) → longer ≡ here ++ more → (if b then n ∷ longer else longer) ≡ (if b then n ∷ here else here) ++ more
 by_owner true n longer here more is = ap (λ (l : List ℕ). n ∷ l) is
@@ -45,7 +45,7 @@ one_more : (b : Bool) (get : ℕ → Option Message) (k : ℕ) (w : Option Messa
 one_more true get k w places here rest is more = λ i. is i ∷ more i
 one_more false get k w places here rest is more = more
 
--- those of one order, and those behind it
+-- those of one order, and those after it
 block : (p q n : ℕ) (front rs rest whole : List Message) (ps : List ℕ) → whole ≡ front ++ (rs ++ rest) → length front ≡ n
     → map (get_at whole) (places_from p (n + 1) (replicate (length rs) q ++ ps)) ≡ (if q == p then map Some rs else []) ++ map (get_at whole) (places_from p (n + 1 + length rs) ps)
 block p q n front [] rest whole ps is long =
@@ -89,13 +89,13 @@ accounted v u w items number places ended is account mine here over =
       all = λ e. learnt.ended (over e u.port learnt.made);
     }
 
--- one port more
+-- one more port
 pub numbered-snoc : (name : Name) (n m : ℕ) (ports : List Offers) (port : Offers) → AreNumbered name n ports → n + length ports ≡ m → port.service ≡ name → port.number ≡ m → port.offered ≡ []
     → AreNumbered name n (ports ++ port ∷ [])
 numbered-snoc name n m [] port these is s number empty = (s, number ∙ omega arith, empty, tt)
 numbered-snoc name n m (x ∷ xs) port these is s number empty = (these.0, these.1, these.2, numbered-snoc name (n + 1) m xs port these.3 (omega arith) s number empty)
 
--- one port more was looked at
+-- one more port was looked at
 
 module _ (port at : ℕ) (ports places longer : List ℕ) (there : at < length ports) (so_far : places ≡ places_from port 1 (take at ports)) where
   next_place : places_from port 1 (take (at + 1) ports) ≡ places ++ (if get_or ports at 0 == port then (at + 1) ∷ [] else [])

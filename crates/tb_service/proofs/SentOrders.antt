@@ -4,7 +4,7 @@ use Rattle.tb_records.specs.Messages.{Message}
 use Rattle.tb_service.specs.declared.orders.Order.{Order}
 use Rattle.tb_service.specs.Sent.{requests_in, closes, requests_of, is_port_closed, has_none_of, ends_at_close}
 
--- two lines, one behind the other
+-- two lists of orders, one after the other
 
 append_if : (b : Bool) (x a c : List Message) → (if b then x ++ (a ++ c) else a ++ c) ≡ (if b then x ++ a else a) ++ c
 append_if true x a c = sym (append_assoc x a c)
@@ -36,7 +36,7 @@ has_none_of-append p (o ∷ os) b =
     ap (λ (l : Bool). if o.port == p then false else l) (has_none_of-append p os b)
     ∙ and_if (o.port == p) (has_none_of p os) (has_none_of p b)
 
--- where no order of a port was sent
+-- if no order of a port was sent
 
 none_requests : (b : Bool) (x l : List Message) (none : Bool) → (if b then false else none) ≡ true → (none ≡ true → l ≡ []) → (if b then x ++ l else l) ≡ []
 none_requests true x l none h rest = absurd (true≢false (sym h))
@@ -54,7 +54,7 @@ pub is_port_closed-none : (p : ℕ) (l : List Order) → has_none_of p l ≡ tru
 is_port_closed-none p [] h = refl
 is_port_closed-none p (o ∷ os) h = none_closed (o.port == p) (closes o.what) (is_port_closed p os) (has_none_of p os) h (is_port_closed-none p os)
 
--- one order more: of the port itself, and of another
+-- one more order: of the port itself, and of another
 
 module _ (sent_orders : List Order) (o : Order) where
   pub requests_of-own : (p : ℕ) → o.port ≡ p → requests_of p (sent_orders ++ o ∷ []) ≡ requests_of p sent_orders ++ requests_in o.what
@@ -92,7 +92,7 @@ module _ (sent_orders : List Order) (o : Order) where
       ∙ ap (λ (b : Bool). b && (if o.port == p then false else true)) none
       ∙ ap (λ (b : Bool). if b then false else true) (ne_eqb o.port p other)
 
--- an order may join where its port isn't closed
+-- an order may join if its port isn't closed
 ends_step : (b : Bool) (none more none' more' : Bool) → (if b then none else more) ≡ true → (b ≡ true → none' ≡ true) → (b ≡ false → more' ≡ true) → (if b then none' else more') ≡ true
 ends_step true none more none' more' h close on = close refl
 ends_step false none more none' more' h close on = on refl
@@ -132,7 +132,7 @@ ends_at_close-other p (x ∷ xs) o other ends =
     (λ is. has_none_of-other xs o p other (if_true (x.port == p && closes x.what) (has_none_of p xs) (ends_at_close p xs) is ends))
     (λ is. ends_at_close-other p xs o other (if_false (x.port == p && closes x.what) (has_none_of p xs) (ends_at_close p xs) is ends))
 
--- nothing of a port is behind its close
+-- nothing of a port comes after its close
 
 and_right : (a b : Bool) → (a && b) ≡ true → b ≡ true
 and_right true b h = h

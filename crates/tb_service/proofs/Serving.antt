@@ -57,7 +57,7 @@ pub replicate-snoc : (rs : List Message) (r : Message) (p : ℕ) → replicate (
 replicate-snoc [] r p = refl
 replicate-snoc (x ∷ xs) r p = ap (λ (l : List ℕ). p ∷ l) (replicate-snoc xs r p)
 
--- one order more
+-- one more order
 pub places_after : (taken longer : List Order) (order : Order) (a b c d : List ℕ) → ports taken ≡ a → longer ≡ taken ++ order ∷ [] → b ≡ a
     → c ≡ b ++ replicate (length (requests_in order.what)) order.port → d ≡ c → ports longer ≡ d
 places_after taken longer order a b c d before is room served shown =
@@ -89,7 +89,7 @@ module _ {J W M G : Type 0} where
       named = named;
     }
 
-    -- an order was taken, by a clerk who had taken memory, and shown
+    -- an order was taken, by a clerk that had taken memory, and shown
     pub orders_one : (p q : Pass Order View) (order : Order) (c c' d' d : Clerk J W M G) → (view q).taken ≡ (view p).taken ++ order ∷ [] → order.port < (view p).ports → (view q).ports ≡ (view p).ports → service_of q ≡ service_of p
         → server_state c' ≡ server_state c → c'.ports.items ≡ c.ports.items → c'.refused.items ≡ c.refused.items
         → ServesOn o tells passes (server_state c') (length c'.ports.items + 1) (requests_in order.what) c'.refused.items d'.refused.items (server_state d')

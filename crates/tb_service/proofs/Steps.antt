@@ -32,7 +32,7 @@ at_end (x ∷ xs) a b (suc j) e = ⊎_elim inl (λ t. inr (ap suc t.0, t.1)) (at
 all_snoc : (F : ℕ → View → Type 0) (views : List View) (w : View) → All F views → F (length views) w → All F (views ++ w ∷ [])
 all_snoc F views w all last j u e = ⊎_elim (all j u) (λ (x : (j ≡ length views) × (w ≡ u)). subst (λ (y : ℕ × View). F y.0 y.1) (λ i. (sym x.0 i, x.1 i)) last) (at_end views w u j e)
 
--- the pass of one who isn't there
+-- the pass of one that isn't there
 
 no_port : (sent_orders : List Order) (ports : ℕ) (seat : ℕ → ℕ) (pass : ℕ) (v : View) → v.offers ≡ false → v.offers ≡ true → IsPort sent_orders ports seat pass v
 no_port sent_orders ports seat pass v is says = absurd (true≢false (sym says ∙ is))
@@ -272,6 +272,6 @@ learns pass v serves knows items views h at =
       ended = λ closed. nothing_behind p h.taken items (ap (is_port_closed p) (sym mine.takes) ∙ closed) (h.ended p);
     }
 
--- a step of which nothing is to be learnt
+-- a step that nothing is to be learnt from
 pub silent : (pass : ℕ) (v : View) → Learns Queued pass v (λ items. Unit {0})
 silent pass v items views h at = tt

@@ -1,4 +1,4 @@
--- Where each state has one next moment, a run's moments are pinned, and so is the history that comes of it.
+-- If each state has one next moment, a run's moments are pinned, and so is the history that results.
 use Rattle.std.proofs.Common.{◌≡◌, ℕ, suc, ◌+◌, ◌<◌, List, [], ◌∷◌, ◌++◌, length, Option, Some, None, refl, sym, ap, subst, ◌∙◌, arith}
 use Rattle.tb_records.specs.Messages.{Message}
 use Rattle.tb_machine.specs.Scripts.{Pair}
@@ -30,7 +30,7 @@ none_earlier : (n m : ℕ) (f : TakeFault) (ts : List Turn) (rest : List (ℕ ×
 none_earlier n m f [] rest h e = absurd cc
 none_earlier n m f (t ∷ ts) rest h e = left_out n m f t.fault (refused_from (m + 1) ts) rest h (none_earlier n (m + 1) f ts rest (omega (arith, h))) e
 
--- turns with the same requests and moments, of which the same were left out, keep the same
+-- turns with the same requests and moments, and the same ones left out, keep the same
 
 kept_by : (n : ℕ) (f g : Option TakeFault) (p q : Pair) (ts us : List Turn) → p ≡ q → (refused_from (n + 1) ts ≡ refused_from (n + 1) us → pairs_kept ts ≡ pairs_kept us)
     → at_place n f ++ refused_from (n + 1) ts ≡ at_place n g ++ refused_from (n + 1) us → unless f p ++ pairs_kept ts ≡ unless g q ++ pairs_kept us

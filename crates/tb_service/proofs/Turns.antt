@@ -17,7 +17,7 @@ use Rattle.tb_published.specs.Openings.{Opening, after_in}
 use Rattle.tb_published.specs.Taking.{Enters}
 use Rattle.tb_service.specs.History.{accepted_in, Turn, requests_at, moments_at, places_at, unless, pairs_kept, at_place, refused_from, FaultIsRight, turn_of, HasTurn, FaultsAreRight, StepsLead, ServerState, Serves, ServesOn}
 
--- lists of turns, one behind the other
+-- lists of turns, one after the other
 
 accepted-append : (o : Opening) (h : List Entry) (xs ys : List Pair) → accepted_in o h (xs ++ ys) ≡ accepted_in o (accepted_in o h xs) ys
 accepted-append o h xs ys = fold_append (grown (after o.profile o.clients_max)) h xs ys
@@ -117,7 +117,7 @@ module _ {M G : Type 0} (o : Opening) (tells : M → ℕ → M → Type 0) (pass
   serves_on_at x x' y y' n n' rs a a' b b' xs ns as' bs ys =
       subst (λ (t : ServerState M G × ℕ × List (ℕ × TakeFault) × List (ℕ × TakeFault) × ServerState M G). ServesOn o tells passes t.0 t.1 rs t.2 t.3 t.4) (λ i. (xs i, ns i, as' i, bs i, ys i))
 
-  -- one turn at the place n of a request that is kept, and of one that is left out
+  -- one turn at the place n: of a request that is kept, and of one that is left out
 
   pub serves_on_kept : (x y : ServerState M G) (n place moment : ℕ) (r : Message) (a : List (ℕ × TakeFault)) → place ≡ n → HasTurn o x.history (turn_of moment r None) y.history
       → tells x.moments moment y.moments → passes x.gate place y.gate → ServesOn o tells passes x n (r ∷ []) a a y
@@ -177,7 +177,7 @@ module _ (o : Opening) (h m : List Entry) (r : Message) (now : ℕ) where
   refuses fault.TimeExhausted e = record { lawful = (e.0, e.1); history = sym e.2 }
   refuses (fault.Unpublished c) e = absurd e
 
--- what the entering of a request answers
+-- what the entering of a request returns
 pub has_turn : (o : Opening) (h m : List Entry) (r : Message) (now : ℕ) (answer : Result Taken TakeFault) (left_out : Option TakeFault) → left_out ≡ result_err answer
     → Enters o h r now answer m → HasTurn o h (turn_of now r left_out) m
 has_turn o h m r now (Ok t) None is entered = accepts o h m r now t entered

@@ -9,7 +9,7 @@ module _ {J W M G : Type 0} where
   abbrev pub server_state : Clerk J W M G → ServerState M G
   server_state c = state_with c.held.publisher.history c.moments c.gate
 
-  -- nothing changed but the capacity of its lists
+  -- only the capacity of its lists changed
   abbrev pub ChangesCapacityAlone : Clerk J W M G → Clerk J W M G → Type 0
   ChangesCapacityAlone old new = (server_state new ≡ server_state old) × (new.ports.items ≡ old.ports.items) × (new.refused.items ≡ old.refused.items)
 
@@ -17,7 +17,7 @@ module _ {J W M G : Type 0} where
   abbrev pub KeepsCapacity : Clerk J W M G → Clerk J W M G → Type 0
   KeepsCapacity old new = (vec_capacity new.ports ≡ vec_capacity old.ports) × (vec_capacity new.refused ≡ vec_capacity old.refused)
 
-  -- requests had their turns, at the places behind those that it had
+  -- requests had their turns, at the places after those that it had
   abbrev pub ServesMore : Opening → (M → ℕ → M → Type 0) → (G → ℕ → G → Type 0) → Clerk J W M G → List Message → Clerk J W M G → Type 0
   ServesMore o tells passes old requests new =
       ServesOn o tells passes (server_state old) (length old.ports.items + 1) requests old.refused.items new.refused.items (server_state new)

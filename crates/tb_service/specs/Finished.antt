@@ -12,8 +12,7 @@ use Rattle.tb_service.specs.Sent.{is_port_closed}
 use Rattle.tb_service.specs.Names.{Name, service_of}
 use Rattle.tb_service.specs.Places.{requests, ports}
 
--- its publisher, why it ended, the requests taken, by place, and the port of each place; the places of those that were left out, and
--- its service
+-- its publisher, why it ended, the requests taken, by place, and the port of each place; the places of those that were left out, and its service
 pub record Finish : Type 0 where
   pub publisher : Ends
   pub ended : Ended
@@ -43,8 +42,8 @@ pub record IsRunServed (v : View) (owners : List ℕ) (ended : Ended) : Type 0 w
   pub placed : ports v.taken ≡ owners
   pub over : ended ≡ way.Closed → AllAreClosed v
 
--- The requests at these places, from 1, are a prefix of what a port offered, in its order; all of it, where the run ended since
--- each port was closed.
+-- The requests at these places, from 1, are a prefix of what a port offered, in its order; they are all of it if the run ended because each port was
+-- closed.
 pub record IsOffered (offered taken : List Message) (places : List ℕ) (ended : Ended) : Type 0 where
   pub rest : List Message
   pub whole : map Some offered ≡ map (λ place. slice_get taken (place - 1)) places ++ map Some rest

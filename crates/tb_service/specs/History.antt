@@ -14,7 +14,7 @@ use Rattle.tb_published.specs.Openings.{Opening, after_in}
 abbrev pub accepted_in : Opening → List Entry → List Pair → List Entry
 accepted_in o h pairs = accepted o.profile o.clients_max h pairs
 
--- one request in its turn: the moment that it was given, and the fault with which it was left out, if it was
+-- one request in its turn: the moment that it was given, and the fault that left it out, if one did
 pub record Turn : Type 0 where
   pub moment : ℕ
   pub request : Message
@@ -43,7 +43,7 @@ abbrev pub pairs_kept : List Turn → List Pair
 pairs_kept [] = []
 pairs_kept (t ∷ ts) = unless t.fault (t.moment, t.request) ++ pairs_kept ts
 
--- those that were, with their places
+-- those that were left out, with their places
 
 abbrev pub at_place : ℕ → Option TakeFault → List (ℕ × TakeFault)
 at_place n None = []
@@ -53,8 +53,7 @@ abbrev pub refused_from : ℕ → List Turn → List (ℕ × TakeFault)
 refused_from n [] = []
 refused_from n (t ∷ ts) = at_place n t.fault ++ refused_from (n + 1) ts
 
--- a request that is kept has a time where it is new; only a new one is left out: since memory ran out though it has a time, or
--- because it has none
+-- a request that is kept has a time if it is new; only a new one is left out: either memory ran out though it has a time, or it has no time
 abbrev pub Fares : Class → Bool → Option TakeFault → Type 0
 Fares class timely None = class ≡ New → timely ≡ true
 Fares class timely (Some fault.NoMemory) = (class ≡ New) × (timely ≡ true)
@@ -93,8 +92,8 @@ abbrev pub state_with : {M G : Type 0} → List Entry → M → G → ServerStat
 state_with history moments gate = record { history = history; moments = moments; gate = gate }
 
 module _ {M G : Type 0} (o : Opening) (tells : M → ℕ → M → Type 0) (passes : G → ℕ → G → Type 0) where
-  -- The requests had their turns, from the place n on, and these were left out. The new history is what the others made of the
-  -- old one, each with the moment that was given for it; the gate was passed with each place.
+  -- The requests had their turns, from the place n on, and those in `refused` were left out. The new history is what the others made of the old one,
+  -- each with the moment that was given for it. The gate was passed with each place.
   pub record Serves (before : ServerState M G) (n : ℕ) (requests : List Message) (refused : List (ℕ × TakeFault)) (after : ServerState M G) : Type 0 where
     pub turns : List Turn
     pub served : requests_at turns ≡ requests

@@ -23,7 +23,7 @@ pub record GrowsByOffers (count : ℕ) (offered : ℕ → List Message) (before 
   pub grown : history ≡ before ++ more
   pub owned : All (λ (e : Entry). HasOwner count offered e.request) more
 
--- What a run says, and of each port the places of its requests, make it so.
+-- What a run promises, and the places of each port's requests, imply it.
 abbrev pub NoOfferInvented : {M G : Type 0} → Opening → (M → ℕ → M → Type 0) → (G → ℕ → G → Type 0) → Type 0
 NoOfferInvented {M} {G} o tells passes =
     (before : ServerState M G) (taken : List Message) (owners : List ℕ) (refused : List (ℕ × TakeFault)) (history : List Entry) (count : ℕ) (offered : ℕ → List Message) (ended : Ended)

@@ -19,7 +19,7 @@ abbrev pub ports : List Order → List ℕ
 ports [] = []
 ports (o ∷ os) = ports_in o ++ ports os
 
--- the places of port p in a list of ports, whose first is the place n
+-- the places of port p in a list of ports whose first has the place n
 abbrev pub places_from : ℕ → ℕ → List ℕ → List ℕ
 places_from p n [] = []
 places_from p n (q ∷ qs) = if q == p then n ∷ places_from p (n + 1) qs else places_from p (n + 1) qs

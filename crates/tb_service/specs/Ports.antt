@@ -15,12 +15,12 @@ pub record Offers : Type 0 where
 abbrev pub offers_of : Pass Order View → Offers
 offers_of pass = record { service = service_of pass; number = (view pass).port; offered = (view pass).offered }
 
--- requests were sent behind those before; or what was given comes back, and nothing was sent
+-- requests were sent after those before; or what was given comes back, and nothing was sent
 abbrev pub SendsOrReturns : {X : Type 0} → Result (Unit {0}) X → X → List Message → Offers → Offers → Type 0
 SendsOrReturns result given requests before after =
     MatchResult result (λ _. after.offered ≡ before.offered ++ requests) (λ back. (back ≡ given) × (after.offered ≡ before.offered))
 
--- what a pass knows is a port's, with this number, which has sent so many requests
+-- what a pass knows is a port's, with this number, and the port sent `count` requests
 pub record IsPortOf (v : View) (number count : ℕ) : Type 0 where
   pub offers : v.offers ≡ true
   pub number_is : number ≡ v.port
@@ -31,6 +31,6 @@ abbrev pub AreNumbered : Name → ℕ → List Offers → Type 0
 AreNumbered name n [] = Unit {0}
 AreNumbered name n (port ∷ ports) = (port.service ≡ name) × (port.number ≡ n) × (port.offered ≡ []) × AreNumbered name (n + 1) ports
 
--- the ports of a service, so many, numbered from 0
+-- the `count` ports of a service, numbered from 0
 abbrev pub ArePortsOf : Name → ℕ → List Offers → Type 0
 ArePortsOf name count ports = AreNumbered name 0 ports × (length ports ≡ count)

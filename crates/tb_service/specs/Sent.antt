@@ -1,4 +1,4 @@
--- The orders that ports sent, and what is in them of one port.
+-- The orders that ports sent, and what one port has in them.
 use Rattle.std.specs.Prelude.{ℕ, Bool, true, false, ◌==◌, ◌&&◌, ◌||◌, List, [], ◌∷◌, ◌++◌, if◌then◌else◌}
 use Rattle.tb_records.specs.Messages.{Message}
 use Rattle.tb_service.specs.declared.orders.Order.{Order}
@@ -30,7 +30,7 @@ abbrev pub has_none_of : ℕ → List Order → Bool
 has_none_of p [] = true
 has_none_of p (o ∷ os) = if o.port == p then false else has_none_of p os
 
--- nothing of port p is behind its close
+-- nothing of port p comes after its close
 abbrev pub ends_at_close : ℕ → List Order → Bool
 ends_at_close p [] = true
 ends_at_close p (o ∷ os) = if o.port == p && closes o.what then has_none_of p os else ends_at_close p os

@@ -1,4 +1,4 @@
--- Where each state has one next moment, a run's moments are pinned, and so is the history that comes of it.
+-- If each state has one next moment, a run's moments are pinned, and so is the history that results.
 use Rattle.std.specs.Prelude.{ℕ, ◌≡◌, List, length}
 use Rattle.tb_records.specs.Messages.{Message}
 use Rattle.tb_machine.specs.declared.entries.Entry.{Entry}
@@ -7,7 +7,7 @@ use Rattle.tb_published.specs.Openings.{Opening}
 use Rattle.tb_service.specs.History.{ServerState, StepsLead}
 use Rattle.tb_service.specs.Servers.{Finishes}
 
--- from each state one number alone can be given, and one state is left
+-- each state can give only one number, and leaves only one state
 abbrev pub IsOneWay : {S : Type 0} → (S → ℕ → S → Type 0) → Type 0
 IsOneWay {S} step = (x y z : S) (k l : ℕ) → step x k y → step x l z → (k ≡ l) × (y ≡ z)
 

@@ -1,4 +1,4 @@
--- what private contracts alone cite
+-- what only private contracts cite
 pub mod Rule
 pub mod Inboxes
 pub mod Desks

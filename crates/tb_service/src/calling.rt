@@ -8,7 +8,7 @@ use std::thread;
 use tb_published::{Naming, Seat, SeatFault};
 use tb_records::{Reply, Request, Status};
 
-/// Asks so many times at most, until the request is answered.
+/// Asks at most `turns` times, until the request is answered.
 pub(crate) fn ask<J: Naming>(
     seat: &mut Seat<J>,
     request: &Request,

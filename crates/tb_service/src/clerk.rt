@@ -12,7 +12,7 @@ use tb_records::Request;
 /// An order has at most this many requests.
 const REQUESTS_MAX: usize = 8;
 
-/// A request has its turn at a moment: it is entered where it is new. Returns the fault that leaves it out, if there is one.
+/// A request has its turn at a moment: it is entered if it is new. Returns the fault that leaves it out, if there is one.
 #[tactic(auto, using(crate::proofs::Turns::has_turn))]
 fn enter<J: Naming>(publisher: &mut Publisher<J>, request: Request, now: u64) -> Option<TakeFault>
     ensures { HasTurn J.opening publisher.old.history (turn_of now request result) publisher.new.history }
@@ -96,7 +96,7 @@ impl<J: Naming, W: Wait + Drop, M: Moments + Drop, G: Gate + Drop> Clerk<J, W, M
         }
     }
 
-    /// Shows what was entered. Where there is no memory for it, a later call shows the rest.
+    /// Shows what was entered. If there is no memory for it, a later call shows the rest.
     pub fn show<R: Wait>(&mut self, rt: &R)
         ensures same { ChangesCapacityAlone self.old self.new }
         ensures capacity { KeepsCapacity self.old self.new }

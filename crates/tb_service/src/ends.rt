@@ -5,6 +5,6 @@
 pub enum Ended {
     /// Each port's close was taken.
     Closed,
-    /// There was no memory for the places of one order more.
+    /// There was no memory for the places of one more order.
     NoMemory,
 }

@@ -95,7 +95,7 @@ impl<J: Naming> Finished<J> {
         }
     }
 
-    /// Takes a closed port in, and answers the places of the requests that were taken from it. Where an allocation fails the
+    /// Takes a closed port in, and returns the places of the requests that were taken from it. If an allocation fails, the
     /// same port comes back, and nothing has changed.
     pub fn offered_by(&mut self, closed: Closed) -> Result<Vec<u64>, Closed>
         requires service { closed.service ≡ self.old.service }
@@ -116,7 +116,7 @@ impl<J: Naming> Finished<J> {
         Ok(places)
     }
 
-    /// The publisher alone, to be served again.
+    /// Only the publisher, to be served again.
     pub fn into_publisher(self) -> Publisher<J>
         ensures { result ≡ self.publisher }
     {
@@ -132,7 +132,7 @@ impl<J: Naming> Finished<J> {
         publisher
     }
 
-    /// Closes the publisher, and gives its history out: seats that ask from then on find no copy.
+    /// Closes the publisher, and returns its history: seats that ask from then on find no copy.
     pub fn close<R: Wait>(self, rt: &R) -> Vec<Entry>
         ensures history { result.items ≡ self.publisher.history }
         ensures legal { LegalIn J.opening result.items }

@@ -1,11 +1,11 @@
-//! Where a server's moments come from, and what each request passes before it is entered.
+//! The source of a server's moments, and what each request passes before it is entered.
 ghost use Rattle.std.specs.Prelude.{ℕ};
 
 /// Gives the moments of requests, in nanoseconds.
 pub trait Moments {
     ghost use Rattle.std.specs.Prelude.{ℕ};
 
-    /// From the first state this moment can be given, and leaves the second.
+    /// From the first state this moment can be given, and it leaves the second.
     ghost tells: { Self → ℕ → Self → Type 0 };
 
     /// The moment of the next request.
@@ -13,7 +13,7 @@ pub trait Moments {
         ensures { tells self.old result self.new };
 }
 
-/// Is before the history.
+/// Comes before the history.
 pub trait Gate {
     ghost use Rattle.std.specs.Prelude.{ℕ};
 

@@ -55,7 +55,7 @@ impl Inbox {
         })
     }
 
-    /// One port more.
+    /// Makes one more port.
     pub fn port(&mut self, alloc: Global, number: u32) -> Result<Port, AllocError>
         requires { number ≡ (view self.old.pass).ports }
         ensures port { IfOk result (IsFreshPort (service_of self.old.pass) number) }
@@ -68,7 +68,7 @@ impl Inbox {
         Ok(Port::new(sender, pass, number, alloc))
     }
 
-    /// Waits for an order; none where the receive failed.
+    /// Waits for an order; None if the receive failed.
     pub fn take<R: Wait>(&mut self, rt: &R) -> Option<Order>
         ensures owned { IfSome result (λ order. order.port < (view self.old.pass).ports) }
         ensures taken { TakesNextOrder result self.old.pass self.new.pass }
@@ -83,14 +83,14 @@ impl Inbox {
         Some(order)
     }
 
-    /// Each port was closed.
+    /// Says whether each port was closed.
     pub fn is_over(&self) -> bool
         ensures { result ≡ true → AllAreClosed (view self.now.pass) }
     {
         self.closed.iter().all(|is_closed| *is_closed)
     }
 
-    /// Ends the receiving: what is offered from now on comes back.
+    /// Stops receiving: what is offered from now on comes back.
     pub fn stop(self) -> (Sender, Pass<Order, View>)
         ensures seated { IsSeatAt (sends_on result.0) result.1 }
         ensures same { result.1 ≡ self.pass }

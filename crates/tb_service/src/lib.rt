@@ -7,7 +7,7 @@
 //! - `orders`: `Order`, what a port sends in one step.
 //! - `rule`: what the holders of passes know, and the steps of the queue.
 //! - `calling`: a seat asked again until it has the reply.
-//! - `ports`: `Port`, `Closed`, what a client thread hands its requests over by; where the queue is full it naps first.
+//! - `ports`: `Port`, `Closed`, through which a client thread sends its requests; a port naps first if the queue is full.
 //! - `gates`: `Moments`, where moments come from; `Gate`, what each request passes; `Open`, a gate that lets all pass.
 //! - `inbox`: the server's end of the queue.
 //! - `clerk`: what the requests of an order do to the history, each in its turn.
@@ -15,7 +15,7 @@
 //! - `finished`: `Finished`, a run that has ended, and the places of each port's requests.
 //! - `server`: `Server`, the loop over orders.
 //! - `starting`: `service`, a server and its ports.
-//! - `laws`: what follows of a run and the places of its ports: functions that do nothing.
+//! - `laws`: what follows about a run and the places of its ports: functions that do nothing.
 #![tactic(auto)]
 
 mod batches;

@@ -22,7 +22,7 @@ impl Model for PortCount {
 }
 
 impl PortCount {
-    /// None where the number is not from 1 to 32.
+    /// None if the number is not from 1 to 32.
     pub fn new(number: u32) -> Option<PortCount>
         ensures value { IfSome result (λ c. c ≡ number) }
         ensures range { IsSome result ↔ ((0 < number) × (number ≤ 32)) }

@@ -10,7 +10,7 @@ pub struct Order {
     pub what: What,
 }
 
-/// A request, a few requests, or the word that no more come.
+/// A request, a few requests, or the close: no more come.
 #[derive(Drop)]
 pub enum What {
     One(Request),

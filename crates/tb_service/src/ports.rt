@@ -17,8 +17,8 @@ use std::time::Duration;
 use tb_published::{Naming, Seat, SeatFault};
 use tb_records::{Reply, Request, Status};
 
-/// One client thread's way to the server. Contracts see it as its service, its number, and the requests that it sent
-/// so far. A port that is dropped and not closed keeps the server waiting.
+/// One client thread's way to the server. Contracts see it as its service, its number, and the requests that it sent so far.
+/// A port that is dropped and not closed keeps the server waiting.
 #[derive(Drop)]
 pub struct Port {
     sender: Sender,
@@ -86,7 +86,7 @@ impl Port {
         }
     }
 
-    /// Sends a request. It comes back only where the server is gone, or the port sent 2^64 - 1 requests.
+    /// Sends a request. It comes back only if the server is gone, or the port sent 2^64 - 1 requests.
     pub fn offer<R: Wait>(&mut self, rt: &R, request: Request) -> Result<(), Request>
         ensures offered { SendsOrReturns result request (request ∷ []) self.old self.new }
         ensures same { (self.new.service ≡ self.old.service) × (self.new.number ≡ self.old.number) }
@@ -110,8 +110,8 @@ impl Port {
         }
     }
 
-    /// Sends one to eight requests, in one order: they are entered in turn and shown together. They come back
-    /// only where the server is gone, or the port's count of requests would pass 2^64 - 1.
+    /// Sends one to eight requests, in one order: they are entered in turn and shown together. They come back only if the
+    /// server is gone, or the port's count of requests would pass 2^64 - 1.
     pub fn offer_many<R: Wait>(
         &mut self,
         rt: &R,
@@ -142,9 +142,9 @@ impl Port {
         }
     }
 
-    /// Asks the seat for the reply to a request. Where the history that the seat shows does not have it yet, a copy is
-    /// sent, once, and the seat is asked again, at most `turns` times, until the reply has another status than NotYet. The answer
-    /// is the seat's last one. A fault of the seat ends the call, and so does a copy that finds no memory, as NoMemory.
+    /// Asks the seat for the reply to a request. If the history that the seat shows does not have it yet, a copy is sent,
+    /// once. The seat is then asked again, at most `turns` times, until the reply has another status than NotYet. Returns
+    /// the seat's last reply. A fault of the seat ends the call; no memory for the copy ends it as NoMemory.
     pub fn call<J: Naming, R: Wait>(
         &mut self,
         rt: &R,
@@ -169,7 +169,7 @@ impl Port {
         ask(seat, request, turns, reply)
     }
 
-    /// Lets the server know that no more requests come.
+    /// Tells the server that no more requests come.
     pub fn close<R: Wait>(self, rt: &R) -> Closed
         ensures { result ≡ self }
     {
@@ -225,7 +225,7 @@ impl Closed {
     }
 }
 
-/// So many times a port naps where the queue is full, before it sleeps until the server wakes it.
+/// How often a port naps when the queue is full, before it sleeps until the server wakes it.
 const NAPS: u32 = 16;
 
 /// The first nap with an order of one request, in microseconds. It is over before a server has taken what is in a full queue.
@@ -234,7 +234,7 @@ const NAP_US: u64 = 20;
 /// The same with an order of several requests, which take the server longer.
 const LONG_NAP_US: u64 = 160;
 
-/// Gives the core away for a moment: after each nap for twice as long, up to four times the first.
+/// Yields the core for a moment: each nap is twice as long as the one before, up to four times the first.
 fn nap<R: Wait>(rt: &R, what: &What, naps: u32) {
     let first = if let What::Many(_) = what {
         LONG_NAP_US
@@ -244,8 +244,9 @@ fn nap<R: Wait>(rt: &R, what: &What, naps: u32) {
     Parker::new().park_timeout(rt, Duration::from_micros(first << naps.min(2)));
 }
 
-/// Sends an order. It comes back where the server is gone. A server wakes one sleeper with each order that it takes, which takes it longer
-/// than a small request does. So a port whose order finds the queue full naps at first, and then finds space for several orders.
+/// Sends an order. It comes back if the server is gone. A server wakes one sleeper with each order that it takes, and this
+/// costs it more time than a small request does. So a port whose order finds the queue full naps at first, and then finds
+/// space for several orders.
 pub(crate) fn send<R: Wait>(
     sender: &Sender,
     pass: &mut Pass<Order, View>,

@@ -7,7 +7,7 @@ use crossbeam_channel::{RuledReceiver, RuledSender};
 use std::collections::LinkedList;
 use tb_records::Request;
 
-/// What the holder of a pass knows. No value of it is made.
+/// What the holder of a pass knows. No value of it is ever made.
 pub struct View {
     /// The pass is a port's: it knows the port's number, all that it offered, and whether it sent its close.
     pub offers: bool,

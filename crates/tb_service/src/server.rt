@@ -13,7 +13,7 @@ use std::marker::Model;
 use std::sync::Wait;
 use tb_published::Naming;
 
-/// The inbox, and the clerk who serves what comes in.
+/// The inbox, and the clerk that serves what comes in.
 #[derive(Drop)]
 struct Desk<J: Naming, W: Wait + Drop, M: Moments + Drop, G: Gate + Drop> {
     inbox: Inbox,
@@ -58,8 +58,8 @@ impl<J: Naming, W: Wait + Drop, M: Moments + Drop, G: Gate + Drop> Desk<J, W, M,
     }
 }
 
-/// A server that has not begun. Contracts see it as what it begins with, its service, and the number of its ports. Where
-/// it is dropped, what ports offer comes back.
+/// A server that has not begun. Contracts see it as what it begins with, its service, and the number of its ports. If it is
+/// dropped, what ports offer comes back.
 #[derive(Drop)]
 pub struct Server<J: Naming, W: Wait + Drop, M: Moments + Drop, G: Gate + Drop> {
     desk: Desk<J, W, M, G>,
@@ -106,8 +106,8 @@ impl<J: Naming, W: Wait + Drop, M: Moments + Drop, G: Gate + Drop> Server<J, W, 
         }
     }
 
-    /// Serves what the ports offer, until each of them is closed, or there is no memory for the places of one order more. Each
-    /// request that is taken was offered by one of the ports that `service` gave out.
+    /// Serves what the ports offer, until each of them is closed, or there is no memory for the places of one more order.
+    /// Each request that is taken was offered by one of the ports from `service`.
     pub fn run<R: Wait>(self, rt: &R) -> Finished<J>
         ensures served { Finishes J.opening M.tells G.passes self.state result.taken result.refused
             result.publisher.history }

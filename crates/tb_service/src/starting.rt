@@ -16,7 +16,7 @@ use std::alloc::{AllocError, Global};
 use std::sync::Wait;
 use tb_published::{HeldPublisher, Naming, Publisher};
 
-// The ports of a queue that has none, numbered from 0.
+// The ports of a queue that has no port, numbered from 0.
 fn make_ports(inbox: &mut Inbox, alloc: Global, count: u32) -> Result<Vec<Port>, AllocError>
     requires { (view inbox.old.pass).ports ≡ 0 }
     ensures ports { IfOk result (λ ports. ArePortsOf (service_of inbox.old.pass) count ports.items) }
@@ -31,8 +31,8 @@ fn make_ports(inbox: &mut Inbox, alloc: Global, count: u32) -> Result<Vec<Port>,
     Ok(ports)
 }
 
-/// A server over a publisher, and its ports, numbered from 0: no other port of it is ever made. The publisher is closed, by the handle `rt`, where there is no
-/// memory for them, and where the server is dropped.
+/// A server over a publisher, and its ports, numbered from 0: it never has other ports. The publisher is closed by the
+/// handle `rt` if there is no memory for them, and when the server is dropped.
 pub fn service<J: Naming, W: Wait + Drop, M: Moments + Drop, G: Gate + Drop>(
     alloc: Global,
     publisher: Publisher<J>,

@@ -1,4 +1,4 @@
-//! What is compared, in one place: whoever calls these has one call to prove, and no text to put together.
+//! What is compared, in one place: a caller of these has one call to prove, and no text to put together.
 use std::fmt::Debug;
 use std::process::Abort;
 

@@ -1,4 +1,4 @@
-//! Tests of tb_published, tb_service and tb_storm, by their public calls alone.
+//! Tests of tb_published, tb_service and tb_storm, only by their public calls.
 //!
 //! Modules:
 //!

@@ -54,7 +54,7 @@ pub fn register(rt: &impl Abort, client: u128) -> Request {
     Request::new(client, 0, 0, Body::Register).expect(rt, "a request")
 }
 
-/// A register where the number is 0, else a lookup of no account.
+/// A register if the number is 0, otherwise a lookup of no account.
 pub fn register_or_lookup(rt: &impl Abort, alloc: Global, numbers: Numbers) -> Request {
     match numbers.2 {
         0 => register(rt, numbers.0),
@@ -81,7 +81,7 @@ pub fn eight(rt: &impl Abort, alloc: Global) -> Vec<Request> {
     all
 }
 
-/// Moments that rise by as much each time.
+/// Moments that rise by the same step each time.
 #[derive(Drop)]
 pub struct Every {
     pub next: u64,
@@ -108,7 +108,7 @@ pub fn opening(rt: &impl Abort, profile: Profile, clients_max: u32) -> Opening {
     Opening::new(profile, clients_max)
 }
 
-/// An opening's publisher, and so many seats.
+/// An opening's publisher, and `seats` seats.
 pub fn opened<J: Naming, R: Wait + Abort>(
     rt: &R,
     alloc: Global,
@@ -130,7 +130,7 @@ pub fn take<J: Naming, R: Wait + Abort>(
     publisher.take(rt, request, 10).expect(rt, "taken")
 }
 
-/// A port that is sure to send a request.
+/// Offers a request, which is sent.
 pub fn offer<R: Wait + Abort>(rt: &R, port: &mut Port, request: Request)
     ensures { port.new.service ≡ port.old.service }
 {

@@ -1,4 +1,4 @@
-//! Worked examples through `take` and seats, by public calls of tb_published alone.
+//! Worked examples through `take` and seats, only by public calls of tb_published.
 //!
 //! Modules, each over those before it:
 //!

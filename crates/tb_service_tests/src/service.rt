@@ -1,4 +1,4 @@
-//! Worked examples through ports and a server, by public calls of tb_service alone.
+//! Worked examples through ports and a server, only by public calls of tb_service.
 //!
 //! Modules, each over those before it:
 //!

@@ -90,7 +90,7 @@ module _ (n : ℕ) (few : n ≤ 16) where
       by false true e f same = absurd (omega (arith, same, few))
       by false false e f same = omega (arith, same, one, two)
 
-  -- of client 100's port, and of another's
+  -- at client 100's port, and at another's
   at_last : (P : Bool → Type 0) → P (n == n) → P true
   at_last P p = subst P (eq-eqb n n refl) p
 

@@ -57,7 +57,7 @@ module _ {J : Type 0} where
   count_last : (number : ℕ) (before after : List Offers) (c : Client J) → IsNewOn number before after c → length before ≡ length after + 1
   count_last number before after c on = ap length on.last ∙ length-append after (on.port ∷ [])
 
-  -- so many of the others are made
+  -- `made` of the others are made
   pub record SoFar (name : Name) (count made : ℕ) (ports : List Offers) (others : List (Client J)) : Type 0 where
     pub before : AreNumbered name 0 ports
     pub left : length ports + made ≡ count

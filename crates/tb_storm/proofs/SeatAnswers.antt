@@ -1,4 +1,4 @@
--- What a seat finds is what is found after the whole history, where it has seen as many entries.
+-- What a seat finds is what is found after the whole history, if it has seen as many entries.
 use Rattle.std.proofs.Common.{ℕ, ◌≡◌, ◌+◌, ◌≤◌, ◌*◌, List, length, subst, arith}
 use Rattle.std.proofs.lemmas.Nat.{mul-le}
 use mathlib.Core.List.{IsPrefix}

@@ -328,7 +328,7 @@ grows None xs = omega arith
 grows (Some p) xs = omega (arith, length-append p.offered xs)
 
 module _ {J : Type 0} where
-  -- what waits, or returns, sends no less
+  -- a client that waits, or returns, sends no less
   pub waits_grows : (a b : Client J) → Waits a b → offers a.line ≤ offers b.line
   waits_grows a b w = subst (λ (p : Option Offers). length (offered_by (port_of a.line)) ≤ length (offered_by p)) (sym w.sent) (grows (port_of a.line) w.more)
 
@@ -342,7 +342,7 @@ one_repeat k = by (k % 3 == 0)
     by true = omega arith
     by false = omega arith
 
--- what follows of an Ok
+-- what follows from an Ok
 pub on_ok : {A E P Q : Type 0} (r : Result A E) → (P → Q) → OnOk r P → OnOk r Q
 on_ok (Ok x) f p = f p
 on_ok (Err e) f p = tt

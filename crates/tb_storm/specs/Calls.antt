@@ -46,7 +46,7 @@ transfer_of client k = record {
   timestamp = 0;
 }
 
--- accounts 1, 2, 3 and so on, so many
+-- accounts 1 to n
 abbrev pub accounts_to : ℕ → List Account
 accounts_to zero = []
 accounts_to (suc n) = accounts_to n ++ account_of (n + 1) ∷ []
@@ -59,13 +59,13 @@ accounts_call clients k = CreateAccounts (accounts_to clients ++ account_of 1000
 abbrev pub transfer_call : ℕ → ℕ → Body
 transfer_call client k = CreateTransfers (transfer_of client k ∷ [])
 
--- all that a client sends in a session, the newest first: so many calls, numbered from 1, after its register
+-- all that a client sends in a session, the newest first: its first k calls, numbered from 1, after its register
 abbrev pub sent_in_session : ℕ → ℕ → (ℕ → Body) → ℕ → List Message
 sent_in_session id session call zero = asked id 0 0 Register ∷ []
 sent_in_session id session call (suc k) = asked id session (k + 1) (call (k + 1)) ∷ sent_in_session id session call k
 
--- A client made so many calls, and each returned a reply: the history has each once, in the entry that gave this reply, and nothing else
--- of the client.
+-- A client made `count` calls, and each returned a reply: the history has each once, in the entry that gave this reply, and nothing else of the
+-- client.
 pub record HasCalled (o : Opening) (h : List Entry) (id : ℕ) (call : ℕ → Body) (count : ℕ) : Type 0 where
   pub session : ℕ
   pub returned : List (Message × Answer)

@@ -1,4 +1,4 @@
--- what private contracts alone cite
+-- what only private contracts cite
 pub mod Clients
 pub mod Playing
 pub mod Outcomes

@@ -36,7 +36,7 @@ fn transfer(client: u32, k: u32) -> Transfer
     }
 }
 
-/// The call that creates an account for each of so many clients, and the one that all transfers credit.
+/// The call that creates an account for each of `clients` clients, and the one that all transfers credit.
 pub(crate) fn create_accounts(alloc: Global, clients: u32) -> Result<Body, AllocError>
     ensures { IfOk result (λ body. body ≡ accounts_call clients 1) }
 {

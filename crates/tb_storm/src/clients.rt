@@ -57,7 +57,7 @@ impl<J: Naming> Client<J> {
         self.line.close(rt);
     }
 
-    /// Asks for the reply to the request that waits, and sends it, where the server does not have it yet.
+    /// Asks for the reply to the request that waits, and sends the request if the server does not have it yet.
     fn ask<R: Wait>(&mut self, rt: &R) -> Result<Heard, StormFault>
         ensures { IfOk result (λ heard. Hears J.opening heard self.old self.new) }
     {
@@ -73,7 +73,7 @@ impl<J: Naming> Client<J> {
         Ok(heard)
     }
 
-    /// Asks until the request that waits has its reply; gives up where its session or the server has ended.
+    /// Asks until the request that waits has its reply; gives up if its session or the server has ended.
     fn settle<R: Wait>(&mut self, rt: &R, stage: &Stage) -> Result<(), StormFault>
         ensures { OnOk result (Hears J.opening hearing.Returned self.old self.new) }
     {
@@ -91,7 +91,7 @@ impl<J: Naming> Client<J> {
         Err(StormFault::GaveUp)
     }
 
-    /// Makes a call, and sees it through to its reply.
+    /// Makes a call, and asks until it has its reply.
     fn call<R: Wait>(&mut self, rt: &R, stage: &Stage, body: Body) -> Result<(), StormFault>
         ensures { OnOk result (Returns J.opening body self.old self.new) }
     {
@@ -101,7 +101,7 @@ impl<J: Naming> Client<J> {
         self.settle(rt, stage)
     }
 
-    /// Registers, and creates an account for each of so many clients, and the one that all transfers credit.
+    /// Registers, and creates an account for each of `clients` clients, and the one that all transfers credit.
     fn make_accounts<R: Wait>(
         &mut self,
         rt: &R,
@@ -117,7 +117,7 @@ impl<J: Naming> Client<J> {
         self.call(rt, stage, body)
     }
 
-    /// Creates the accounts of so many clients.
+    /// Creates the accounts of `clients` clients.
     pub fn create_accounts<R: Wait>(&mut self, rt: &R, stage: &Stage, clients: u32)
         ensures { self.new.fault ≡ None → Plays J.opening (accounts_call clients) 1 self.old self.new }
     {
@@ -137,8 +137,8 @@ impl<J: Naming> Client<J> {
         }
     }
 
-    /// The network delivers requests again that were answered: that of the kth transfer, and behind each third one also that of the
-    /// transfer two before it.
+    /// The network delivers requests again that were answered: that of the kth transfer, and after each third one also that
+    /// of the transfer two before it.
     fn repeat<R: Wait>(&mut self, rt: &R, k: u32) -> Result<(), StormFault>
         requires { 1 ≤ k }
         ensures repeats { OnOk result
@@ -156,7 +156,7 @@ impl<J: Naming> Client<J> {
         self.line.deliver(rt, request)
     }
 
-    /// Creates its next transfer, behind so many, and the network delivers it again.
+    /// Creates its next transfer, after `done` transfers, and the network delivers it again.
     fn create_one<R: Wait>(&mut self, rt: &R, stage: &Stage, done: u32) -> Result<(), StormFault>
         requires { done < 1000 }
         ensures on { OnOk result (TransfersMore J.opening done (done + 1) self.old self.new) }
@@ -170,7 +170,7 @@ impl<J: Naming> Client<J> {
         self.repeat(rt, done + 1)
     }
 
-    /// Creates so many transfers, and the network delivers each again.
+    /// Creates `transfers` transfers, and the network delivers each again.
     fn create_all<R: Wait>(
         &mut self,
         rt: &R,
@@ -189,7 +189,7 @@ impl<J: Naming> Client<J> {
         Ok(())
     }
 
-    /// Registers, and creates so many transfers.
+    /// Registers, and creates `transfers` transfers.
     fn make_transfers<R: Wait>(
         &mut self,
         rt: &R,
@@ -206,7 +206,7 @@ impl<J: Naming> Client<J> {
         self.create_all(rt, stage, transfers)
     }
 
-    /// Creates so many transfers.
+    /// Registers, and creates `transfers` transfers; keeps the fault that ended it.
     pub fn create_transfers<R: Wait>(&mut self, rt: &R, stage: &Stage, transfers: u32)
         requires { transfers ≤ 1000 }
         ensures { self.new.fault ≡ None → Plays J.opening (transfer_call self.old.number) transfers self.old self.new }

@@ -15,7 +15,7 @@ pub enum StormFault {
     NoMemory,
     /// The copies have no place for a reader.
     NoPlace,
-    /// There is no copy to be read, or it does not show the whole history.
+    /// There is no copy to read, or it does not show the whole history.
     NoCopy,
     /// A client had no reply after all its calls.
     GaveUp,
@@ -24,7 +24,7 @@ pub enum StormFault {
 }
 
 impl StormFault {
-    /// 1 where a device, memory or a copy failed, 3 where a client gave up.
+    /// 1 if a device, memory or a copy failed, 3 if a client gave up.
     pub fn exit_status(self) -> u8
         ensures value { result ≡ storm_exit_status self }
         ensures failing { 0 < result }

@@ -10,7 +10,7 @@
 //! - `network`: what carries their requests, and delivers some again that were answered.
 //! - `clients`: a client's thread: a `Caller` of tb_caller, which registers and creates.
 //! - `playing`: all clients, and what the server took of their ports.
-//! - `outcomes`: which fault is reported where there are several.
+//! - `outcomes`: which fault is reported if there are several.
 //! - `storms`: `storm`, the server's thread, and the lines.
 #![tactic(auto)]
 

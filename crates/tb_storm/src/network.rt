@@ -27,7 +27,7 @@ impl Line {
         }
     }
 
-    /// Delivers a request that was sent before. Where it comes back, the server has ended.
+    /// Delivers a request that was sent before. If it comes back, the server has ended.
     pub fn deliver<R: Wait>(&mut self, rt: &R, request: Request) -> Result<(), StormFault>
         ensures sent { OnOk result (port_of self.new ≡ more_by (port_of self.old) (request ∷ [])) }
         ensures count { OnOk result (offers self.new ≡ offers self.old + 1) }

@@ -6,7 +6,7 @@ use crate::faults::StormFault;
 use crate::totals::Totals;
 use tb_service::Ended;
 
-/// Of two faults the first; but that a client gave up is reported only where there is no other.
+/// The first of two faults; but that a client gave up is reported only if there is no other fault.
 pub(crate) fn first_fault(first: Option<StormFault>, next: Option<StormFault>) -> Option<StormFault>
     ensures { result ≡ first_reported first next }
 {
@@ -17,7 +17,7 @@ pub(crate) fn first_fault(first: Option<StormFault>, next: Option<StormFault>) -
     }
 }
 
-/// What is reported of a storm whose server ended so, whose clients fared so, and after which a seat found these totals.
+/// What is reported for a storm, from how its server ended, the fault of its clients, and the totals that a seat found.
 pub(crate) fn conclude(
     ended: Ended,
     fared: Option<StormFault>,
@@ -34,7 +34,7 @@ pub(crate) fn conclude(
     }
 }
 
-/// What is reported, but that totals of fewer entries than the clients saw replies are none.
+/// What is reported; GaveUp instead of totals with fewer entries than the clients saw replies.
 pub(crate) fn answered(replies: u32, told: Result<Totals, StormFault>) -> Result<Totals, StormFault>
     ensures told { result ≡ totals_answered replies told }
     ensures totals { IfOk result (λ totals. (told ≡ Ok totals) × (replies ≤ totals.commits)) }

@@ -103,7 +103,7 @@ fn create_transfers<J: Naming + Send + Sync, R: Threads + Wait + Sync>(
     );
 }
 
-/// Once the server has begun the first client makes the accounts.
+/// Once the server has begun, the first client makes the accounts.
 fn create_accounts<J: Naming, R: Wait>(rt: &R, stage: &Stage, first: &mut Client<J>, clients: u32)
     ensures { first.new.fault ≡ None → Plays J.opening (accounts_call clients) 1 first.old first.new }
 {
@@ -155,7 +155,7 @@ pub(crate) fn play_all<J: Naming + Send + Sync, R: Threads + Wait + Sync>(
     clients
 }
 
-/// Takes in the port of a client. NoCopy where the copies do not show all that its seat has seen.
+/// Takes in the port of a client. NoCopy if the copies do not show all that its seat has seen.
 fn take_in<J: Naming>(finished: &mut Finished<J>, client: &mut Client<J>) -> Result<(), StormFault>
     requires { IfSome (port_of client.old.line) (λ port. port.service ≡ finished.old.service) }
     ensures same { finished.new ≡ finished.old }

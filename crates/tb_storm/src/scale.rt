@@ -21,7 +21,7 @@ pub(crate) fn id_of(client: u32, k: u32) -> u128
     u128::from(client) * 1_000_000 + u128::from(k)
 }
 
-/// Adds the ids of so many transfers of a client.
+/// Adds the ids of a client's first `transfers` transfers.
 fn add_ids(ids: &mut Vec<u128>, client: u32, transfers: u32) -> Result<(), AllocError>
     requires { transfers ≤ 1000 }
     ensures { OnOk result (ids.new.items ≡ with_ids_of ids.old.items client transfers) }

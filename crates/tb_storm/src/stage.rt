@@ -4,10 +4,10 @@ use std::sync::atomic::{AtomicBool, Ordering};
 use std::thread::Parker;
 use std::time::Duration;
 
-/// So often the clients look whether the server's thread has begun.
+/// How often the clients look whether the server's thread has begun.
 const LOOKS_MAX: u32 = 400_000;
 
-/// So many microseconds lie between two looks: twenty seconds in all, or more.
+/// The microseconds between two looks: twenty seconds in all, or more.
 const NAP_US: u64 = 50;
 
 /// Whether the server's thread has begun, and whether it has ended.
@@ -35,14 +35,14 @@ impl Stage {
         self.over.store(true, Ordering::SeqCst);
     }
 
-    /// The server has ended: no request is answered any more.
+    /// Says whether the server has ended: then no request is answered any more.
     pub fn is_over(&self) -> bool {
         self.over.load(Ordering::SeqCst)
     }
 
-    /// Waits for the server's thread, and says whether it has begun. Where no thread can be made `join` runs the server after
-    /// the clients: an offer would then wait for ever, once the queue is full. Each nap gives the core away, so that a thread
-    /// that was made has begun long before the last look, whatever else the machine does.
+    /// Waits for the server's thread, and says whether it has begun. If no thread can be made, `join` runs the server after
+    /// the clients: an offer would then wait for ever, once the queue is full. Each nap yields the core, so a thread that
+    /// was made has begun long before the last look, whatever else the machine does.
     pub fn has_begun<R: Wait>(&self, rt: &R) -> bool {
         for _ in 0..LOOKS_MAX {
             if self.begun.load(Ordering::SeqCst) {

@@ -40,7 +40,7 @@ impl Moments for Ticks {
     }
 }
 
-/// The fault that is reported of the clients.
+/// The fault that is reported for the clients.
 fn fared<J: Naming>(first: Option<StormFault>, others: &[Client<J>]) -> Option<StormFault>
     ensures { result ≡ fared first others.now }
 {
@@ -60,7 +60,7 @@ fn count_transfers<J: Naming>(seat: &mut Seat<J>, ids: &[u128]) -> Result<(u64, 
     Ok((seen, transfers.len()))
 }
 
-/// What the first of accounts was credited with.
+/// What the first of the accounts was credited with; 0 if there is no account.
 fn first_credits(accounts: &[Account]) -> u128
     ensures { result ≡ first_credits accounts.now }
 {
@@ -96,7 +96,7 @@ fn commits_seen<J: Naming>(
     Ok(commits)
 }
 
-/// What the first client's seat finds once it has learnt all. NoCopy where the copies do not show the whole history.
+/// What the first client's seat finds once it has learnt all. NoCopy if the copies do not show the whole history.
 #[tactic(auto, using(crate::proofs::SeatAnswers::totaled, crate::proofs::SeatAnswers::learnt))]
 fn totals_of<J: Naming>(
     alloc: Global,
@@ -125,7 +125,7 @@ fn totals_of<J: Naming>(
     })
 }
 
-/// What is reported of a storm whose server has finished, before its ports are taken in.
+/// What is reported for a storm whose server has finished, before its ports are taken in.
 fn report<J: Naming>(
     alloc: Global,
     finished: &Finished<J>,
@@ -152,7 +152,7 @@ fn report<J: Naming>(
     )
 }
 
-/// What is reported of a storm whose server has finished, once its ports are taken in.
+/// What is reported for a storm whose server has finished, once its ports are taken in.
 fn settle<J: Naming>(
     alloc: Global,
     finished: &mut Finished<J>,
@@ -266,7 +266,7 @@ fn storm_in<J: Naming + Send + Sync, R: Threads + Wait + Sync>(
     told
 }
 
-/// The storm of profile 1 and as many clients as can have a session.
+/// The storm of profile 1 and the largest number of clients with a session.
 #[tactic(auto, using(crate::proofs::SeatAnswers::are_totals))]
 fn play<R: Threads + Wait + Sync>(rt: &R, alloc: Global, scale: Scale) -> Result<Totals, StormFault>
     ensures { IfOk result (AreTotals scale.clients scale.transfers) }
@@ -288,7 +288,7 @@ fn refuse<E: Sink>(fault: StormFault, faults: &mut E) -> u8
     fault.exit_status()
 }
 
-/// Writes the lines of a storm, and answers the exit status.
+/// Writes the lines of a storm, and returns the exit status.
 fn write_lines<W: Sink, E: Sink>(lines: &[u8], writer: &mut W, faults: &mut E) -> u8
     ensures quiet { result ≡ 0 → faults.new ≡ faults.old }
     ensures written { WritesLines lines.now result (W.output writer.old) (W.output writer.new) (E.output faults.old)
@@ -300,7 +300,7 @@ fn write_lines<W: Sink, E: Sink>(lines: &[u8], writer: &mut W, faults: &mut E) -
     }
 }
 
-/// Reports on a storm that was played: writes the lines of its totals, or reports its fault. Answers the exit status.
+/// Reports on a storm that was played: writes the lines of its totals, or reports its fault. Returns the exit status.
 fn print_outcome<W: Sink, E: Sink>(
     alloc: Global,
     clients: u32,
@@ -322,8 +322,8 @@ fn print_outcome<W: Sink, E: Sink>(
     }
 }
 
-/// So many clients at once create so many transfers each, and repeat requests that were answered. Answers the exit status: 0
-/// done, and four lines are written of what came of it; else that of the fault, whose line goes to `faults`.
+/// `clients` clients at once create `transfers` transfers each, and repeat requests that were answered. Returns the exit
+/// status: 0 if it is done, and four lines report the totals; otherwise that of the fault, whose line goes to `faults`.
 #[tactic(auto, using(crate::proofs::Ends::exits_of))]
 pub fn storm<R: Threads + Wait + Sync, W: Sink, E: Sink>(
     rt: &R,

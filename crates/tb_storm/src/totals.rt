@@ -23,7 +23,7 @@ fn add_line(alloc: Global, lines: &mut String, word: &str, number: u128) -> Resu
     lines.push_str("\n")
 }
 
-/// The four lines that report on a storm of so many clients.
+/// The four lines that report on a storm of `clients` clients.
 pub(crate) fn lines_of(alloc: Global, clients: u32, totals: Totals) -> Result<String, AllocError>
     ensures { IfOk result (λ lines. string_bytes lines ≡ storm_lines clients totals) }
 {

@@ -5,8 +5,8 @@ ghost use Rattle.avl_tree.specs.Map.{entries, get};
 use avl_tree::AvlMap;
 use std::alloc::{AllocError, Allocator};
 
-/// Puts a value at a key, in the place of an old one or in capacity made for it first, and returns the old one. If
-/// there is no memory, the map has the pairs that it had.
+/// Puts a value at a key, in the place of an old one or in capacity made for it first, and returns the old one. If there is
+/// no memory, the map holds what it held.
 pub fn put<K: Ord + Copy + Default, V: Default + Drop, A: Allocator + Clone>(
     map: &mut AvlMap<K, V, A>,
     key: K,

@@ -7,8 +7,8 @@ use std::sync::Wait;
 use tb_published::{Naming, Publisher, Seat, SeatFault, TakeFault, Taken, Told};
 use tb_records::{Reply, Request};
 
-/// Takes a request that comes at a moment: returns what became of it, as `Publisher::take` does, and what the copies show
-/// then, for seats to learn. On Ok that is the whole history.
+/// Takes a request that comes at a moment: returns what became of it, as `Publisher::take` does, and tells what the copies
+/// show then, which is the whole history, for seats to learn.
 pub fn take_and_tell<J: Naming, W: Wait>(
     rt: &W,
     publisher: &mut Publisher<J>,

@@ -1,5 +1,5 @@
-//! A caller of two seats next to the publisher of their history, as a finished server leaves it: what follows of what both have
-//! seen, and of what they answer.
+//! A caller of two seats next to the publisher of their history, as a finished server leaves it: what follows about what
+//! both have seen, and about what they answer.
 ghost use Rattle.std.specs.Prelude.{◌≡◌, IsTrue, IfOk, IfSome};
 ghost use mathlib.Core.List.{IsPrefix};
 ghost use Rattle.tb_published.specs.Openings.{IsAnswerIn, LegalIn, OneBegins};
@@ -7,8 +7,8 @@ ghost use Rattle.tb_published.specs.Openings.{IsAnswerIn, LegalIn, OneBegins};
 use tb_published::{Naming, Publisher, Seat, SeatFault};
 use tb_records::{Reply, Request};
 
-/// Says whether what a publisher shows has all that two seats have seen: then its history begins with both. Of what the two
-/// have seen, one list begins with the other.
+/// Says whether what a publisher shows has all that two seats have seen: then its history begins with both. One of the two
+/// lists that they have seen begins with the other.
 pub fn are_within<J: Naming>(publisher: &Publisher<J>, one: &Seat<J>, two: &Seat<J>) -> bool
     ensures one_history { OneBegins one.now two.now }
     ensures history { IsTrue result

@@ -1,4 +1,4 @@
-//! A caller of the service: one port, one request, and what then follows of the history that the server leaves.
+//! A caller of the service: one port, one request, and what then follows about the history that the server leaves.
 ghost use Rattle.std.specs.Prelude.{◌≡◌, [], ◌∷◌, length, IfOk};
 ghost use Rattle.tb_service.specs.Names.{Name};
 ghost use Rattle.tb_service.specs.Ports.{AreNumbered};

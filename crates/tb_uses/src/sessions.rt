@@ -7,8 +7,8 @@ ghost use Rattle.tb_uses.specs.Rows.{use_row};
 use tb_records::{Reply, Request};
 use tb_sessions::{Class, Row, Sessions};
 
-/// Keeps a request that is New, with the reply to it and the reply's commit number. Returns the row that leaves for it. A
-/// request that isn't New is returned.
+/// Keeps a request that is New, with the reply to it, which its commit number belongs to. Returns the row that leaves for
+/// it; a request that isn't New comes back.
 pub fn keep(
     sessions: &mut Sessions,
     request: Request,

@@ -8,7 +8,7 @@ use std::{format, fs};
 use tb_journal::{checksum_of, sync_folder};
 use tb_keep_commands::{COPIES_MAX, Uncopied};
 
-/// Why a call failed of which no copy came.
+/// Why a call that was to make a copy failed.
 fn of_call(error: io::Error) -> Uncopied {
     match error.kind() {
         ErrorKind::StorageFull | ErrorKind::QuotaExceeded | ErrorKind::FileTooLarge =>
@@ -44,7 +44,7 @@ fn count_copies(rt: &HostRuntime, path: &str) -> Result<usize, Uncopied> {
         match entry {
             Ok(entry) if is_copy(entry.file_name(), of) => count = count.saturating_add(1),
             Ok(_) => {}
-            // Names that are not UTF-8 are no copies'.
+            // A name that is not UTF-8 is not that of a copy.
             Err(error) if error.kind() == ErrorKind::InvalidFilename => {}
             Err(error) => return Err(of_call(error)),
         }
@@ -62,7 +62,7 @@ enum Found {
     Torn,
 }
 
-/// What is in a regular file of this name that has so many bytes at most.
+/// What is in a regular file of this name that has at most `len` bytes.
 fn read(files: &HighFiles, name: &str, len: usize) -> Result<Vec<u8>, Uncopied> {
     let found = fs::symlink_metadata(files, name).map_err(of_call)?;
     if !found.is_file() || found.len() > len as u64 {
@@ -74,7 +74,8 @@ fn read(files: &HighFiles, name: &str, len: usize) -> Result<Vec<u8>, Uncopied> 
     Ok(content)
 }
 
-/// Looks for a copy of these bytes, whose checksum is in its name. One with another checksum was cut short while it was made.
+/// Looks for a copy of these bytes, whose checksum is in its name. A copy with another checksum is partial: its making was
+/// cut short.
 fn find(files: &HighFiles, name: &str, bytes: &[u8], checksum: u32) -> Result<Found, Uncopied> {
     if let Err(error) = fs::symlink_metadata(files, name) {
         return match error.kind() {
@@ -92,14 +93,14 @@ fn find(files: &HighFiles, name: &str, bytes: &[u8], checksum: u32) -> Result<Fo
     }
 }
 
-/// Writes bytes into a file that is opened so, and syncs it.
+/// Opens a file with these options, writes bytes into it, and syncs it.
 fn write(files: &HighFiles, how: &OpenOptions, name: &str, bytes: &[u8]) -> Result<(), Uncopied> {
     let mut file = how.open(files, name).map_err(of_call)?;
     file.write_all(bytes).map_err(of_call)?;
     file.sync_all().map_err(of_call)
 }
 
-/// Makes a copy that is not there. One that is not whole is removed again.
+/// Makes a copy that does not exist. A copy that is not whole is removed again.
 fn make(rt: &HostRuntime, path: &str, name: &str, bytes: &[u8]) -> Result<(), Uncopied> {
     if count_copies(rt, path)? >= COPIES_MAX {
         return Err(Uncopied::TooMany);
@@ -110,7 +111,7 @@ fn make(rt: &HostRuntime, path: &str, name: &str, bytes: &[u8]) -> Result<(), Un
     match write(&files, how, name, bytes) {
         Err(Uncopied::Taken) => Err(Uncopied::Taken),
         Err(why) => {
-            // Where it stays, the next start makes it again.
+            // If it stays, the next start makes it again.
             let _ = fs::remove_file(rt, name);
             Err(why)
         }
@@ -124,8 +125,8 @@ fn sync(files: &HighFiles, name: &str) -> Result<(), Uncopied> {
     file.sync_all().map_err(of_call)
 }
 
-/// Copies bytes that are in the file of this path from an offset on into a file next to it, durably, and returns its name. Where they
-/// have a copy there it is kept, and one that is not whole is made again.
+/// Copies bytes that are in the file of this path from an offset on into a file next to it, durably, and returns its name.
+/// If they have a copy there, it is kept; a copy that is not whole is made again.
 pub fn copy(rt: &HostRuntime, path: &str, at: usize, bytes: &[u8]) -> Result<String, Uncopied> {
     let checksum = checksum_of(&[], bytes);
     let Ok(name) = format!(in rt.alloc(); "{path}.cut-{at}-{checksum:08x}") else {

@@ -7,9 +7,10 @@ use std::fs::{File, Files, Metadata, OpenOptions};
 use std::io;
 use std::path::PathBuf;
 
-/// The files of the system, none of which is open on descriptors 0 to 2: where a standard stream was closed before the program
-/// started, the system opens the next file on its descriptor, and what is meant for the stream would be written into the file. So
-/// each file that is opened is duplicated above them, and the first descriptor is closed. A stream that was closed stays closed.
+/// The files of the system, none of which is open on descriptors 0 to 2. If a standard stream was closed before the program
+/// started, the system opens the next file on its descriptor, and what is meant for the stream would be written into the
+/// file. So each file that is opened is duplicated above them, and the first descriptor is closed. A stream that was closed
+/// stays closed.
 #[derive(Drop)]
 pub struct HighFiles<'a> {
     rt: &'a HostRuntime,
@@ -18,7 +19,7 @@ pub struct HighFiles<'a> {
 }
 
 impl<'a> HighFiles<'a> {
-    /// The files of the system, of which none was opened yet.
+    /// The files of the system; no file was opened yet.
     pub fn new(rt: &'a HostRuntime) -> HighFiles<'a> {
         HighFiles {
             rt,
@@ -26,7 +27,7 @@ impl<'a> HighFiles<'a> {
         }
     }
 
-    /// Which file the regular file is that was opened last.
+    /// The identity of the regular file that was opened last.
     pub fn opened(&self) -> Option<Identity> {
         self.opened.get()
     }

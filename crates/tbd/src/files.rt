@@ -17,18 +17,18 @@ use tb_records::Counting;
 #[derive(Clone, Copy)]
 pub struct SystemFiles<'a> {
     pub rt: &'a HostRuntime,
-    /// Whether it is reported how far a file was read that is served.
+    /// Whether it is reported how far the served file was read.
     pub reports: bool,
     /// Whether a start copies nothing of what it cuts off.
     pub drops: bool,
-    /// Why a call on the file that is served failed, where that is known.
+    /// Why a call on the served file failed, if that is known.
     pub reason: &'a Cell<Option<Reason>>,
 }
 
-/// The bytes of standard error that are held, so that a line goes out at once.
+/// The bytes of standard error that are buffered, so that a line goes out at once.
 const LINE_BYTES: usize = 1024;
 
-/// Standard error behind a buffer; where there is no memory for one, without.
+/// Standard error behind a buffer; without a buffer if there is no memory for one.
 pub fn lines(rt: &HostRuntime) -> BufWriter<Stderr> {
     match BufWriter::with_capacity(rt.alloc(), LINE_BYTES, rt.stderr()) {
         Ok(lines) => lines,
@@ -66,12 +66,12 @@ impl<'a> SystemFiles<'a> {
     }
 }
 
-/// The system's numbers of its answers that as many files are open as there may be, and as a process may have.
+/// The system's error numbers: as many files are open as the system allows, and as a process may have.
 const ENFILE: i32 = 23;
 
 const EMFILE: i32 = 24;
 
-/// Says whether the system did not open a file for that.
+/// Says whether the system did not open a file because too many are open.
 fn is_too_many(fault: &FileFault) -> bool {
     match fault {
         FileFault::System(error) => match error.raw_os_error() {

@@ -1,6 +1,7 @@
-//! `tbd`: a ledger server whose history is in a file. It serves requests from standard input to standard output, each reply
-//! sent when the entry that it rests on is durable; follows a log in the same way; writes the history of either file as a dump; and
-//! reports what is in a file. tb_keep_commands and tb_keep_follow have what it does, over any files, reader and writer.
+//! `tbd`: a ledger server whose history is in a file. It serves requests from standard input to standard output, and sends
+//! each reply when the entry that it rests on is durable. It follows a log in the same way, writes the history of either
+//! file as a dump, and reports what is in a file. tb_keep_commands and tb_keep_follow have what it does, over any files,
+//! reader and writer.
 //!
 //! Modules:
 //!

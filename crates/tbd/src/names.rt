@@ -12,7 +12,7 @@ use tb_journal::JournalFault;
 use tb_keep_commands::{Place, Reason, print_named};
 use tb_records::Counting;
 
-/// Which file of the system a file is: its device and its inode, which stay as long as it is open.
+/// The identity of a file: its device and its inode, which stay as long as it is open.
 #[derive(Clone, Copy, PartialEq, Eq)]
 pub struct Identity {
     device: u64,
@@ -27,7 +27,7 @@ impl Identity {
         }
     }
 
-    /// That of an open file, of one that is a regular file.
+    /// The identity of an open file, if it is a regular file.
     pub fn of_file(file: &File) -> Option<Identity> {
         match file.metadata() {
             Ok(found) if found.is_file() => Some(Identity::of(&found)),
@@ -36,7 +36,7 @@ impl Identity {
     }
 }
 
-/// A name, the file that it led to when it was opened, and where it is noted why a call on that failed.
+/// A name, the file that it led to when it was opened, and the cell for why a call on that file failed.
 #[derive(Drop)]
 pub struct Name<'a> {
     pub rt: &'a HostRuntime,
@@ -48,7 +48,7 @@ pub struct Name<'a> {
 }
 
 impl<'a> Name<'a> {
-    /// Says whether this is the file that was opened, still with a name, and with so many bytes.
+    /// Says whether this is the file that was opened, still with a name, and with `len` bytes.
     fn is_same(&self, found: &Metadata, len: usize) -> bool {
         let same = self.opened == Some(Identity::of(found));
         same && found.nlink() > 0 && found.len() == len as u64
@@ -62,8 +62,8 @@ impl<'a> Name<'a> {
         format!(in alloc; "tbd: copied {count} bytes, from byte {at} on, {wholes}, to ")
     }
 
-    /// Reports that bytes that are in the file from an offset on have a copy of this name. Where there is no memory for that nothing is
-    /// reported.
+    /// Reports that bytes that are in the file from an offset on have a copy of this name. If there is no memory for that,
+    /// nothing is reported.
     fn report(&self, at: usize, bytes: &[u8], name: &str) {
         if let Ok(first) = self.copied(at, bytes) {
             let mut faults = Counting::new(lines(self.rt));

@@ -8,14 +8,14 @@ use tb_journal::{Real, Scan, checksum_of};
 /// The latch at the end of a journal's records.
 const CLOSED: &[u8] = &[90, 195, 150, 105];
 
-/// So many whole entries, of which the first has this number.
+/// `count` whole entries, the first of which has the number `first`.
 #[derive(Clone, Copy)]
 pub struct Wholes {
     first: u64,
     count: u64,
 }
 
-/// The record of the block that the bytes begin with, behind its latch, and the bytes behind it; None where it is not whole.
+/// The record of the block that the bytes begin with, after its latch, and the bytes after it; None if it is not whole.
 fn block(bytes: &[u8]) -> Option<(&[u8], &[u8])> {
     match bytes {
         [a, b, c, s, t, u, v, rest @ ..] => {
@@ -32,7 +32,7 @@ fn block(bytes: &[u8]) -> Option<(&[u8], &[u8])> {
     }
 }
 
-/// The number of the entry of a record: in a log its position, behind the mark, and in a ledger its commit number.
+/// The number of the entry of a record: in a log its position, after the mark, and in a ledger its commit number.
 fn number(record: &[u8]) -> Option<u64> {
     match record {
         [b'T', b'B', b'F', b'1', _, _, 2, a, b, c, d, e, f, g, h, ..] => Some(u64::from_le_bytes([
@@ -45,8 +45,8 @@ fn number(record: &[u8]) -> Option<u64> {
     }
 }
 
-/// The number of the entry that comes next in the history of the file of this path, of which the records end before this offset. None
-/// where they are not read.
+/// The number of the next entry in the history of the file of this path, whose records end before this offset. None if they
+/// are not read.
 fn next_number(rt: &HostRuntime, path: &str, at: usize) -> Option<u64> {
     let mut real = Real::look(&HighFiles::new(rt), path).ok()?;
     let mut scan = Scan::start(rt.alloc(), &mut real).ok()?;
@@ -62,8 +62,8 @@ fn next_number(rt: &HostRuntime, path: &str, at: usize) -> Option<u64> {
 }
 
 impl Wholes {
-    /// The entries that bytes begin with which would go on with the history of the file of this path: they are in that from this offset
-    /// on. The file is read only where there is an entry.
+    /// The entries that bytes begin with, if they would continue the history of the file of this path; the bytes are in that
+    /// file from this offset on. The file is read only if there is an entry.
     pub fn behind(rt: &HostRuntime, path: &str, at: usize, bytes: &[u8]) -> Wholes {
         let wholes = Wholes::of(bytes);
         if wholes.count > 0 && next_number(rt, path, at) == Some(wholes.first) {
@@ -73,7 +73,7 @@ impl Wholes {
         }
     }
 
-    /// The entries that bytes begin with behind a latch, each of which has the next number.
+    /// The entries that bytes begin with after a latch, each of which has the next number.
     fn of(bytes: &[u8]) -> Wholes {
         let mut wholes = Wholes { first: 0, count: 0 };
         let mut rest = bytes;

@@ -1,2 +1,2 @@
--- what private contracts alone cite
+-- what only private contracts cite
 pub mod Storms

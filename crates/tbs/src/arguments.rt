@@ -4,7 +4,7 @@ ghost use Rattle.tbs.specs.private.Storms.{storm_of};
 
 use tb_commands::number;
 
-/// The number of clients and of transfers that `storm` is asked for, None where the words do not ask for a storm.
+/// The number of clients and of transfers that `storm` is asked for; None if the words do not ask for a storm.
 pub fn read_storm(words: &[String]) -> Option<(u32, u32)>
     ensures value { result ≡ storm_of (map string_bytes words.now) }
     ensures limits { IfSome result (λ scale. (scale.0 ≤ 16) × (scale.1 ≤ 1000)) }

@@ -19,7 +19,7 @@ ReadsWholeFrame (Err step.Malformed) bytes = IsMalformed bytes
 ReadsWholeFrame (Err step.NoMemory) bytes = Unit {0}
 ReadsWholeFrame (Err other) bytes = ⊥
 
--- the same of a frame that is kept
+-- the same for a frame that is kept
 abbrev pub ReadsKept : Result Message Step → List ℕ → Type 0
 ReadsKept (Ok r) bytes = Spells bytes r
 ReadsKept (Err step.NoClient) bytes = IsMalformed bytes
@@ -33,7 +33,7 @@ ReadsPhase (Err step.NoClient) n frame = (3 < n) ⊎ IsMalformed frame
 ReadsPhase (Err step.NoMemory) n frame = Unit {0}
 ReadsPhase (Err other) n frame = ⊥
 
--- the client that is kept; or why there is none
+-- the client that is kept; or why it is not one
 abbrev pub ReadsClient : Result Client Step → TbCaller → List ℕ → Type 0
 ReadsClient (Ok c) kept frame = IsClient kept frame c × (field_fault c ≡ None)
 ReadsClient (Err step.Malformed) kept frame = ⊥

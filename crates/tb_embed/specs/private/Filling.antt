@@ -15,7 +15,7 @@ use Rattle.tb_machine.specs.Runs.{is_new_in, IsTimely, answer_bytes}
 abbrev pub room_output : ℕ → ℕ → List ℕ → ℕ → Bool → Bool → Output
 room_output name at bytes stalls halted held = record { written = Some (name ∷ take at bytes); failed = 0; stalled = stalls; halted = halted; held = held }
 
--- the answer fills so many bytes of the room, which are read as no other; or a prefix of the answer fills the room
+-- the answer fills the first n bytes of the room, and they are read only as that answer; or a prefix of the answer fills the room
 abbrev pub FillsRoom : Result ℕ RunFault → State → State → Pair → List ℕ → Type 0
 FillsRoom (Ok n) S T p room = IsTimely S p × (T ≡ after_pair S p) × (n ≤ length room) × SpellsReply (take n room) (answer_to (after_pair S p) p.1)
 FillsRoom (Err (fault.Frame f)) S T p room = IsTimely S p × (T ≡ after_pair S p) × ((n : ℕ) × (room ≡ take n (answer_bytes S p)))
@@ -23,7 +23,7 @@ FillsRoom (Err fault.NoMemory) S T p room = (is_new_in S p ≡ true) × (has_tim
 FillsRoom (Err fault.TimeExhausted) S T p room = (is_new_in S p ≡ true) × (has_time S p ≡ false) × (T ≡ S)
 FillsRoom (Err fault.TooLong) S T p room = ⊥
 
--- the length of the reply to a request of a class, by its client's row once it was served: a refusal has no body
+-- the length of the reply to a request of a class, by its client's row after it was served: a refusal has no body
 abbrev pub length_by : Class → Option Row → ℕ
 length_by New (Some row) = length (reply_bytes row.reply)
 length_by Repeat (Some row) = length (reply_bytes row.reply)

@@ -3,7 +3,7 @@ use Rattle.std.specs.Prelude.{ℕ, ◌≡◌, ◌==◌, true, List, [], ◌∷�
 use Rattle.logbook.specs.Pages.{Cell, Step, View, Book, Named}
 use Rattle.tb_machine.specs.declared.entries.Entry.{Entry}
 
--- the first word is the number of the entries; a book has two words, of which this one leaves the second at 0
+-- the first word is the number of the entries; a book has two words, and this one leaves the second at 0
 pub record CountsEntries (cells : List Cell) (log : List Entry) : Type 0 where
   pub words : cells ≡ (length log, true) ∷ (0, true) ∷ []
 

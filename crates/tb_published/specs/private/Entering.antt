@@ -1,4 +1,4 @@
--- What becomes of a request that is entered by the state S of a history h, which are T and m then.
+-- What becomes of a request that is entered by the state S of a history h, which become T and m.
 use Rattle.std.specs.Prelude.{ℕ, true, false, ◌≡◌, ◌≢◌, List, [], ◌∷◌, ◌++◌, Result, Ok, Err, MatchResult}
 use Rattle.std.specs.declared.alloc.AllocError.{AllocError}
 use Rattle.tb_records.specs.Messages.{Message, IsLawful}
@@ -12,11 +12,12 @@ use Rattle.tb_published.specs.declared.faults.Taken.TheVariants as taken
 use Rattle.tb_published.specs.declared.faults.TakeFault.{TakeFault}
 use Rattle.tb_published.specs.declared.faults.TakeFault.TheVariants as fault
 
--- an entry comes behind the history and into the state, and its commit number is the answer; where there is no memory, both stay
+-- an entry is appended to the history and enters the state, and its commit number is returned; if there is no memory, both stay
 abbrev pub AddsEntry : State → List Entry → Entry → Result ℕ AllocError → State → List Entry → Type 0
 AddsEntry S h e result T m = MatchResult result (λ c. (c ≡ e.commit) × (T ≡ step S e) × (m ≡ h ++ e ∷ [])) (λ _. (T ≡ S) × (m ≡ h))
 
--- a new one has the next commit number, and the state is the one after its entry; a repeat names the stored reply's entry, and any other is refused by its class
+-- a new request has the next commit number, and the state is the one after its entry; a repeat names the stored reply's entry, and any other is
+-- refused by its class
 abbrev pub EntersBy : State → List Entry → Message → ℕ → Result Taken TakeFault → State → List Entry → Type 0
 EntersBy S h r now (Ok (taken.Committed c)) T m =
     (class_of S.rows r ≡ New) × (has_time S (now, r) ≡ true) × (c ≡ (entry_of S (now, r)).commit) × (T ≡ step S (entry_of S (now, r))) × (m ≡ h ++ entry_of S (now, r) ∷ [])

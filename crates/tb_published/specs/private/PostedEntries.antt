@@ -9,7 +9,7 @@ pub record PostedEntry : Type 0 where
   pub entry : Entry
   pub front : Prefix
 
--- a copy takes in the front that has one entry more
+-- a copy takes in the front that has one more entry
 abbrev pub absorbed : Prefix → PostedEntry → Prefix
 absorbed x o = if length o.front.list == length x.list + 1 then o.front else x
 
@@ -18,12 +18,12 @@ abbrev pub PostsNext : Prefix → Prefix → List Entry → Option PostedEntry �
 PostsNext before after history posted =
     MatchOption posted (after ≡ before) (λ o. (o.front ≡ after) × (after ≡ with_entry before o.entry) × IsPrefix after.list history)
 
--- posted entries behind a prefix, one after another
+-- posted entries after a prefix, one after another
 abbrev pub FollowsPrefix : Prefix → List PostedEntry → Type 0
 FollowsPrefix l [] = Unit {0}
 FollowsPrefix l (o ∷ os) = (o.front ≡ with_entry l o.entry) × FollowsPrefix o.front os
 
--- the prefix behind the last of them
+-- the prefix after the last of them
 abbrev pub prefix_after : Prefix → List PostedEntry → Prefix
 prefix_after l os = fold (λ _ o. o.front) l os
 
@@ -37,6 +37,6 @@ pub record TwoCopies : Type 0 where
 abbrev pub showing : Prefix → TwoCopies
 showing l = record { shown = l; posted = []; seen = Some l }
 
--- with a posted entry more, if one waits for capacity
+-- with one more posted entry, if one waits for capacity
 abbrev pub and_waiting : TwoCopies → Option PostedEntry → TwoCopies
 and_waiting copies waiting = record copies { posted = copies.posted ++ option_to_list waiting }

@@ -23,7 +23,7 @@ with_entry l e = prefix l.opening (l.list ++ e ∷ [])
 abbrev pub IsPrefixOf : Prefix → Prefix → Type 0
 IsPrefixOf l m = (l.opening ≡ m.opening) × IsPrefix l.list m.list
 
--- of two prefixes one begins with the other
+-- one of two prefixes begins with the other
 abbrev pub Agree : Prefix → Prefix → Type 0
 Agree l m = IsPrefixOf l m ⊎ IsPrefixOf m l
 

@@ -10,7 +10,7 @@ use Rattle.tb_published.specs.private.PostedEntries.{TwoCopies, prefix_after, sh
 abbrev pub ShowsToReaders : Prefix → List (Option Prefix) → Type 0
 ShowsToReaders x views = (seat : ℕ) (l : Prefix) → get_elem? views seat ≡ some (Some l) → IsPrefixOf l x
 
--- what a step tells: all that is shown after it was seen, and begins with what had been seen before
+-- what a step reports: all that is shown after it has been seen, and that begins with what had been seen before
 abbrev pub Sees : Option Prefix → Prefix → Prefix → Option Prefix → Type 0
 Sees v x y w = (w ≡ Some y) × IfSome v (λ l. IsPrefixOf l y)
 
@@ -25,6 +25,6 @@ pub record Looked (o : Opening) (v : Option Prefix) (front shown : Prefix) : Typ
   pub named : shown.opening ≡ o
   pub legal : LegalIn o shown.list
 
--- what a swap leaves: the copies show the line after their orders, or all is as it was
+-- what a swap leaves: the copies show the prefix after their posted entries, or all is as it was
 abbrev pub Swapped : {E : Type 0} → Result (Unit {0}) E → TwoCopies → TwoCopies → Type 0
 Swapped result before after = MatchResult result (λ _. after ≡ showing (prefix_after before.shown before.posted)) (λ _. after ≡ before)

@@ -13,8 +13,7 @@ use Rattle.tb_service.specs.declared.gates.Gate as gates
 use Rattle.tb_service.specs.declared.gates.Moments as moments
 use Rattle.tb_service.specs.declared.server.Desk.{Desk}
 
--- Orders of ports that were made were taken at the inbox, and their requests had their turns at the clerk; the number of ports and
--- the name stay.
+-- Orders of ports that were made were taken at the inbox, and their requests had their turns at the clerk; the number of ports and the name stay.
 pub record ServesOrders {J W M G : Type 0} (o : Opening) (tells : M → ℕ → M → Type 0) (passes : G → ℕ → G → Type 0)
     (before : Pass Order View) (old : Clerk J W M G) (after : Pass Order View) (new : Clerk J W M G) : Type 0 where
   pub orders : List Order

@@ -14,7 +14,7 @@ IsFreshPort name number port = (port.offered ≡ []) × (port.number ≡ number)
 abbrev pub TakesNoOrder : Pass Order View → Pass Order View → Type 0
 TakesNoOrder before after = ((view after).taken ≡ (view before).taken) × (service_of after ≡ service_of before)
 
--- an order was taken, or none
+-- an order was taken, or no order
 abbrev pub TakesNextOrder : Option Order → Pass Order View → Pass Order View → Type 0
 TakesNextOrder next before after =
     MatchOption next ((view after).taken ≡ (view before).taken) (λ order. (view after).taken ≡ (view before).taken ++ order ∷ [])

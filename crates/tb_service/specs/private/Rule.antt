@@ -59,8 +59,8 @@ abbrev pub FitsOrders : List Order → List Order → ℕ → (ℕ → ℕ) → 
 FitsOrders sent_orders taken ports seat reader pass v =
     (v.offers ≡ true → IsPort sent_orders ports seat pass v) × (v.serves ≡ true → IsServer sent_orders taken ports seat reader pass v)
 
--- The orders taken and then those queued are all that were sent: in them each port's requests are what it offered, in order, and nothing
--- of a port is behind its close. `seat` names each port's pass, which is the server's once it took the port in.
+-- The orders taken and then those queued are all that were sent: in them each port's requests are what it offered, in order, and nothing of a port
+-- comes after its close. `seat` names each port's pass, which is the server's once it took the port in.
 pub record Queued (items : List Order) (views : List View) : Type 0 where
   pub taken : List Order
   pub ports : ℕ
@@ -70,8 +70,7 @@ pub record Queued (items : List Order) (views : List View) : Type 0 where
   pub ended : (p : ℕ) → ends_at_close p (taken ++ items) ≡ true
   pub fits : (pass : ℕ) (v : View) → get_elem? views pass ≡ some v → FitsOrders (taken ++ items) taken ports seat reader pass v
 
--- Of the port taken in last: what was taken of it and what is queued is what it offered; nothing is queued where its close was
--- taken.
+-- About the port taken in last: what was taken of it and what is queued is what it offered; nothing is queued if its close was taken.
 pub record TalliesOrders (v : View) (items : List Order) : Type 0 where
   pub whole : requests_of v.known_port v.taken ++ requests_of v.known_port items ≡ v.known
   pub made : v.known_port < v.ports

@@ -10,8 +10,8 @@ use tb_records::{Profile, Status};
 /// A lookup of no account.
 const NOTHING: Asked = Asked::Lookup(&[]);
 
-/// Clients 1 to 100 register by turns where one can have a session; then each of the first 99 sends a request. After them the last
-/// client, the first one registered again, and both once more.
+/// Clients 1 to 100 register by turns, and only one client can have a session; then each of the first 99 sends a request.
+/// After them the last client, the first one registered again, and both once more.
 const STORM: &[Step] = &[
     Step::RegisterEach(100),
     Step::RefuseEach(99),
@@ -112,7 +112,7 @@ fn each_is_shown_by_its_take(rt: HostRuntime) {
     play_all::<Brand, _>(&rt, rt.alloc(), opening, &[Step::TakeEach(130)]);
 }
 
-/// So many are entered at a time: 1, 8, 9 and 70.
+/// How many are entered at a time: 1, 8, 9 and 70.
 const TOGETHER: &[Step] = &[
     Step::ShowTogether(0, 1),
     Step::ShowTogether(1, 8),

@@ -7,7 +7,7 @@ use tb_records::{Request, write_reply};
 /// The 48 bytes before a reply's body.
 pub(crate) type Header = [u128; 3];
 
-/// Accounts 2 and 1 of ledger 700 and code 10, with times 12 and 11, as nothing was transferred yet.
+/// Accounts 2 and 1 of ledger 700 and code 10, with times 12 and 11; nothing was transferred yet.
 const ACCOUNTS: [&[u128]; 6] = [
     &[0x02000000_00000000_00000000_00000000],
     &ZEROS,
@@ -27,7 +27,7 @@ fn put_lines(rt: &impl Abort, bytes: &mut Vec<u8>, lines: &[u128]) {
     }
 }
 
-/// A reply's frame: its header, and the two accounts where it found them.
+/// A reply's frame: its header, and the two accounts if it found them.
 pub(crate) fn frame(rt: &impl Abort, alloc: Global, header: Header, found: bool) -> Vec<u8> {
     let mut bytes = Vec::new(alloc);
     put_lines(rt, &mut bytes, &header);

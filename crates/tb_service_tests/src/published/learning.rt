@@ -8,7 +8,7 @@ use std::sync::Wait;
 use tb_published::{Naming, Publisher, Seat, Taken};
 use tb_records::{Request, Status};
 
-/// One seat has seen four entries, the other none.
+/// One seat has seen four entries, the other no entry.
 fn expect_apart<J: Naming>(
     rt: &impl Abort,
     publisher: &Publisher<J>,
@@ -24,7 +24,7 @@ fn expect_apart<J: Naming>(
     holds(rt, publisher.beside(two), "the publisher beside the other");
 }
 
-/// A seat that has not learnt of the fifth entry finds its request answered where it has seen it, and new where it has not.
+/// A seat that has not learnt of the fifth entry finds its request answered if it has seen it, and new if it has not.
 fn expect_early<J: Naming>(rt: &impl Abort, seat: &mut Seat<J>, next: &Request) {
     let status = seat.status(next).expect(rt, "a status");
     let right = match seat.seen() {

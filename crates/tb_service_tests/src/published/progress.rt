@@ -1,4 +1,4 @@
-//! Progress: what was entered is shown by the next call that shows, however much it is. Where memory is there, no call answers
+//! Progress: what was entered is shown by the next call that shows, however much it is. If there is memory, no call returns
 //! Unpublished.
 use crate::comparing::holds_at;
 use crate::making::{register_or_lookup, take};
@@ -8,7 +8,7 @@ use std::sync::Wait;
 use tb_published::{Naming, Publisher, Seat, Taken};
 use tb_records::Status;
 
-/// A seat has the reply to client 7's request of a number, and has seen no entry behind it.
+/// A seat has the reply to client 7's request of a number, and has seen no entry after it.
 fn expect_last<J: Naming>(rt: &impl Abort, alloc: Global, seat: &mut Seat<J>, number: u32) {
     let asked = register_or_lookup(rt, alloc, (7, u64::from(number.min(1)), number));
     holds_at(rt, seat.status(&asked) == Ok(Status::Reply), &number);
@@ -20,7 +20,7 @@ fn expect_last<J: Naming>(rt: &impl Abort, alloc: Global, seat: &mut Seat<J>, nu
     drop(asked);
 }
 
-/// So many of client 7's requests are taken one by one, and the seat has each reply at once.
+/// The first `count` of client 7's requests are taken one by one, and the seat has each reply at once.
 pub(crate) fn take_each<J: Naming, R: Wait + Abort>(
     rt: &R,
     alloc: Global,
@@ -53,7 +53,7 @@ fn enter_from<J: Naming>(
     }
 }
 
-/// So many are entered from a number on, and one call shows them all.
+/// `count` requests are entered from a number on, and one call shows them all.
 pub(crate) fn show_together<J: Naming, R: Wait + Abort>(
     rt: &R,
     alloc: Global,

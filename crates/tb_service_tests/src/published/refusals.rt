@@ -19,7 +19,7 @@ pub(crate) fn register_each<J: Naming, R: Wait + Abort>(
     }
 }
 
-/// None of them up to this one has a session.
+/// No client up to this one has a session.
 pub(crate) fn refuse_each<J: Naming, R: Wait + Abort>(
     rt: &R,
     alloc: Global,
@@ -34,7 +34,7 @@ pub(crate) fn refuse_each<J: Naming, R: Wait + Abort>(
     }
 }
 
-/// The code of the first event that a reply does not accept; 0 where it accepts all.
+/// The code of the first event that a reply does not accept; 0 if it accepts all.
 fn first_code(reply: &Reply) -> u32 {
     match reply.body() {
         ReplyBody::Results(results) => match results.as_slice().first() {

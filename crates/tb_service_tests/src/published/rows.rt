@@ -133,7 +133,7 @@ const LATER_ROWS: [Row; 8] = [
     ),
 ];
 
-/// The status that a seat answers once a request was taken.
+/// The status that a seat returns once a request was taken.
 fn status_after(taken: Taken) -> Status {
     match taken {
         Taken::Committed(_) | Taken::Repeat(_) => Status::Reply,
@@ -141,7 +141,7 @@ fn status_after(taken: Taken) -> Status {
     }
 }
 
-/// What a seat answers to a request that was taken: its status, and its bytes.
+/// A seat's answer to a request that was taken: its status, and its bytes.
 fn expect_answer<J: Naming>(
     rt: &impl Abort,
     alloc: Global,
@@ -158,7 +158,7 @@ fn expect_answer<J: Naming>(
     drop(answer);
 }
 
-/// Takes a row's request, and asks a seat for it then.
+/// Takes a row's request, and then asks a seat for it.
 fn expect_row<J: Naming, R: Wait + Abort>(
     rt: &R,
     alloc: Global,

@@ -6,7 +6,7 @@ use std::sync::Wait;
 use tb_published::{Naming, Publisher, Seat, Taken};
 use tb_records::{Request, Status};
 
-/// A seat has seen so many entries, and finds this status for a request.
+/// A seat has seen `seen` entries, and finds this status for a request.
 fn expect_seen<J: Naming>(
     rt: &impl Abort,
     seat: &mut Seat<J>,

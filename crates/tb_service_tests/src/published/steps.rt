@@ -20,13 +20,13 @@ pub(crate) enum Step {
     Take(Numbers, Asked, u64, Result<Taken, TakeFault>),
     /// Clients up to this one register by turns.
     RegisterEach(u64),
-    /// None of them up to this one has a session.
+    /// No client up to this one has a session.
     RefuseEach(u64),
     /// Client 7's request of a number is taken: the code of its first event.
     Code(u32, Asked, u32),
-    /// So many of client 7's requests are taken one by one.
+    /// This many of client 7's requests are taken one by one.
     TakeEach(u32),
-    /// From a number on so many are entered, and one call shows them all.
+    /// From a number on, this many are entered, and one call shows them all.
     ShowTogether(u32, u32),
     /// A register is entered, and is not shown until the copies are told to.
     EnterAlone,
@@ -36,7 +36,7 @@ pub(crate) enum Step {
     CreateMany,
     /// Eight transfers are entered and shown: the amount on account 2 then.
     MoveEight([u32; 8], u128),
-    /// The history has so many entries, and the copies show as many.
+    /// The history has this many entries, and the copies show as many.
     Entries(usize),
 }
 
@@ -55,7 +55,7 @@ fn expect_taken<J: Naming, R: Wait + Abort>(
     holds_at(rt, taken == wanted, &numbers);
 }
 
-/// The history has so many entries, and the copies show as many.
+/// The history has `entries` entries, and the copies show as many.
 fn expect_entries<J: Naming>(rt: &impl Abort, publisher: &Publisher<J>, entries: usize) {
     holds(rt, publisher.history().len() == entries, "entries");
     let told = publisher.tell();

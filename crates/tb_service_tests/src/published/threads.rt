@@ -13,7 +13,7 @@ use tb_fixtures::reaches;
 use tb_published::{Naming, Opening, Publisher, Seat, SeatFault, Taken, Told};
 use tb_records::{Profile, Request, Status};
 
-/// Whoever waits looks so often at the most.
+/// How often a thread that waits looks at most.
 const LOOKS: u32 = 20_000_000;
 
 /// How many seats have seen some of the history, but not all of it.
@@ -21,7 +21,7 @@ const LOOKS: u32 = 20_000_000;
 struct Between(AtomicU64);
 
 impl Between {
-    /// One seat more has.
+    /// Counts one more seat.
     fn count(&self) {
         self.0.fetch_add(1, Ordering::SeqCst);
     }
@@ -32,8 +32,8 @@ impl Between {
     }
 }
 
-/// Asks a seat for the last request; None where the call errs, or what the seat has seen fell, or the answer is not that of
-/// so many entries. Else how many it has seen.
+/// Asks a seat for the last request, and returns how many entries it has seen. None if the call fails, what the seat has
+/// seen fell, or the status is not that after as many entries.
 fn look<J: Naming>(seat: &mut Seat<J>, last: &Request) -> Option<u64> {
     let before = seat.seen();
     let status: Result<Status, SeatFault> = seat.status(last);

@@ -78,7 +78,7 @@ fn enter_eight<J: Naming, R: Wait + Abort>(
     holds(rt, publisher.show(rt).is_ok(), "shown");
 }
 
-/// A seat finds that account 2 was credited so much, and account 65,010 debited 1.
+/// A seat finds that account 2 was credited with `amount`, and account 65,010 debited with 1.
 fn expect_moved<J: Naming>(rt: &impl Abort, seat: &mut Seat<J>, amount: u128) {
     let (_, found) = seat.lookup_accounts(&[2, 65_010]).expect(rt, "accounts");
     let credits = found.iter().map(|it| it.credits_posted).max();
@@ -88,7 +88,7 @@ fn expect_moved<J: Naming>(rt: &impl Abort, seat: &mut Seat<J>, amount: u128) {
     drop(found);
 }
 
-/// Eight transfers are entered and shown, after which a seat finds so much on account 2.
+/// Eight transfers are entered and shown; then a seat finds `amount` on account 2.
 pub(crate) fn move_eight<J: Naming, R: Wait + Abort>(
     rt: &R,
     alloc: Global,

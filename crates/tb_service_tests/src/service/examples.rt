@@ -80,7 +80,7 @@ const THREE: &[Step] = &[
     Step::First((9, 0, 0), Asked::Register),
 ];
 
-/// Behind the first entry there is no time.
+/// After the first entry there is no time left.
 const LATE: Left = Left {
     entries: 1,
     credited: 0,

@@ -28,7 +28,7 @@ impl Order {
     }
 }
 
-/// A gate that lets all pass, and says with which place it was passed.
+/// A gate that lets all pass, and notes with which place it was passed.
 #[derive(Drop)]
 struct Marking<'a>(&'a Order);
 
@@ -41,7 +41,7 @@ impl Gate for Marking<'_> {
 }
 
 /// Moments 1, 2, 3 and so on, which look whether the gate was passed with the place of the same number. A request is entered
-/// with its moment, so that it cannot be entered before.
+/// with its moment, so it cannot be entered before.
 #[derive(Drop)]
 struct Watching<'a> {
     told: u64,

@@ -11,7 +11,7 @@ use tb_published::{Naming, Opening, Seat, SeatFault};
 use tb_records::{Profile, Request};
 use tb_service::Port;
 
-/// Where the publisher was closed a call ends as its seat does, without a copy, and hands nothing over.
+/// If the publisher was closed, a call ends as its seat does, without a copy, and sends nothing.
 fn finds_no_copy<J: Naming, R: Wait>(
     rt: &R,
     port: &mut Port,

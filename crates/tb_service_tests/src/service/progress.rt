@@ -1,4 +1,4 @@
-//! Progress: what is offered is answered while the server still runs. No later order and no close has to bring it out.
+//! Progress: what is offered is answered while the server still runs. It needs no later order and no close.
 ghost use Rattle.std.specs.Prelude.{◌≡◌, ◌≤◌};
 
 use crate::comparing::holds;
@@ -13,10 +13,10 @@ use tb_published::{Naming, Opening, Seat};
 use tb_records::{Profile, Request, Status};
 use tb_service::Port;
 
-/// So often a seat is asked for one answer.
+/// How often a seat is asked for one answer.
 const LOOKS: u32 = 200_000;
 
-/// The seat is asked again after so many microseconds: an answer has ten seconds, or more.
+/// The microseconds after which a seat is asked again: an answer has ten seconds, or more.
 const NAP_US: u64 = 50;
 
 /// How many requests are offered one by one.
@@ -45,7 +45,7 @@ fn count_answered<J: Naming, R: Wait>(rt: &R, seat: &mut Seat<J>, requests: &[Re
     count
 }
 
-/// Eight requests go in one order, and each is asked for before the port is closed: so many were answered.
+/// Eight requests go in one order, and each is asked for before the port is closed. Returns how many were answered.
 fn hand_over_and_ask<J: Naming, R: Wait + Abort>(
     rt: &R,
     alloc: Global,
@@ -62,7 +62,7 @@ fn hand_over_and_ask<J: Naming, R: Wait + Abort>(
     answered
 }
 
-/// Requests go one by one, each after the one before was answered: so many were.
+/// Requests go one by one, each after the one before was answered. Returns how many were.
 fn offer_one_by_one<J: Naming, R: Wait + Abort>(
     rt: &R,
     alloc: Global,

@@ -21,12 +21,12 @@ pub(crate) enum Step {
     Second(Numbers, Asked),
     /// Client 7's first eight requests by the first port, in one order.
     Eight,
-    /// A call of the first port for client 7's register, which never asks again: the seat answers that it has none yet.
+    /// A call of the first port for client 7's register, which never asks again: the seat answers NotYet.
     CallOnce,
 }
 
-/// What is left of a run: the length of the history, what account 2 was credited with, the places of each port's requests, and those of
-/// all requests that were left out since no time was left.
+/// What is left of a run: the length of the history, what account 2 was credited with, the places of each port's requests,
+/// and those of all requests that were left out because no time was left.
 #[derive(Clone, Copy)]
 pub(crate) struct Left {
     pub(crate) entries: usize,
@@ -101,7 +101,7 @@ fn expect_places(rt: &impl Abort, places: Option<Vec<u64>>, wanted: &[u64]) {
     drop(places);
 }
 
-/// These places were left out, and no others, since no time was left.
+/// These places, and no others, were left out, because no time was left.
 fn are_late(refused: &[(u64, TakeFault)], places: &[u64]) -> bool {
     if refused.len() != places.len() {
         return false;
@@ -114,7 +114,7 @@ fn are_late(refused: &[(u64, TakeFault)], places: &[u64]) -> bool {
     true
 }
 
-/// The run ended since its ports were closed, and this is left of it.
+/// The run ended because its ports were closed, and this is left of it.
 fn expect_left<J: Naming>(rt: &impl Abort, finished: &Finished<J>, left: Left) {
     holds(rt, finished.ended == Ended::Closed, "the end");
     let entries = finished.publisher.history().len();

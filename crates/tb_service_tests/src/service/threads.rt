@@ -210,7 +210,7 @@ fn reordered_repeats(rt: HostRuntime) {
     repeat_in_reverse::<Brand, _>(&rt, rt.alloc(), opening(&rt, Profile::One, 2));
 }
 
-/// Ten seat calls are waited for, and whoever waits looks so often at the most.
+/// How often a thread that waits for ten seat calls looks at most.
 const LOOKS: u32 = 100_000_000;
 
 /// Whether a request waits at a gate, and how many seat calls were made.
@@ -229,7 +229,7 @@ impl Watch {
     }
 }
 
-/// A gate that says that a request waits at it, and lets it pass once ten seat calls were made.
+/// A gate that reports that a request waits at it, and lets it pass once ten seat calls were made.
 #[derive(Drop)]
 struct Waiting<'a>(&'a Watch);
 
@@ -276,7 +276,7 @@ fn call_ten<J: Naming>(
     unseen
 }
 
-/// The same of the first two seats.
+/// The same for the first two seats.
 fn call_both<J: Naming, R: Abort>(rt: &R, seats: &mut Vec<Seat<J>>, watch: &Watch) -> bool {
     let request = register(rt, 7);
     let mut both = seats.iter_mut();

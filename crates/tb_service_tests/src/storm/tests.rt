@@ -1,4 +1,4 @@
-//! Storms: their lines and totals. Outputs that fail are tried over `tbs`, by tests/programs.
+//! Storms: their lines and totals. tests/programs tests outputs that fail, over `tbs`.
 ghost use Rattle.std.specs.Prelude.{◌≡◌, ◌≤◌};
 
 use std::alloc::Global;

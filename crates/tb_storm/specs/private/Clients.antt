@@ -28,7 +28,7 @@ port_of (line.Open port) = Some port
 port_of (line.Closed port) = Some port
 port_of line.Gone = None
 
--- how many these are
+-- how many requests the network delivers again after a client's kth call
 abbrev pub repeat_count : ℕ → ℕ
 repeat_count k = if k % 3 == 0 then 2 else 1
 
@@ -37,7 +37,7 @@ abbrev pub more_by : Option Offers → List Message → Option Offers
 more_by None more = None
 more_by (Some port) more = Some (record { service = port.service; number = port.number; offered = port.offered ++ more })
 
--- what a port sent; nothing where there is none
+-- what a port sent; nothing if there is no port
 abbrev pub offered_by : Option Offers → List Message
 offered_by None = []
 offered_by (Some port) = port.offered
@@ -46,7 +46,7 @@ offered_by (Some port) = port.offered
 abbrev pub offers : Line → ℕ
 offers way = length (offered_by (port_of way))
 
--- what the network delivers again behind the reply to a client's kth call: that one, and behind each third also the one two before
+-- what the network delivers again after the reply to a client's kth call: that call, and after each third also the one two before
 abbrev pub repeats_at : ℕ → ℕ → ℕ → List Message
 repeats_at client session k =
     asked client session k (transfer_call client k)
@@ -59,7 +59,7 @@ module _ {J : Type 0} where
     pub caller_is : c.caller ≡ fresh number
     pub port_is : port_of c.line ≡ Some (record { service = service; number = port; offered = [] })
 
-  -- nothing was sent but the request that waits, and the seat saw more
+  -- nothing was sent except the request that waits, and the seat saw more
   pub record Waits (old new : Client J) : Type 0 where
     pub number_is : new.number ≡ old.number
     pub seen : IsPrefix old.seat new.seat
@@ -92,8 +92,7 @@ module _ {J : Type 0} where
     pub seat_is : new.seat ≡ old.seat
     pub sent : port_of new.line ≡ more_by (port_of old.line) more
 
-  -- Since its port was as it was at first, it registered and made so many calls. Each returned a reply that its seat gave, and its port sent
-  -- nothing else.
+  -- From its port's first state on, it registered and made `count` calls. Each returned a reply that its seat gave, and its port sent nothing else.
   pub record Stands (o : Opening) (id : ℕ) (call : ℕ → Body) (count : ℕ) (start : Option Offers) (c : Client J) : Type 0 where
     pub number_is : c.number ≡ id
     pub caller_is : c.caller ≡ client_with id c.caller.session count Idle
@@ -106,11 +105,11 @@ module _ {J : Type 0} where
     pub sent : port_of c.line ≡ more_by start more
     pub own : Each (λ (r : Message). IsAmong r (sent_in_session id c.caller.session call count)) more
 
-  -- a new client made so many calls
+  -- a new client made `count` calls
   abbrev pub Plays : Opening → (ℕ → Body) → ℕ → Client J → Client J → Type 0
   Plays o call count old new = old.caller ≡ fresh old.number → Stands o old.number call count (port_of old.line) new
 
-  -- one that made m of its transfers made n
+  -- a client that had made m of its transfers has made n
   abbrev pub TransfersMore : Opening → ℕ → ℕ → Client J → Client J → Type 0
   TransfersMore o m n old new = (start : Option Offers) → Stands o old.number (transfer_call old.number) m start old → Stands o old.number (transfer_call old.number) n start new
 

@@ -11,7 +11,7 @@ use Rattle.tb_storm.specs.Totals.{ids_of, first_credits}
 abbrev pub transfers_after : Opening → List Entry → List ℕ → ℕ
 transfers_after o h ids = length (found_transfers (after_in o h).books ids)
 
--- so many of them, after its legal history of so many entries
+-- how many of them there are, after its legal history of `entries` entries
 abbrev pub CountsTransfers : Opening → List Entry → List ℕ → ℕ → ℕ → Type 0
 CountsTransfers o h ids entries transfers = LegalIn o h × (entries ≡ length h) × (transfers ≡ transfers_after o h ids)
 

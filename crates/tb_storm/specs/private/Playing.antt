@@ -33,21 +33,21 @@ module _ {J : Type 0} where
     pub last : before ≡ after ++ port ∷ []
     pub is_new : port.offered ≡ [] → IsNewClient port.service port.number number c
 
-  -- clients 1, 2, 3 and so on, so many, on ports that go down to 0
+  -- clients 1 to `count`, on ports that go down to 0
   pub record AreNew (service : Name) (count : ℕ) (others : List (Client J)) : Type 0 where
     pub count_is : length others ≡ count
     pub each : (i : ℕ) (d : Client J) → i < count → IsNewClient service (count - 1 - i) (i + 1) (slice_index_or others i d)
 
-  -- client 100, on the port after theirs, and they
+  -- client 100, on the port after the others', and the others
   pub record AreReady (service : Name) (count : ℕ) (clients : Clients J) : Type 0 where
     pub first : IsNewClient service count 100 clients.first
     pub others : AreNew service count clients.others.items
 
-  -- where it met no fault, a client made its calls on its port
+  -- if it met no fault, a client made its calls on its port
   abbrev pub HasMade : Opening → Name → ℕ → ℕ → (ℕ → Body) → ℕ → Client J → Type 0
   HasMade o service port number call count c = c.fault ≡ None → Stands o number call count (Some (new_port service port)) c
 
-  -- where client 100 met no fault, the others began
+  -- if client 100 met no fault, the others began
   pub record HaveMade (o : Opening) (service : Name) (count transfers : ℕ) (clients : Clients J) : Type 0 where
     pub first : HasMade o service count 100 (accounts_call count) 1 clients.first
     pub count_is : length clients.others.items ≡ count
@@ -88,13 +88,13 @@ module _ {J : Type 0} where
     pub seen : IsPrefix old.first.seat new.first.seat
     pub others_are : new.others.items ≡ old.others.items
 
--- A server with so many ports has run after a history: what it added was offered by one of them, whatever each of them offered.
+-- A server with `count` ports has run after a history: what it added was offered by one of them, whatever each of them offered.
 abbrev pub HasRun : ℕ → List Entry → Finish → Type 0
 HasRun count before finish = (offered : ℕ → List Message) → ((p : ℕ) → p < count → IsOffered (offered p) finish.taken (places_from p 1 finish.owners) finish.ended)
     → GrowsByOffers count offered before finish.publisher.history
 
--- What is left of a client whose port the server took in: all its calls returned a reply that was given after a prefix of the history,
--- and what its port sent is nothing else.
+-- What is left of a client whose port the server took in: all its calls returned a reply that was given after a prefix of the history, and its port
+-- sent nothing else.
 pub record IsClientLeft (o : Opening) (finish : Finish) (port id : ℕ) (call : ℕ → Body) (count : ℕ) (sent : List Message) : Type 0 where
   pub session : ℕ
   pub returned : List (Message × Answer)
@@ -115,7 +115,7 @@ call_at count port = if port == count then accounts_call count else transfer_cal
 abbrev pub count_at : ℕ → ℕ → ℕ → ℕ
 count_at count transfers port = if port == count then 1 else transfers
 
--- of all clients, by their ports
+-- the same for all clients, by their ports
 pub record AreLeft (o : Opening) (finish : Finish) (count transfers : ℕ) : Type 0 where
   pub sent : ℕ → List Message
   pub each : (p : ℕ) → p < count + 1 → IsClientLeft o finish p (number_at count p) (call_at count p) (count_at count transfers p) (sent p)

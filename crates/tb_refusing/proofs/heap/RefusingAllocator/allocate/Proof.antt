@@ -1,4 +1,4 @@
--- An allocation that is refused answers `Err`; any other is counted, and answers what the inner allocator answers. Assumes `Logic`.
+-- An allocation that is refused returns `Err`; any other is counted, and returns what the inner allocator returns. Assumes `Logic`.
 use Rattle.std.proofs.Common.{◌≡◌, ℕ, ◌+◌, ◌^◌, ◌<◌, Bool, true, false, List, [], ◌∷◌, Ok, Err, refl, w64, Bor}
 use seplogic.Ra.Ura.{Ura}
 use mir.Syntax.{Ty, Args, Fn, a_type, dnil, dcons}

@@ -2,7 +2,7 @@ use Rattle.std.proofs.Common.{◌≤◌, ◌+◌}
 use Rattle.tb_storm.specs.private.Clients.{TransfersMore, offers}
 use Rattle.tb_storm.proofs.clients.Client.create_all.Given as goal
 
--- so many transfers were created, and each was offered again
+-- `done` transfers were created, and each was offered again
 abbrev pub invariant-loop-done : goal.invariant-loop-done
 invariant-loop-done g l = record {
   on : TransfersMore g.J.Naming.opening 0 l.done l.initial.self l.self;

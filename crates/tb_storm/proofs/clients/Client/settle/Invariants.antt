@@ -2,7 +2,7 @@ use Rattle.std.proofs.Common.{◌≡◌}
 use Rattle.tb_storm.specs.private.Clients.{Waits}
 use Rattle.tb_storm.proofs.clients.Client.settle.Given as goal
 
--- nothing was sent but the request that waits
+-- nothing was sent except the request that waits
 abbrev pub invariant-loop : goal.invariant-loop
 invariant-loop g l = record {
   waits : Waits l.initial.self l.self;
