@@ -46,7 +46,8 @@ class Load:
         return dataclasses.replace(self, accounts=accounts, events=events)
 
     def script(self, folder, events):
-        """Its script of so many events, where the measured part begins, and how many it has."""
+        """Its script of `events` events, where the measured part begins, and how many events it
+        has."""
         path = measure.make_script(folder, self.workload, events, self.accounts)
         return path, measure.place(path, self.wanted), events - int(events * self.before)
 
@@ -126,7 +127,7 @@ def ratio(costs, name):
 
 
 def shown(costs, name, bounds):
-    """A ratio as it is printed: with its bound, where it has one."""
+    """A ratio as it is printed: with its bound, if it has one."""
     said = f"{ratio(costs, name):.2f}"
     if name not in bounds:
         return said
@@ -153,7 +154,7 @@ def print_growth(costs):
 
 def taking_part(name, is_only, programs, earlier):
     """The servers of a load: the peers; an earlier tbs, and one of today that was built as it was,
-    where there is a bound over it, or no other load; and tbs in huge pages in one load."""
+    if there is a bound over it, or no other load; and tbs in huge pages in one load."""
     taking = dict(programs)
     if is_only or "before" in LOADS[name].bounds:
         taking.update({it: [program, "run", "64"] for it, program in earlier.items()})
@@ -176,7 +177,7 @@ def run_loads(names, turns, folder, earlier, scale=1):
     return all_costs, all_agree
 
 
-# Replies alone
+# Only replies
 
 
 def replies_agree(programs, profile, script, folder):

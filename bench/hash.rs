@@ -25,7 +25,7 @@ mod tables {
         }
     }
 
-    /// Rows in the order in which they came, and where each one stands.
+    /// Rows in the order in which they came, and where each one is.
     pub struct Rows<V> {
         places: HashMap<u128, u32, BuildHasherDefault<Multiplying>>,
         rows: Vec<V>,
@@ -71,7 +71,7 @@ mod tables {
             self.0.push(Reverse((key, id)))
         }
         pub fn remove(&mut self, _: &(u64, u64)) {}
-        /// Takes the first one out, where it expires until a time.
+        /// Takes the first one out, if it expires until a time.
         pub fn pop_until(&mut self, t: u64) -> Option<((u64, u64), u128)> {
             if self.0.peek()?.0 .0 .0 > t {
                 None

@@ -35,7 +35,7 @@ def is_newer(program, sources):
 
 
 def build(name, folder):
-    """Compiles a program of bench/ where it is not there yet, or older than its sources."""
+    """Compiles a program of bench/ that is not there yet, or is older than its sources."""
     program = pathlib.Path(folder) / name
     if is_newer(program, [*HERE.glob("*.rs"), *HERE.glob("*.c")]):
         return str(program)
@@ -66,7 +66,7 @@ def work_folder(named):
 
 
 def make_script(folder, workload, events, accounts, seed=1):
-    """The path of a script, which is made where it is not there yet, or older than its maker."""
+    """The path of a script, which is made if it is not there yet, or is older than its maker."""
     path = pathlib.Path(folder) / f"{workload}-{events}-{accounts}-{seed}"
     if not is_newer(path, [HERE / "make_script.py"]):
         part = path.with_suffix(".part")
@@ -105,7 +105,7 @@ def resolves(operation, flags):
 
 
 def place(script, wanted=is_transfers):
-    """Where a script's first request of a kind begins: what is before it is preparation."""
+    """The place of a script's first request of a kind: what is before it is preparation."""
     return next(at for at, *what in requests(script) if wanted(*what))
 
 
@@ -157,7 +157,8 @@ def await_idle(pid, pipe):
 
 @contextlib.contextmanager
 def limited(child, words):
-    """Kills a server that does not read, rest or end: who waits for it goes on, and tells that."""
+    """Kills a server that does not read, rest or end: what waits for it goes on, and reports
+    that."""
     late = threading.Timer(LONGEST, child.kill)
     late.daemon = True
     late.start()
@@ -185,7 +186,7 @@ def serve(words, script, cuts, replies, at_cut=None):
 
 
 def served(child, source, ends, at_cut):
-    """What a server has used at each of these places in a script; fewer where it ended before."""
+    """What a server has used at each of these places in a script; fewer if it ended before."""
     pipe, at, costs = child.stdin.fileno(), 0, []
     fcntl.fcntl(pipe, fcntl.F_SETPIPE_SZ, PIPE_BYTES)
     with child.stdin, contextlib.suppress(BrokenPipeError, FileNotFoundError):

@@ -20,7 +20,7 @@ mod tables {
         pub fn remove(&mut self, key: &(u64, u64)) {
             self.0.remove(key);
         }
-        /// Takes the first one out, where it expires until a time.
+        /// Takes the first one out, if it expires until a time.
         pub fn pop_until(&mut self, t: u64) -> Option<((u64, u64), u128)> {
             let first = self.0.first_entry()?;
             if first.key().0 > t {

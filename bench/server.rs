@@ -1,8 +1,8 @@
 // The plain Rust server of plain.rs and hash.rs, which give it their tables: for comparison of speed and of replies.
 //
-// It uses std alone, and does what one usually writes over such tables, without unsafe code:
-// - an account's sums stand in its row, in Cells, so that both accounts of a transfer are changed where they were found;
-// - open pending transfers with a timeout stand in an index by the moment of expiry, so that a request looks at its first one alone;
+// It uses only std, and does what one usually writes over such tables, without unsafe code:
+// - an account's sums are in its row, in Cells, so that both accounts of a transfer are changed where they were found;
+// - open pending transfers with a timeout are in an index by the moment of expiry, so that a request looks only at its first one;
 // - events are read into records, and old rows are noted in an undo log, which takes a broken chain back;
 // - a request searches once for its client, whose session keeps the body and the frame of the reply.
 use std::cell::Cell;
@@ -721,7 +721,7 @@ pub struct Machine {
 }
 
 impl Machine {
-    /// An empty machine; failed ids are kept by profile 2 alone.
+    /// An empty machine; only profile 2 keeps failed ids.
     pub fn new(clients_max: usize, keeps_failed: bool) -> Machine {
         let failed = if keeps_failed {
             Some(BTreeSet::new())
@@ -750,7 +750,7 @@ impl Machine {
         self.commit
     }
 
-    /// Serves the request of a header and a body that comes at a moment, and writes the reply; false where there is no time for it.
+    /// Serves the request of a header and a body that comes at a moment, and writes the reply; false if there is no time for it.
     pub fn serve(&mut self, moment: u64, h: &[u8], body: Vec<u8>, output: &mut impl Write) -> bool {
         let (client, session, request, operation, len) = (
             number(h, 0, 16),

@@ -7,12 +7,12 @@
 // - all statements are prepared once; a request is one transaction, a chain of two events or more a
 //   savepoint in it;
 // - keys are blobs of 16 bytes, the high byte first, so that their order is that of the ids; sums
-//   are blobs too, since SQLite's integers have 64 bits;
-// - an index has the open pending transfers with a timeout alone, by the time of expiry;
+//   are blobs too, because SQLite's integers have 64 bits;
+// - an index has only the open pending transfers with a timeout, by the time of expiry;
 // - the sessions and their replies are in the program's memory, which is the cheapest that they can
 //   be.
 //
-// Where SQLite reports an error (it has no memory left, say), the server prints it and ends with
+// If SQLite reports an error (it has no memory left, say), the server prints it and ends with
 // status 1.
 #include <endian.h>
 #include <sqlite3.h>
@@ -400,7 +400,7 @@ static uint32_t create_account(const void *event, uint64_t time) {
     return 0;
 }
 
-// The result where `e` has the id already.
+// The result if `e` has the id already.
 static uint32_t exists(const Transfer *f, const Transfer *e) {
     if (f->flags != e->flags) return 36;
     if (f->pending_id != e->pending_id) return 40;
@@ -676,7 +676,7 @@ static void put_head(
     put(&head, sizeof head);
 }
 
-// Executes a request in a transaction; the answer is in `answer` behind the reply's head.
+// Executes a request in a transaction; the answer is in `answer` after the reply's head.
 static void execute(uint8_t operation, const uint8_t *body, size_t length, uint64_t time) {
     run(BEGIN);
     expire(time);
@@ -689,7 +689,7 @@ static void execute(uint8_t operation, const uint8_t *body, size_t length, uint6
     run(COMMIT);
 }
 
-// Serves a request, and leaves its reply in `answer`; the body becomes the session's. False where
+// Serves a request, and leaves its reply in `answer`; the body becomes the session's. False if
 // there is no time for it.
 static bool serve(uint64_t moment, const Header *h, uint8_t *body) {
     Session *s = find_session(h->client);

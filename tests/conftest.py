@@ -14,8 +14,8 @@ for folder in ("tools", "clients/python/src", "apps/host/src"):
 
 
 def found(name):
-    """A program's path: by the variable of its name (TBS), else from PATH, else as `rt ci` leaves
-    it in this clone."""
+    """A program's path: by the variable of its name (TBS), otherwise from PATH, otherwise as `rt
+    ci` leaves it in this clone."""
     chosen = os.environ.get(name.upper()) or shutil.which(name)
     built = ROOT / "crates" / name / "out" / name
     path = pathlib.Path(chosen) if chosen else built

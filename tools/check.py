@@ -45,7 +45,7 @@ def number(pattern: str, text: str) -> int:
 
 
 def closing_line(text: str) -> Counts:
-    """Of 'N passed, M failed', alone on a line or with more after it."""
+    """The counts of 'N passed, M failed', on a line of its own or with more after it."""
     return number(r"(\d+) passed, \d+ failed", text), number(r"\d+ passed, (\d+) failed", text)
 
 
@@ -71,7 +71,7 @@ def node_counts(text: str) -> Counts:
 
 
 def by_status(_: str) -> Counts:
-    """Of a command whose exit status alone says whether it passed."""
+    """The result of a command; only its exit status says whether it passed."""
     return 1, 0
 
 

@@ -56,7 +56,7 @@ def converted(data: bytes, cuts: bool) -> tuple[bytes, int]:
 
 
 def write(path: str, data: bytes) -> None:
-    """Writes a new file that outlives a power loss, or leaves none."""
+    """Writes a new file that outlives a power loss, or leaves no file."""
     file = os.open(path, os.O_WRONLY | os.O_CREAT | os.O_EXCL, 0o600)
     try:
         with os.fdopen(file, "wb") as out:

@@ -65,7 +65,7 @@ def text_of(home, file):
 
 
 def misfit(crate, path):
-    """Why an edit cannot be applied, or what it does not say; None where it can."""
+    """Why an edit cannot be applied, or what it does not say; None if it can."""
     missing = [f"no line '# {it}:'" for it in HEADS[:2] if it not in said_of(path)]
     if missing:
         return "it has " + " and ".join(missing)
@@ -89,7 +89,7 @@ def function_of(home, path):
 
 
 def edited_at(path):
-    """What an edit says of where it is refused: the function, and the clauses."""
+    """The place at which an edit says that it is refused: the function, and the clauses."""
     return said_of(path)["refused at"].split(", ")
 
 
@@ -127,8 +127,8 @@ def is_within(home, path, function):
 
 
 def batches(home, edits):
-    """The edits that one check can try, each with its function: of each batch all within functions
-    of their own, or one alone that changes more."""
+    """The edits that one check can try, each with its function: a batch has edits that are all
+    within functions of their own, or a single one that changes more."""
     alone, together = [], []
     for name, path in edits.items():
         function = function_of(home, path)
@@ -145,14 +145,14 @@ def batches(home, edits):
 
 
 def how_refused(function, said):
-    """How a check refuses a function, by what it prints; where it does not, what it says."""
+    """How a check refuses a function, by what it prints; if it does not, what it says."""
     end = re.search(rf"^fn {re.escape(function)}: (.*)", said, re.M)
     if end is None:
         errors = [line for line in said.splitlines() if "error" in line]
         return f"BAD EDIT: {(errors or said.splitlines() or ['nothing is printed'])[-1]}"
     if end[1].startswith("proved"):
         return f"NOT REFUSED: {function} is proved"
-    # goals of a function are printed behind the last line of the one before
+    # goals of a function are printed after the last line of the one before
     goals = re.split(r"^fn .*\n", said[: end.start()], flags=re.M)[-1]
     if "it is not proved that" in goals:
         return "refused at a printed goal"
@@ -191,8 +191,8 @@ def write(home, texts):
 
 
 def refusals(home, batch, edits):
-    """How the functions of a batch are refused. An edit that is not, as where another one of its
-    batch does not compile, is tried alone."""
+    """How the functions of a batch are refused. An edit that is not refused, for example because
+    another one of its batch does not compile, is tried by itself."""
     try:
         texts = changed(home, *(edits[name] for name in batch))
     except Misfit as why:
@@ -208,7 +208,7 @@ def refusals(home, batch, edits):
 
 def checked(crate, edits, told):
     """Checks the functions that a crate's edits name, under these edits, in a copy with what is
-    kept of earlier checks, and tells what came of each edit."""
+    kept of earlier checks, and prints what came of each edit."""
     with tempfile.TemporaryDirectory(prefix="edits-") as room:
         repository.copied(room)
         repository.kept(room, [*repository.below([crate]), crate])

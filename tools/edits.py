@@ -75,8 +75,8 @@ def table(edits):
 
 
 def copy_into(room, crates):
-    """Copies what git knows of, and what is kept in out/, and puts all edits of the crates where
-    `rt must-fail` looks."""
+    """Copies what git knows of, and what is kept in out/, and puts all edits of the crates into the
+    folder in which `rt must-fail` looks."""
     repository.copied(room)
     repository.kept(room)
     for crate, edits in crates.items():
@@ -101,7 +101,7 @@ def all_edits(chosen=()):
 
 
 def try_crate(room, crate, edits, told):
-    """Runs `rt must-fail` for a crate, and tells what it says of each edit."""
+    """Runs `rt must-fail` for a crate, and prints what it says of each edit."""
     lines = edited.said_by_rt(room, "must-fail", crate)
     said = dict(re.findall(rf"must-fail {crate}/([^ :]+): (.*)", lines))
     for name in edits:
@@ -126,19 +126,19 @@ def try_as_ci(edits, lanes, told):
 
 
 def try_only(edits, lanes, told):
-    """Checks of each edit the function alone that it names; a copy for each crate."""
+    """Checks only the function that each edit names; a copy for each crate."""
     each = [lanes.submit(edited.checked, it, edits[it], told) for it in longest_first(edits)]
     for run in as_completed(each):
         run.result()
 
 
 def longest_first(edits):
-    """The crates, those with the most edits first, so that none of them is left for the end."""
+    """The crates, those with the most edits first, so that no large one is left for the end."""
     return sorted(edits, key=lambda it: -len(edits[it]))
 
 
 def try_all(edits, jobs, way):
-    """Tries edits in one of the two ways, tells each that was refused or not, and counts them."""
+    """Tries edits in one of the two ways, prints each that was refused or not, and counts them."""
     lock = threading.Lock()
 
     def told(crate, name, said):

@@ -67,7 +67,7 @@ def too_long(text: str) -> list[int]:
 
 
 def differs(language: str, path: str, write: bool) -> bool:
-    """Whether a file has another layout, which is said, or else is written."""
+    """Whether a file has another layout, which is reported, or otherwise written."""
     text = (ROOT / path).read_text()
     wanted = FORMATS[language][1](path, text)
     if write and text != wanted:

@@ -1,7 +1,8 @@
 """Frames, records and dumps as tests and checks send them, by the layouts of tools/ledger.json.
 tests/programs/test_damaged_frames.py and bench/ have encoders of their own: independent witnesses.
 
-A record's field that is not given is 0, but for the ledger and the code of the examples.
+A record's field that is not given is 0, except the ledger and the code, which are those of the
+examples.
 """
 from tabled import table
 
@@ -77,12 +78,12 @@ def reply(client, session, number, operation, status, commit, body=b""):
 
 
 def length_of(data, at=0):
-    """How many bytes the frame has that begins there; of a dump's entry, behind its numbers."""
+    """How many bytes the frame has that begins there; of a dump's entry, after its numbers."""
     return HEADER + int.from_bytes(data[at + 32 : at + 36], "little")
 
 
 def split(data, before=0):
-    """The frames of a script or an output, or the entries of a dump, each with so many bytes in
+    """The frames of a script or an output, or the entries of a dump, each with a number of bytes in
     front of it."""
     at = 0
     while at < len(data):
@@ -102,7 +103,7 @@ def dump_head(profile, clients_max):
 
 
 def mark(profile=2):
-    """What a dump has where the ledger moves to another profile."""
+    """What a dump has at the place where the ledger moves to another profile."""
     return little(0) + little(profile)
 
 

@@ -43,7 +43,7 @@ SWITCH = "TB_MUTANT"
 ALL_TESTS = "tb_mutant_tests"
 NO_TEST = "no_test_has_this_name"
 NO_END = " (no end)"
-# A run with a bug may take so many seconds, and so many times as long as without one.
+# The seconds that a run with a bug may take, and how many times as long as without one.
 SECONDS, SLOWER = 60, 4
 SCRIPT_SECONDS = 1800
 BUILD_SECONDS = 3600
@@ -67,8 +67,8 @@ SCRIPTS = {
 }
 PYTEST = ["/usr/bin/python3", "-m", "pytest", "-q", "-x", "-s", "-p", "no:cacheprovider"]
 
-# Where the programs are slow: what a script waits for, in seconds (less than the minute that a bug
-# waits), how many times longer than else, and the megabytes of a file that it calls long.
+# If the programs are slow: what a script waits for, in seconds (less than the minute that a bug
+# waits), how many times longer than otherwise, and the megabytes of a file that it calls long.
 SLOW = {"KEEP_SECONDS": "50", "CHECK_LONGER": "10", "KEEP_STEP": "1"}
 
 # The programs' constant for these megabytes: its file, its text, and what is there instead. The
@@ -125,7 +125,7 @@ class Mutant:
         return text.replace("MUTANT", f"tb_mutant::is_on({self.number})")
 
     def planted(self, text):
-        """A file's text with this bug in it; None where an old text is not there once."""
+        """A file's text with this bug in it; None if an old text is not there once."""
         for old, new in self.pairs:
             old, new = "\n".join(old), "\n".join(new)
             if text.count(old) != 1:
@@ -135,7 +135,7 @@ class Mutant:
 
 
 def read_line(found, word, text):
-    """Takes in a line of a file of bugs; False where it is none."""
+    """Takes in a line of a file of bugs; False if it is not such a line."""
     if word == "file":
         found[-1].file = text
     elif word == "old":
@@ -175,7 +175,7 @@ def all_mutants():
 
 
 def wrong_text(mutant):
-    """Why a bug can't be planted, None where it can."""
+    """Why a bug can't be planted, None if it can."""
     if not mutant.file or not mutant.pairs or not os.path.isfile(f"{ROOT}/{mutant.file}"):
         return "no such file"
     with open(f"{ROOT}/{mutant.file}", encoding="utf-8") as file:
@@ -187,7 +187,7 @@ def wrong_text(mutant):
 
 
 def wrong_behind(mutant, texts):
-    """Why a bug can't be planted behind others, which are in these texts of files."""
+    """Why a bug can't be planted after others, which are in these texts of files."""
     if mutant.file not in texts:
         with open(f"{ROOT}/{mutant.file}", encoding="utf-8") as file:
             texts[mutant.file] = file.read()
@@ -371,7 +371,7 @@ def begin(words, number, cwd, output):
 
 
 def status_of(words, number, seconds):
-    """The status of a command with a bug on, None where its time ran out."""
+    """The status of a command with a bug on, None if its time ran out."""
     with tempfile.TemporaryDirectory(prefix="mutants-run-") as folder:
         began = begin(words, number, folder, subprocess.DEVNULL)
         try:
@@ -384,8 +384,8 @@ def status_of(words, number, seconds):
 
 
 def case_of(lines):
-    """The first case, or else the first test, that lines of pytest report as failed. None where
-    they end with a count of tests that passed, and none failed; else 'stops'."""
+    """The first case, or otherwise the first test, that lines of pytest report as failed. None if
+    they end with a count of tests that passed, and no test failed; otherwise 'stops'."""
     line = ""
     for line in lines:
         case = re.match(r"FAILED: ([^:\n]*)|FAILED \S+::(\S+)", line)
@@ -395,8 +395,8 @@ def case_of(lines):
 
 
 def failed_case(words, number, seconds):
-    """The first case that a script reports as failed, with a bug on: it is ended then. None where
-    it passes."""
+    """The first case that a script reports as failed, with a bug on: it is ended then. None if it
+    passes."""
     with tempfile.TemporaryDirectory(prefix="mutants-run-") as folder:
         began = begin(words, number, folder, subprocess.PIPE)
         timer = threading.Timer(seconds, end, [began])
@@ -453,13 +453,13 @@ class Catchers:
         ]
 
     def fails(self, number, name):
-        """Whether a test fails; 'no end' where it takes far longer than without a bug."""
+        """Whether a test fails; 'no end' if it takes far longer than without a bug."""
         limit = SECONDS + SLOWER * self.seconds.get(name, BUILD_SECONDS)
         status = status_of([self.tests, name], number, limit)
         return "no end" if status is None else status != 0
 
     def script_fails(self, number, name):
-        """What a script says of a bug: the first case that failed. None where it passes."""
+        """What a script says of a bug: the first case that failed. None if it passes."""
         words = [*PYTEST, f"{self.room}/tests/{name}", *SCRIPTS[name][0]]
         return failed_case(words, number, SCRIPT_SECONDS)
 
@@ -480,7 +480,7 @@ class Catchers:
         return None
 
     def catch(self, mutant):
-        """The first test, or else the first script, that fails with a bug on; or None."""
+        """The first test, or otherwise the first script, that fails with a bug on; or None."""
         names = self.scripts_of(mutant.crate)
         return self.test_that_fails(mutant) or self.script_that_fails(mutant, names)
 
@@ -508,7 +508,7 @@ class Catchers:
 
 
 def counts(caught):
-    """How many bugs a test catches, and how many a script alone."""
+    """How many bugs a test catches, and how many only a script."""
     by_script = sum(1 for by in caught.values() if by.startswith("tests/"))
     by_test = sum(1 for by in caught.values() if by) - by_script
     return f"caught by a test: {by_test}; by pytest alone: {by_script}"

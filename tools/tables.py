@@ -57,7 +57,7 @@ def in_parts(table):
 
 
 def whole(table, top):
-    """The files that are generated whole. Those of a client that is not there are left out."""
+    """The files that are generated whole. Those of a missing client are skipped."""
     yield f"{PYTHON}/layout.py", python.layout(table)
     yield f"{COMMAND}/words.json", python.words(table)
     if os.path.isdir(f"{top}/clients/go"):

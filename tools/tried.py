@@ -8,7 +8,7 @@ import sys
 
 
 def from_environment(name, usual, kind=float):
-    """A variable's number, above 0 and up to 500. Ends the script where it is none."""
+    """A variable's number, above 0 and up to 500. Ends the script if it is not one."""
     text = os.environ.get(name) or usual
     try:
         number = kind(text)
@@ -21,12 +21,12 @@ def from_environment(name, usual, kind=float):
 
 
 passed = failed = 0
-# How many times longer than else a program may take: one that is built unproved is slow.
+# How many times longer than usual a program may take: one that is built unproved is slow.
 LONGER = from_environment("CHECK_LONGER", "1")
 
 
 def case(name, holds, said="", quietly=False):
-    """Counts a case and prints it, with what is said of it; quietly only where it fails. Answers
+    """Counts a case and prints it, with what is said of it; quietly only if it fails. Returns
     whether it holds."""
     global passed, failed
     passed, failed = passed + bool(holds), failed + (not holds)
@@ -37,7 +37,7 @@ def case(name, holds, said="", quietly=False):
 
 
 def built(*programs, how="build it first, as the head of this file says"):
-    """Ends the script where a program is not there."""
+    """Ends the script if a program is missing."""
     for program in programs:
         if not os.access(program, os.X_OK):
             sys.exit(f"{program} is not there: {how}")
@@ -72,10 +72,10 @@ def is_read():
 
 
 def main(run):
-    """Ends the script with the status that `run` answers. What its user can mend is printed in a
+    """Ends the script with the status that `run` returns. What its user can mend is printed in a
     line and no traceback: a file or program that is not there or is of another kind, a full disk, a
-    command that failed, did not end or took no more input, an interrupt. Where nobody reads the
-    output the script ends without a word."""
+    command that failed, did not end or took no more input, an interrupt. If nobody reads the
+    output, the script ends without a word."""
     try:
         sys.exit(run())
     except KeyboardInterrupt:
@@ -95,7 +95,7 @@ def main(run):
 
 
 def status():
-    """Tells how many cases passed, and answers the exit status: 1 where none was tried."""
+    """Prints how many cases passed, and returns the exit status: 1 if no case was tried."""
     if not passed + failed:
         print("nothing was tried")
     print(f"{passed} passed, {failed} failed")

@@ -94,7 +94,7 @@ def go(tree: Path, dist: Path, epoch: int) -> None:
 
 
 def unpacked(wheel: Path, into: Path) -> None:
-    """A wheel's files for Debian's dist-packages, without what pip alone reads."""
+    """A wheel's files for Debian's dist-packages, without what only pip reads."""
     with zipfile.ZipFile(wheel) as packed:
         packed.extractall(into)
     for name in ("RECORD", "WHEEL"):

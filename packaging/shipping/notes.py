@@ -1,4 +1,4 @@
-"""Release notes: the version's part of CHANGELOG, with where each package is for."""
+"""Release notes: the version's part of CHANGELOG, with what each package is for."""
 
 import re
 from pathlib import Path

@@ -39,7 +39,7 @@ class Form:
     options: list[Option] = field(default_factory=list)
 
     def name(self) -> str:
-        """The form's first word, or nothing if the words are values alone."""
+        """The form's first word, or nothing if the words are only values."""
         first = self.words.split()[0] if self.words else ""
         return first if re.fullmatch(r"[a-z][a-z-]*", first) else ""
 
@@ -122,7 +122,7 @@ def of_books() -> tuple[list[Form], list[Option]]:
 
 
 def of_host(module: str, parts: list[str]) -> tuple[list[Form], list[Option]]:
-    """Of the listener and the replica: the part that serves has the program's own options."""
+    """The listener and the replica: the part that serves has the program's own options."""
     loaded = importlib.import_module(module)
     if not parts:
         served = caught(lambda: loaded.words([]))

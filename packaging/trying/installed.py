@@ -33,7 +33,7 @@ def free_port() -> int:
 
 
 def first_reply(root: Root, deb: str) -> str:
-    """Installs the proved programs alone, and serves the first script."""
+    """Installs only the proved programs, and serves the first script."""
     began = time.monotonic()
     root.apt("install", deb)
     root.shell(f"tbs run 2 < {DOC}/examples/first.script | cmp - {DOC}/examples/first.replies")
@@ -44,7 +44,7 @@ def first_reply(root: Root, deb: str) -> str:
 
 
 def record(root: Root) -> str:
-    """The installed programs are those of the record, and need libc alone."""
+    """The installed programs are those of the record, and need only libc."""
     made = json.loads(root.inside(f"{DOC}/BUILD.json").read_text())
     for name, wanted in made["sha256"].items():
         if not name.endswith(".a"):
@@ -231,5 +231,5 @@ def versions_and_help(root: Root, programs: dict[str, Program], version: str) ->
 
 
 def lintian(debs: list[Path]) -> None:
-    """No error and no warning, but for those that packaging/debian overrides with a reason."""
+    """No error and no warning, except those that packaging/debian overrides with a reason."""
     run(["lintian", "--fail-on", "error,warning", "--allow-root", *debs])

@@ -103,7 +103,7 @@ def renewed(root: Root, paths: dict[str, str], served: Listener) -> None:
 
 
 def changed(root: Root, paths: dict[str, str], served: Listener) -> None:
-    """Another authority: both, then the new one alone."""
+    """Another authority: both, then only the new one."""
     port, client, joiner = int(served.port), context(paths, "client"), context(paths, "joiner")
     for names in (("ca",), ("ca", "other_ca"), ("other_ca",)):
         authorities(root, paths, *names)

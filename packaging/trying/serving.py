@@ -75,7 +75,7 @@ class Listener:
             self.lines.append(line)
 
     def said(self, pattern: str, after: int = 0) -> re.Match[str]:
-        """Waits for a line, after so many others."""
+        """Waits for a line, after a number of others."""
 
         def found() -> re.Match[str] | None:
             return re.search(pattern, "".join(self.lines[after:]), re.M)
@@ -123,7 +123,7 @@ def page_lines(heading: str) -> list[str]:
 
 
 def file_made(root: Root) -> str:
-    """The page's lines make the ledger's file, for its user alone."""
+    """The page's lines make the ledger's file, only for its user."""
     for it in page_lines("Install and start"):
         root.shell(it)
     found = root.run("stat", "--format=%U %a", "/var/lib/telovamish", LEDGER).splitlines()

@@ -41,7 +41,7 @@ def prepared(root: Root, readme: str) -> str:
 
 
 def processor_minutes() -> float:
-    """Of all that ended so far below this process."""
+    """CPU minutes of all that ended so far below this process."""
     it = os.times()
     return (it.children_user + it.children_system) / 60
 

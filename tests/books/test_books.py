@@ -1,7 +1,7 @@
-"""apps/books over the built programs: what its tables have is what the proved server answers.
+"""apps/books over the built programs: what its tables have is what the proved server replies.
 
 Loads through `tbd run`, scripts of bench/make_script.py and three of our own, by both profiles. The
-tables have exactly the accounts and transfers that lookup_accounts and lookup_transfers answer,
+tables have exactly the accounts and transfers that lookup_accounts and lookup_transfers return,
 field by field, and each pending transfer has the state that a void of it meets. Loads are killed
 and go on; a file is followed while a server adds to it; a server's accounts are compared while
 money moves.
@@ -170,7 +170,7 @@ def replies_of(data):
 
 
 def ids_of(script, operation):
-    """The ids of all events of an operation, 0 and the greatest left out."""
+    """The ids of all events of an operation, except 0 and the greatest."""
     found = set()
     for _, frame in frames.pairs(script):
         if frame[28] == operation:
@@ -229,7 +229,7 @@ def rows(path, table):
 
 
 def differing(records, kept):
-    """The first record that is another one than its row; nothing where all are the same."""
+    """The first record that differs from its row; nothing if all are the same."""
     if {it.id for it in records} != set(kept):
         return f"{len(records)} answered, {len(kept)} rows"
     for record in records:

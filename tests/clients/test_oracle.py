@@ -164,7 +164,7 @@ def test_a_failed_read(oracle, tmp_path):
 
 @pytest.mark.parametrize("kind", ["growth", "read", "write"])
 def test_each_call_refused_in_turn(oracle, kind, tmp_path):
-    """The fault is named, what is written are whole answers, and all memory is given back."""
+    """The fault is named, only whole answers are written, and all memory is given back."""
     begun = [b"".join(answer(*it[3:]) for it in STEPS[:count]) for count in range(len(STEPS) + 1)]
     fault, runs = "NoMemory" if kind == "growth" else "Device", 0
     for _, ran_so in Refuser(tmp_path, 1).in_turn(oracle, [], INPUT, kind=kind):

@@ -25,7 +25,7 @@ def is_gone(cluster, place):
 
 
 def is_kept(cluster, folder):
-    """Whether what the log has behind where it was trimmed is what a copy has there."""
+    """Whether what the log has after the place where it was trimmed is what a copy has there."""
     script = script_of_copy(folder)
     position, found = _read(cluster, None, 5)
     kept = script[position : position + 5]
@@ -33,7 +33,7 @@ def is_kept(cluster, folder):
 
 
 def _read(cluster, place, count):
-    """Reads so many entries from a place on, None for where the log was trimmed. Answers the
+    """Reads a number of entries from a place on; None for those that were trimmed. Returns the
     position before them, and their pairs."""
 
     async def reads():
@@ -61,7 +61,7 @@ def script_of_copy(folder):
 
 
 def replies_to(script, cluster):
-    """What a fresh server answers to the script."""
+    """What a fresh server replies to the script."""
     words = [cluster.program("tb_script"), "run", str(cluster.clients_max)]
     return subprocess.run(words, input=b"".join(script), capture_output=True, check=True).stdout
 

@@ -1,4 +1,4 @@
-"""An etcd that speaks TLS alone, and knows its users by passwords."""
+"""An etcd that speaks only TLS, and knows its users by passwords."""
 import ssl
 import subprocess
 
@@ -31,7 +31,7 @@ def certificates(folder):
 
 
 class Closed(Cluster):
-    """A cluster whose etcd wants certificates and passwords."""
+    """A cluster whose etcd requires certificates and passwords."""
 
     def __init__(self, folder, **options):
         certificates(folder)

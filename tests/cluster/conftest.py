@@ -37,7 +37,7 @@ def cluster_of(program):
 
 @pytest.fixture
 def show(capsys):
-    """Prints a figure, also where the output of tests is captured."""
+    """Prints a figure, also if the output of tests is captured."""
 
     def say(text):
         with capsys.disabled():

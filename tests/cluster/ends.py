@@ -1,4 +1,4 @@
-"""What holds at the end of a test: totals, streams of replies, and what a fresh server answers."""
+"""What holds at the end of a test: totals, streams of replies, and what a fresh server replies."""
 
 import statistics
 
@@ -48,8 +48,8 @@ def moved(cluster, traffic):
 
 
 def agreed_in_files(cluster, traffic):
-    """The same where the servers keep their ledgers in files: their hashes are those of the agreed
-    script, and of what a fresh server answers."""
+    """The same if the servers keep their ledgers in files: their hashes are those of the agreed
+    script, and of what a fresh server replies."""
     moved(cluster, traffic)
     kept.settled(cluster)
     ended = [it.end() for it in cluster.replicas]

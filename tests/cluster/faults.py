@@ -49,7 +49,7 @@ class Faults:
         self.all_of([self.kinds[it % len(self.kinds)] for it in range(count)], between)
 
     def all_of(self, kinds, between):
-        """Faults of these kinds in any order, with so many seconds between them on average."""
+        """Faults of these kinds in any order, with an average number of seconds between them."""
         self.random.shuffle(kinds)
         for kind in kinds:
             self.one(kind)
@@ -163,7 +163,7 @@ class Faults:
         self.expect(not ended, f"{' '.join(ended)} ended: {said}")
 
     def ends(self, at, status, said):
-        """A replica ends with a status, alone."""
+        """Only this replica ends, with a status."""
         it = self.cluster.replicas[at]
         until(lambda: not it.runs(), 90, f"{it.name} ends")
         found = it.process.poll()

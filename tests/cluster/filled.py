@@ -12,7 +12,7 @@ from .traffic import PAYEE, PAYER, Operation, Session, Socket, Transfer, tb
 
 
 def requests(session, count):
-    """So many requests of a session that has made none: each a transfer of 1."""
+    """The first requests of a new session: each a transfer of 1."""
     body = bytearray(Transfer(1, PAYER, PAYEE, 1, ledger=700, code=10).to_bytes())
     first = tb.id()
     for number in range(1, count + 1):
@@ -34,7 +34,7 @@ def entries(frames):
 
 
 def fill(cluster, count):
-    """Puts so many requests into the log. Returns how many entries they are."""
+    """Puts a number of requests into the log. Returns how many entries they are."""
     with Session.register(Socket([("127.0.0.1", it) for it in cluster.tcp], 30)) as session:
         return asyncio.run(_append(cluster, entries(requests(session, count))))
 

@@ -20,14 +20,13 @@ HOST = f"{TOP}/apps/host"
 ENVIRONMENT = {**os.environ, "PYTHONPATH": f"{HOST}/src:{CLIENT}"}
 PYTHON = "/usr/bin/python3"  # Debian's, which sees its packages
 QUOTA = 8 << 30  # bytes that etcd takes at most, as docs/use/CLUSTER.md sets it
-# The server with its replies in a file: those of its last start. A status above 128 is that
-# of a signal. Where rates count and no reply is compared, the server runs as it is.
+# The server with its replies in a file: those of its last start. A status above 128 is that of a
+# signal. If rates count and no reply is compared, the server runs as it is.
 KEEPING = 'set -o pipefail; program=$1 out=$2; shift 2; "$program" "$@" | tee "$out"'
 
 
 def slowed(words, seconds):
-    """A command each of whose syncs takes so many seconds more: strace holds them, and no other
-    call."""
+    """A command each of whose syncs takes some seconds more: strace delays only syncs."""
     if not seconds:
         return words
     held = f"inject=fsync,fdatasync:delay_exit={round(1_000_000 * seconds)}"
@@ -236,7 +235,7 @@ class Machines:
 
 class Cluster(Machines):
     """Three nodes of etcd and three replicas, with a link between each replica and each node, and
-    one to each node for the others; or without links, where nothing is cut and rates count."""
+    one to each node for the others; or without links, if nothing is cut and rates count."""
 
     def __init__(
         self,
@@ -326,7 +325,7 @@ class Cluster(Machines):
         self.links.end()
 
     def leader(self):
-        """Which node is the leader. None where there is none."""
+        """Which node is the leader. None if there is no leader."""
         import etcd3.etcdrpc as rpc
         import grpc
 
@@ -339,7 +338,7 @@ class Cluster(Machines):
         return None
 
     def is_up(self, at):
-        """Whether a node answers, and has a leader."""
+        """Whether a node replies, and has a leader."""
         import etcd3.etcdrpc as rpc
         import grpc
 
@@ -459,7 +458,7 @@ class Postgres(Machines):
 
 
 def postgres_folder():
-    """Where the newest PostgreSQL's programs are. None where there is none."""
+    """The folder of the newest PostgreSQL's programs. None if there is no PostgreSQL."""
     found = sorted(glob.glob("/usr/lib/postgresql/*/bin"), key=lambda it: float(it.split("/")[4]))
     return found[-1] if found else None
 
@@ -471,7 +470,7 @@ def is_open(port):
 
 
 def until(holds, seconds, said):
-    """Waits until something holds. Raises `TimeoutError` where that is not in time."""
+    """Waits until something holds. Raises `TimeoutError` if that is not in time."""
     end = time.monotonic() + seconds
     while not holds():
         if time.monotonic() > end:

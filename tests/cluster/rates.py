@@ -1,5 +1,5 @@
-"""How fast a cluster is, next to the listener over a ledger in a file and to the engine alone, on
-the same machine."""
+"""How fast a cluster is, compared with the listener over a ledger in a file and with only the
+engine, on the same machine."""
 
 import asyncio
 import contextlib
@@ -23,8 +23,8 @@ LOADS = (("24 clients with single transfers", 24, 1), ("1 client with batches of
 
 @contextlib.contextmanager
 def listener(program, sync=0.0, options=()):
-    """The port of a listener over tbd, of which each sync takes so many seconds more, or over a
-    server that keeps its ledger in memory."""
+    """The port of a listener over tbd, each sync of which takes some seconds more, or over a server
+    that keeps its ledger in memory."""
     with tempfile.TemporaryDirectory(prefix="listener-") as folder:
         (port,) = free_ports(1)
         words = [PYTHON, "-B", f"{HOST}/tb-listen", "--tcp", f"127.0.0.1:{port}", *options, "--"]
@@ -90,7 +90,7 @@ def sync_alone(folder, count=500):
 
 
 def compared(cluster, seconds, turns, tbd):
-    """Lines of the rates of a replica, of the listener and of the engine alone, taken in turns, and
+    """Lines of the rates of a replica, of the listener and of only the engine, taken in turns, and
     the ratios of the first to the others."""
     for name, clients, batch in LOADS:
         with listener(tbd, cluster.sync) as port:

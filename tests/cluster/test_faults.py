@@ -1,8 +1,8 @@
 """Faults of machines, processes, links, disks and clocks under clients that move money: nothing
-that was acknowledged is lost or executed twice, and all replicas answer the same.
+that was acknowledged is lost or executed twice, and all replicas reply the same.
 
-`--faults N` has so many faults (13), of which each seventh is of a disk or a clock; `--kinds` has
-those kinds alone, and `--seed` another order.
+`--faults N` is the number of faults (13), each seventh of which is of a disk or a clock; `--kinds`
+has only those kinds, and `--seed` another order.
 """
 
 import pytest
@@ -14,7 +14,7 @@ from .traffic import Traffic
 
 pytestmark = [pytest.mark.slow, pytest.mark.needs_etcd]
 CLIENTS = 24
-RARE = 20, 3  # of so many faults, so many are of disks and clocks
+RARE = 20, 3  # how many of a number of faults are of disks and clocks
 # the faults that show a wrong replica soonest
 SHARP = ("replica killed", "links of a replica cut", "all nodes killed")
 
@@ -85,7 +85,7 @@ def test_faults_over_files(cluster_of, given, show):
 
 
 def test_evictions(cluster_of, given, show):
-    """80 clients where 64 may have a session."""
+    """80 clients, of which 64 may have a session."""
     cluster = cluster_of(clients_max=64)
     traffic = moving(cluster, 80, 0.3)
     faults = Faults(cluster, given.seed)
@@ -99,7 +99,7 @@ def test_evictions(cluster_of, given, show):
     "wrong", ["executes_early", "replies_early", "skips_at_restart", "takes_twice_at_restart"]
 )
 def test_wrong_replica_is_found(cluster_of, given, show, wrong):
-    """The checks of `test_faults` fail where a replica is wrong."""
+    """The checks of `test_faults` fail if a replica is wrong."""
     cluster = cluster_of(wrong=wrong)
     with pytest.raises((AssertionError, TimeoutError)) as found:
         # a short pause, so that a replica that is killed has requests that wait for the log

@@ -1,7 +1,7 @@
 """A log that grows, and machines that come and go: each recipe of docs/use/CLUSTER.md, Care, tried
 under load, with its times.
 
-`--requests N` puts so many into the log before a replica starts over them (100,000).
+`--requests N` is how many are put into the log before a replica starts over them (100,000).
 """
 
 import os
@@ -46,7 +46,7 @@ def moving(cluster, clients=6, wanted=50):
 
 
 def test_start_over_many_requests(cluster_of, given, show):
-    """A replica without a copy reads all, and one with a copy too: its server answers all."""
+    """A replica without a copy reads all, and one with a copy too: its server replies to all."""
     cluster = cluster_of(is_linked=False, keeps_replies=False)
     Traffic(cluster.tcp, 1).open_accounts()
     cluster.replicas[0].end()
@@ -154,7 +154,7 @@ def test_replaced_machine(cluster_of, show):
 
 
 def test_upgrade_one_at_a_time(cluster_of, show):
-    """Replicas of a version that knows entries of format 1 alone are replaced one after another."""
+    """Replicas of a version that knows only entries of format 1 are replaced one after another."""
     cluster = cluster_of(wrong="old_format")
     traffic = moving(cluster)
     old = [it.words for it in cluster.replicas]

@@ -82,7 +82,7 @@ def test_copies_torn_and_damaged(cluster_of):
 
 @pytest.mark.needs_etcd
 def test_engine_restored_from_a_backup(cluster_of):
-    """The log lacks what was acknowledged since. A new one is made of the longest copy."""
+    """The log lacks what was acknowledged since then. A new one is made of the longest copy."""
     cluster = cluster_of()
     traffic = moving(cluster, pause=0.02, spread=True)
     until(lambda: traffic.made > 200, 60, "transfers")
@@ -140,7 +140,7 @@ def test_full(cluster_of):
 
 @pytest.mark.needs_etcd
 def test_tls_and_passwords(cluster_of, given):
-    """etcd and the replicas speak TLS and want certificates; etcd wants a password too."""
+    """etcd and the replicas speak TLS and require certificates; etcd requires a password too."""
     cluster = cluster_of(kind=Closed)
     traffic = moving(cluster, pause=0.05, spread=True, tls=cluster.context())
     faults = Faults(cluster, given.seed)
@@ -186,8 +186,8 @@ def test_postgresql(cluster_of, given):
 
 
 def rows_without_a_standby(cluster, traffic):
-    """A wait for the standby is cancelled: the primary then shows rows that it alone has. They are
-    not to be answered before the standby has them."""
+    """A wait for the standby is cancelled: the primary then shows rows that only it has. They must
+    not be returned before the standby has them."""
     standby = cluster.nodes[1]
     until(cluster.is_streaming, 60, "the standby streams")
     standby.send(signal.SIGSTOP)
@@ -206,7 +206,7 @@ def rows_without_a_standby(cluster, traffic):
 
 @pytest.mark.needs_etcd
 def test_ledgers_in_files(cluster_of):
-    """Starts, trims and files that are refused, where servers keep their ledgers in files."""
+    """Starts, trims and files that are refused, if servers keep their ledgers in files."""
     cluster = cluster_of(server="tbd")
     Traffic(cluster.tcp, 1).open_accounts()
     moved_while(cluster, cluster.tcp, a_replica_comes_late)

@@ -1,6 +1,6 @@
-"""How fast a cluster is, next to the listener over a ledger in a file and to the engine alone, on
-the same machine. A machine that does something else meanwhile has other rates: compare the ratios.
-`--sync MS` has each sync of the engine and of tbd take longer."""
+"""How fast a cluster is, compared with the listener over a ledger in a file and with only the
+engine, on the same machine. A machine that does something else meanwhile has other rates: compare
+the ratios. `--sync MS` has each sync of the engine and of tbd take longer."""
 
 import pytest
 

@@ -79,7 +79,7 @@ def test_rot_in_etcd(cluster_of, show):
 
 
 def rotten_keys(cluster):
-    """A node has an entry by a key that is none of an entry's."""
+    """A node has an entry by a key that is not that of an entry."""
     entry = cluster.script()[40]
     cluster.nodes[0].kill()
     assert rot.change_key(rot.files_of_etcd(cluster, 0), entry, 1)
@@ -90,7 +90,7 @@ def rotten_keys(cluster):
 
 
 def rotten_copy(cluster):
-    """A replica whose own copy has another bit ends alone, and goes on with a peer's."""
+    """Only the replica whose own copy has another bit ends, and it goes on with a peer's copy."""
     it = cluster.replicas[1]
     it.end()
     rot.flip(f"{cluster.copy(1)}/log", 5000)

@@ -48,7 +48,7 @@ def test_start_over_slow_connections(cluster_of):
 
 def test_outage(cluster_of):
     """All replicas were down. The first one that starts has a clock an hour ahead: it waits until
-    another one answers, and then ends."""
+    another one replies, and then ends."""
     cluster = cluster_of()
     Traffic(cluster.tcp, 1).open_accounts()
     ended = [it.end() for it in cluster.replicas]
@@ -75,7 +75,7 @@ def test_outage(cluster_of):
 
 
 def test_way_back_of_a_log_that_is_ahead(cluster_of, show):
-    """A replica served alone by a clock an hour ahead. docs/use/CLUSTER.md, Clocks, has the way
+    """Only one replica served, by a clock an hour ahead. docs/use/CLUSTER.md, Clocks, has the way
     back, which is tried as printed."""
     cluster = cluster_of()
     traffic = Traffic(cluster.tcp, 4, pause=0.05)

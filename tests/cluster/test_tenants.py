@@ -1,6 +1,6 @@
-"""Greedy tenants of one listener: three honest ones keep their sessions, and most of their rate
-alone, next to one greedy tenant of each kind. Each tenant has an address of its own, and its share
-of what the server does."""
+"""Greedy tenants of one listener: three honest ones keep their sessions, and most of the rate that
+they have without others, next to one greedy tenant of each kind. Each tenant has an address of its
+own, and its share of what the server does."""
 
 import contextlib
 import os
@@ -19,7 +19,7 @@ pytestmark = pytest.mark.slow
 HONEST = [f"honest:127.0.0.{it}" for it in (2, 3, 4)]
 GREEDY = [f"{kind}:127.0.1.{at}" for at, kind in enumerate(KINDS, 1)]
 SECONDS = 4
-KEPT = 0.6  # of the rate alone
+KEPT = 0.6  # of the rate without others
 PLACES = 64
 
 
@@ -60,7 +60,7 @@ def rate(port, greedy=()):
 
 
 def shares(capacity, count):
-    """The options by which so many tenants share a listener."""
+    """The options by which this many tenants share a listener."""
     return [
         *("--requests-per-second", str(max(int(capacity / count), 16))),
         *("--sessions-per-range", str(PLACES // count)),

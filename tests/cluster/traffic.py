@@ -14,7 +14,7 @@ OK, EXISTS = 0, tb.CreateTransferResult.exists
 
 class Client(threading.Thread):
     """A client: it registers, and makes transfers of 1 one after another, each until it has the
-    reply. Where its session was evicted it registers again, and makes the same transfer again."""
+    reply. If its session was evicted, it registers again, and makes the same transfer again."""
 
     def __init__(self, addresses, stop, pause=0.0, batch=1, tls=None):
         super().__init__(daemon=True)
@@ -59,7 +59,7 @@ class Client(threading.Thread):
                 time.sleep(0.02)
 
     def _step(self, session):
-        more = [random.getrandbits(128) for _ in range(self.batch)]  # else entries deflate well
+        more = [random.getrandbits(128) for _ in range(self.batch)]  # otherwise entries deflate
         transfers = [
             Transfer(tb.id(), PAYER, PAYEE, 1, user_data_128=it, ledger=700, code=10) for it in more
         ]
@@ -163,7 +163,7 @@ class Traffic:
 
 
 def posted_at(*ports, seconds=60, tls=None):
-    """What the ledger has posted, as the first of these ports that answers says."""
+    """What the ledger has posted, as the first of these ports that replies says."""
     transport = Socket([("127.0.0.1", it) for it in ports], seconds, tls)
     with Session.register(transport) as session:
         return session.lookup_accounts([PAYEE])[0].credits_posted

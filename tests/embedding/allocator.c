@@ -12,7 +12,8 @@ typedef struct rattle_tried {
 static _Alignas(16) uint8_t heap[1 << 24];
 static size_t used;
 
-/* Memory of so many bytes, and with ok 0 none. The pointer is never null; the alignment divides 16.
+/* Memory of this many bytes, and with ok 0 no memory. The pointer is never null; the alignment
+ * divides 16.
  */
 rattle_tried rattle_alloc(size_t size, size_t alignment) {
     size_t taken = size / 16 * 16 + 16;
@@ -22,7 +23,7 @@ rattle_tried rattle_alloc(size_t size, size_t alignment) {
     return tried;
 }
 
-/* A block of so many bytes, whose first kept bytes are those of the one at `at`. */
+/* A block of this many bytes, whose first kept bytes are those of the one at `at`. */
 rattle_tried rattle_realloc(void *at, size_t kept, size_t size, size_t alignment) {
     rattle_tried tried = rattle_alloc(size, alignment);
     if (tried.ok) memcpy(tried.at, at, kept);

@@ -1,7 +1,7 @@
 /* Serves a script with trouble at each step, and compares its replies with those of a file: careful
  * MODE SCRIPT REPLIES.
  *
- *     memory    the k-th allocation fails, for each k until none does; what was refused is sent
+ *     memory    the k-th allocation fails, for each k until all succeed; what was refused is sent
  *               again
  *     small     each reply is first asked for in a room that is too small by one byte, which then
  *               has its first bytes

@@ -1,4 +1,4 @@
-//! What the wrapper answers where a request is wrong, refused, or not served; and the longest reply.
+//! What the wrapper returns if a request is wrong, refused, or not served; and the longest reply.
 use tb_embed::*;
 
 fn account(id: u128) -> Account {

@@ -6,9 +6,9 @@
  *     requests  reads requests from standard input, as `read` does replies: the fault, or the
  *               operation, the client, the session, the number and the items of each; what is read
  *               is written again, and has the bytes that were read
- *     read      reads replies from standard input, each behind its length (u32), and prints the
+ *     read      reads replies from standard input, each after its length (u32), and prints the
  *               fault, the status, the commit and the items of each; the bytes are in memory of
- *               just that length, so that AddressSanitizer tells a read behind it
+ *               exactly that length: AddressSanitizer reports a read after it
  *
  * tests/embedding/test_embedded.py compares what it prints with frames.rs and with tb_client. It is
  * C11 and C++17. */
@@ -114,8 +114,8 @@ static int is_untouched(const uint8_t *bytes, size_t length) {
     return 1;
 }
 
-/* Whether a room of just so many bytes is refused and left as it is, or written as far as the frame
- * goes. */
+/* Whether a room of exactly this many bytes is refused and left as it is, or written as far as the
+ * frame goes. */
 static size_t written(
     int which, size_t room, tb_u128 client, uint32_t request, const void *items, size_t count) {
     uint8_t *bytes = bytes_of(room);
@@ -130,7 +130,7 @@ static size_t written(
 static void refused(void) {
     size_t records = (size_t)(TB_ITEMS_MAX + 1) * TB_RECORD_SIZE;
     uint8_t *items = bytes_of(records);
-    tb_u128 client = wide(0, 1); /* the high half alone is a client too */
+    tb_u128 client = wide(0, 1); /* only the high half is a client too */
     memset(items, 1, records);
     for (int which = 0; which < 5; which++) {
         size_t most = which == 0 ? 0 : TB_ITEMS_MAX, two = which == 0 ? 0 : 2;
@@ -163,7 +163,7 @@ static void refused(void) {
     printf("ok\n");
 }
 
-/* Prints each item, and requires that none is told behind the last one or of another kind. */
+/* Prints each item, and requires that no item is reported after the last one or of another kind. */
 static void print_items(const tb_reply *reply) {
     tb_event_result result;
     tb_account shown;
@@ -182,8 +182,8 @@ static void print_items(const tb_reply *reply) {
     REQUIRE(!tb_reply_transfer(reply, SIZE_MAX, &recorded));
 }
 
-/* Prints each item, and puts them where they can be written again; none is told behind the last one
- * or of another kind. */
+/* Prints each item, and puts them where they can be written again; no item is reported after the
+ * last one or of another kind. */
 static size_t take_items(const tb_request *request, uint8_t *items) {
     tb_account account;
     tb_transfer transfer;

@@ -71,7 +71,7 @@ fn write_all(client: u128, number: u32) {
     }
 }
 
-/// The bodies of the four operations that have items, with so many of them.
+/// The bodies of the four operations that have items, with this many of them.
 fn bodies(count: usize) -> [Body; 4] {
     [
         Body::CreateAccounts(vec![Account::default(); count]),
@@ -143,7 +143,8 @@ fn names() {
     );
 }
 
-/// Prints each item. Just one of the four kinds is there, and none of a refusal and of a register.
+/// Prints each item. Exactly one of the four kinds is there, and no item of a refusal and of a
+/// register.
 fn print_items(reply: &Reply) {
     let results = |index: u32, code: u32| println!("  result {index} {code}");
     let kinds = [
@@ -177,7 +178,7 @@ fn print_items(reply: &Reply) {
     );
 }
 
-/// The bytes that were given on standard input, each behind its length (u32).
+/// The bytes that were given on standard input, each after its length (u32).
 fn given() -> io::Result<Vec<Vec<u8>>> {
     let (mut all, mut each) = (Vec::new(), Vec::new());
     io::stdin().read_to_end(&mut all)?;

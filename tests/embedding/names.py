@@ -1,6 +1,6 @@
 """Compares the numbers, names and layouts of the definitions in specs/ with those of
 clients/embed/tb_embed.h, clients/embed/rust/tb_embed.rs, the client in Python and
-docs/use/FORMATS.md: each has just what the definitions have. Needs no library."""
+docs/use/FORMATS.md: each has exactly what the definitions have. Needs no library."""
 
 import os
 import re
@@ -238,7 +238,7 @@ def asserted(what, lines):
 
 
 def same(what, wanted, got):
-    """Whether two dicts are the same, and where they are not."""
+    """Whether two dicts are the same, and where they differ."""
     keys = [key for key in {**wanted, **got} if wanted.get(key) != got.get(key)]
     return (
         what,

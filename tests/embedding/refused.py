@@ -1,7 +1,7 @@
 """Programs over the wrapper in Rust that would break what its calls trust, and so must not compile:
 each with the error that rustc has for it. Those that are right do compile.
 
-tests/embedding/test_embedded.py runs them, since the wrapper is linked with the library.
+tests/embedding/test_embedded.py runs them, because the wrapper is linked with the library.
 """
 import os
 import subprocess

@@ -13,7 +13,7 @@ static int until = -1, was_refused;
 static long blocks;
 static _Alignas(16) uint8_t nothing[16];
 
-/* Refuses the allocation after so many others, or none if it is below 0. */
+/* Refuses the allocation after this many others, or no allocation if the number is below 0. */
 void refuse(int count) {
     until = count;
     was_refused = 0;

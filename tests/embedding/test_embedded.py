@@ -1,6 +1,6 @@
-"""The server built into programs in C, Rust and Python: what they answer is what the program's own
+"""The server built into programs in C, Rust and Python: what they return is what the program's own
 replies are. Needs cc and Linux, tb_embed's library (`rt lib` in crates/tb_embed) and `tbs`; c++ and
-rustc are left out where they are not there. KIT is the toolchain's folder (else `rt doc` prints
+rustc are skipped if they are missing. KIT is the toolchain's folder (otherwise `rt doc` prints
 it)."""
 
 import os
@@ -350,7 +350,7 @@ int main(void) {{
 
 
 def test_leaks(folder, built_programs):
-    """AddressSanitizer reports a server that was not closed, and nothing where it was closed."""
+    """AddressSanitizer reports a server that was not closed, and nothing if it was closed."""
     for what, close, status in (
         ("a server that is not closed leaks", "", 1),
         ("a closed one does not", "tb_embed_close(server);", 0),
@@ -404,7 +404,7 @@ def test_callers(folder, built_programs):
 
 
 def test_errors(folder, built_programs):
-    """What the wrapper in Rust answers where a request is wrong, refused, or not served."""
+    """What the wrapper in Rust returns if a request is wrong, refused, or not served."""
     if os.path.exists(f"{folder}/errors"):
         ran = run(f"{folder}/errors")
         case(
@@ -455,9 +455,9 @@ def test_client(built_programs, folder):
 
 
 def test_damaged_frames(built_programs, folder):
-    """The second frame of the first script with bytes changed at random: malformed where `tbs`
-    finds a fault in it, else the reply that `tbs` gives. A wrong length is always malformed: the
-    bytes are one frame, and no stream."""
+    """The second frame of the first script with bytes changed at random: malformed if `tbs` finds a
+    fault in it, otherwise the reply that `tbs` gives. A wrong length is always malformed: the bytes
+    are one frame, not a stream."""
     from tb_embed import Refused, Server
 
     script, chance, same, faults = read(f"{TOP}/examples/first.script"), random.Random(5), True, 0

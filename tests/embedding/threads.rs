@@ -1,5 +1,5 @@
-//! Servers in threads: threads SCRIPT REPLIES. Four threads serve the script by a server each, and every reply is the file's; then
-//! four share one server under a mutex, where each sends every request twice, and the money moves once.
+//! Servers in threads: threads SCRIPT REPLIES. Four threads serve the script by a server each, and every reply is the file's; then four share one
+//! server under a mutex, each sends every request twice, and the money moves once.
 use std::sync::Mutex;
 use std::{env, fs, thread};
 

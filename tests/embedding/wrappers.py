@@ -2,7 +2,7 @@
 the library: frames.c, as C and as C++, and frames.rs write the requests that the client in Python
 writes, refuse what a frame may not hold, and read requests and replies as the tests of
 docs/use/FORMATS.md say: right ones, each cut at each byte, each with changed bytes, and too long
-ones. The client in Python reads the same requests and replies, and takes just those that have no
+ones. The client in Python reads the same requests and replies, and takes exactly those that have no
 fault and nothing after them."""
 
 import os
@@ -233,7 +233,7 @@ def long_requests():
 
 
 def odd_requests():
-    """Each operation, and numbers that are none, with clients, sessions and numbers that may be
+    """Each operation, and numbers that are not one, with clients, sessions and numbers that may be
     0; and each reserved byte set."""
     for operation in (*range(0, 4), *range(127, 135), 255):
         for client in (0, 1, 1 << 64, 2**128 - 1):

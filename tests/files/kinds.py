@@ -1,5 +1,5 @@
 """Files of each kind before `tbd`: a small ledger by docs/use/TBD.md and FORMATS.md, the same torn
-or damaged, and files that are none. None of them was written by a program."""
+or damaged, and files that are not a ledger. No program wrote them."""
 
 import struct
 import subprocess
@@ -23,7 +23,7 @@ DUMP = EMPTY_DUMP + b"".join(ENTRIES)
 
 
 def block(record):
-    """A record behind its latch, its length and its checksum."""
+    """A record after its latch, its length and its checksum."""
     checked = len(record).to_bytes(3, "little") + record
     return OPENED + checked[:3] + crc32c(checked).to_bytes(4, "little") + record
 
@@ -42,7 +42,7 @@ def changed(data, at):
 HEAD = MAGIC + block(b"TBK1\1\2")
 BLOCKS = HEAD, *map(block, ENTRIES)
 LEDGER = b"".join(BLOCKS) + CLOSED
-# Where the head, the first entry and the second one end.
+# The ends of the head, the first entry and the second one.
 HEAD_END, FIRST_END, END = 25, 100, 191
 TOO_LONG = 4_194_305  # one byte more than a batch can have
 FILES = {
@@ -66,7 +66,7 @@ FILES = {
 
 
 def none(why):
-    """What a form answers over a file that does not begin as a journal."""
+    """What a form reports over a file that does not begin as a journal."""
     return 5, f"tbd: NotAJournal: ledger {why}\n"
 
 
@@ -83,7 +83,7 @@ def up_to(end):
 
 
 def made(folder, kind):
-    """Makes a file of a kind, or none, and returns its path."""
+    """Makes a file of a kind, or no file, and returns its path."""
     path = folder / "ledger"
     if FILES[kind] is not None:
         path.write_bytes(FILES[kind])

@@ -2,8 +2,8 @@
 
     python3 -m pytest tests/files/test_asides.py
 
-The same bytes have one copy, a torn copy is made again, and at most 16 are made. Where none can be
-made the start ends as NotCopied, and the file is as it was; --drop-torn goes on without one.
+The same bytes have one copy, a torn copy is made again, and at most 16 are made. If no copy can be
+made, the start ends as NotCopied, and the file is as it was; --drop-torn goes on without a copy.
 """
 
 import os
@@ -55,7 +55,7 @@ class Kept:
         )
 
     def is_whole(self, torn=TORN):
-        """The bytes have a copy, and the file has none of them."""
+        """The bytes have a copy, and the file no longer has them."""
         return self.copy(torn).read_bytes() == torn and self.path.read_bytes() == self.data
 
     def refuses(self, said, *options, **how):
@@ -79,7 +79,7 @@ def test_torn_bytes_are_copied(kept):
 
 
 def block(record):
-    """A block behind its latch."""
+    """A block after its latch."""
     length = len(record).to_bytes(3, "little")
     return length + struct.pack("<I", crc32c(length + record)) + record
 

@@ -1,4 +1,5 @@
-"""tools/convert_journal.py: a file of the former format becomes one of today's, or none is made."""
+"""tools/convert_journal.py: a file of the former format becomes one of today's, or no file is
+made."""
 
 import subprocess
 

@@ -3,13 +3,13 @@ disk that is full.
 
     /usr/bin/python3 -m pytest tests/files/test_crashes.py [--rounds N] [--images N] [--seed N]
 
-shim.c, which wants gcc, writes down each write, cut and sync of the file and each write of replies.
-From them the files are made that the disk may have at each moment: what was synced, and
-of what was written since then any bytes and any length. Each has to be a prefix of the history
-with all that was acknowledged until then, and each tenth is opened by the program. A disk that
-drops syncs and a program that answers first have to be caught. A small file system is filled where
-this user may mount one. The test fails where the program holds a reply back, or does not end, for
-two minutes (CHECK_LONGER times as long).
+shim.c, which needs gcc, writes down each write, cut and sync of the file and each write of replies.
+From them the files are made that the disk may have at each moment: what was synced, and any bytes
+and any length of what was written after that. Each has to be a prefix of the history with all that
+was acknowledged until then, and each tenth is opened by the program. A disk that drops syncs and a
+program that answers first have to be caught. A small file system is filled if this user may mount
+one. The test fails if the program holds a reply back, or does not end, for two minutes
+(CHECK_LONGER times as long).
 """
 
 import contextlib
@@ -71,7 +71,7 @@ def checksum(data):
 
 
 def records_of(data):
-    """The records of a file, or why it has none: docs/use/TBD.md says how it is read."""
+    """The records of a file, or why it has no records: docs/use/TBD.md says how it is read."""
     if not data.startswith(MAGIC):
         return "NotAJournal"
     at, records = len(MAGIC), []
@@ -92,7 +92,7 @@ def records_of(data):
 
 @contextlib.contextmanager
 def in_time(process):
-    """Ends the test where a program does not go on in time."""
+    """Ends the test if a program does not go on in time."""
     late = threading.Event()
     timer = threading.Timer(SECONDS, lambda: (late.set(), process.kill()))
     timer.start()
@@ -125,7 +125,7 @@ class Run:
         )
 
     def frame(self, client):
-        """The request that a client has no reply to: its register, or the one behind its last."""
+        """The request that a client has no reply to: its register, or the one after its last."""
         number = self.done.get(client, -1) + 1
         if (client, number) not in self.sent:
             if number == 0:
@@ -161,7 +161,7 @@ class Run:
 
     @staticmethod
     def replies(process, count):
-        """The next replies, so many or fewer where the program ends."""
+        """The next replies: the number that is asked for, or fewer if the program ends."""
         for _ in range(count):
             header = process.stdout.read(HEADER)
             body = (
@@ -183,7 +183,7 @@ class Run:
             self.done[it.client] = max(self.done.get(it.client, -1), it.number)
 
     def round(self, process, clients):
-        """A request of each of the clients. False where the program ended."""
+        """A request of each of the clients. False if the program ended."""
         replies = self.ask(process, [self.frame(client) for client in clients])
         for reply in replies:
             self.take(reply)
@@ -199,7 +199,7 @@ class Run:
 
 
 def ended(process):
-    """Ends the input of a program, and answers its status."""
+    """Ends the input of a program, and returns its status."""
     try:
         process.stdin.close()
     except BrokenPipeError:
@@ -310,7 +310,7 @@ class Images:
             self.open(image, len(records) - 1)
 
     def open(self, image, entries):
-        """The program reports so many entries, and serves on: each client's last request gets its
+        """The program reports this many entries, and serves on: each client's last request gets its
         first reply again, one in doubt is done."""
         self.opened += 1
         with open(self.path, "wb") as file:

@@ -7,7 +7,7 @@ form over them.
 Every byte of the magic, of latches, lengths and checksums, and a sample of the records, is set to
 0, to 255 and to one flipped bit; runs of 4, 16 and 512 bytes are set to zeros; the file is cut at
 each length. At no place is an entry absent after a start that ends with 0, no form disagrees with
-`run` or `follow`, and none shows anything but the history that was served, from its beginning on.
+`run` or `follow`, and each shows only the history that was served, from its beginning on.
 
 One that is cut within its magic may be left by a crash while a ledger is made: a start without
 --existing makes a new ledger in it.
@@ -35,7 +35,7 @@ LATCH, LENGTH, CHECKSUM = 4, 3, 4  # bytes of each in a block, before its record
 BATCHES, SEED, SECONDS = 20, 7, 60
 SHARES = 4  # of all damages: each is a test of its own
 FORMS = ("check", "dump", "backup")  # that only read FILE
-MARKED = 25  # bytes of a file by which these forms tell a log from a ledger
+MARKED = 25  # bytes of a file by which these forms distinguish a log from a ledger
 REFUSED = (5, 6)  # exit statuses: NotAJournal, Damaged
 KINDS = ("byte", "zeros", "cut")
 
@@ -162,7 +162,7 @@ class Made:
 
 @pytest.fixture(scope="module", name="made", params=["run", "follow"])
 def fixture_made(program, request):
-    """In memory, where that is possible: a start syncs the file."""
+    """In memory, if that is possible: a start syncs the file."""
     memory = "/dev/shm" if os.path.isdir("/dev/shm") else None
     tbd, form = str(program("tbd").resolve()), request.param
     with contextlib.ExitStack() as stack:
@@ -177,7 +177,7 @@ def fixture_made(program, request):
 
 
 def flipped(data, at, value):
-    """The data with one byte changed; None where that changes nothing."""
+    """The data with one byte changed; None if that changes nothing."""
     changed = bytearray(data)
     changed[at] = value
     return None if changed == data else bytes(changed)

@@ -1,10 +1,10 @@
-"""Each form of tbd with the descriptors 0, 1 and 2 closed, alone and together: no file is ever open
-on one of them, so what is meant for a stream never reaches a file.
+"""Each form of tbd with the descriptors 0, 1 and 2 closed, one at a time and together: no file is
+ever open on one of them, so what is meant for a stream never reaches a file.
 
     python3 -m pytest tests/files/test_descriptors.py
 
-A stream that is closed stays so: the program ends with status 1 where it reads or writes there, and
-with 0 where it does not. A line that standard error does not take changes no status.
+A stream that is closed stays so: the program ends with status 1 if it reads or writes there, and
+with 0 if it does not. A line that standard error does not take changes no status.
 """
 
 import itertools

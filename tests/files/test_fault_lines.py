@@ -38,7 +38,7 @@ FIRST_ENTRY_AT = (
     "tbd: Damaged: ledger: the block at byte 8 (entry 1) is not what was written; restore a backup:"
     " no entry is before it\n",
 )
-# A file, what is asked for over it, and what is answered.
+# A file, what is asked for over it, and what is reported.
 ROWS = [
     *((MAGIC[:5], words, BEGUN) for words in (RUN, FOLLOW, *READS)),
     *((MAGIC, words, BEGUN) for words in (RUN, FOLLOW, *READS)),
@@ -97,7 +97,7 @@ READ_ONLY = 'mount --bind "$1" "$1" && mount -o remount,bind,ro "$1" && shift &&
     ],
 )
 def test_a_disk_that_is_read_only(tbd, tmp_path, words, file):
-    """In a namespace of its own, where one can be made."""
+    """In a namespace of its own, if one can be made."""
     shelf = tmp_path / "shelf"
     shelf.mkdir()
     kinds.made(shelf, "a ledger")

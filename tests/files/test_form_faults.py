@@ -1,5 +1,5 @@
 """Each read, write and sync of a form of `tbd` fails in turn: the exit status and the line name it,
-and the ledger loses nothing. Calls fail by shim.c, which wants gcc.
+and the ledger loses nothing. Calls fail by shim.c, which needs gcc.
 
     python3 -m pytest -m quick tests/files/test_form_faults.py
 """
@@ -65,15 +65,15 @@ class Failing:
         self.env = {**os.environ, "LD_PRELOAD": shim, "KEEP_FILE": file}
 
     def ran(self, call, number, why):
-        """The form with this call failing; without one where the number is 0."""
+        """The form with this call failing; without a failure if the number is 0."""
         fault = f"{call} {number} {why}" if number else ""
         return kinds.ran(
             self.tbd, self.folder, self.words, SCRIPT, env={**self.env, "KEEP_FAULT": fault}
         )
 
     def turns(self, kind, call, why):
-        """What is answered where the first such call fails, then the second, up to the last; each
-        time over a new file of this kind."""
+        """What is reported if the first such call fails, then the second, up to the last; each time
+        over a new file of this kind."""
         for number in itertools.count(1):
             for it in self.folder.iterdir():
                 it.unlink()
@@ -85,7 +85,7 @@ class Failing:
 
 
 def is_told(told, fault, file, news=("",)):
-    """The exit status and the line are those of a fault, behind what a start reports."""
+    """The exit status and the line are those of a fault, after what a start reports."""
     status, line = fault
     return told[0] == status and told[2] in [it + line.format(file) for it in news]
 
@@ -155,8 +155,8 @@ def test_a_copy_whose_file_fails(tbd, shim, tmp_path, form, call, why, fault):
     assert count
 
 
-# What a new file has where a call on it fails: nothing, a journal's first bytes, a ledger without
-# entries, or with all of them; behind each what is not committed yet.
+# What a new file has if a call on it fails: nothing, a journal's first bytes, a ledger without
+# entries, or with all of them; after each what is not committed yet.
 STAGES = [b"", kinds.MAGIC + kinds.CLOSED, kinds.up_to(kinds.HEAD_END), kinds.LEDGER]
 
 

@@ -22,7 +22,7 @@ LOG_OPTIONS = "unknown option; those of follow are --existing and --drop-torn"
 NO_FILE = "FILE is a number; write ./FILE"
 MANY = "too many words"
 UNKNOWN = "unknown; --help shows the forms"
-# Words that are no form, and what is said behind those up to the wrong one.
+# Words that are no form, and what is said after those up to the wrong one.
 WRONG = [
     ("serve", UNKNOWN, 1),
     ("serve ledger", UNKNOWN, 1),
@@ -305,7 +305,7 @@ def test_one_program_serves_a_file(tbd, tmp_path, word):
 
 
 def on_terminal(tbd, folder, words, **how):
-    """What words say where one of their streams is a terminal at its end."""
+    """What words say if one of their streams is a terminal at its end."""
     ours, theirs = pty.openpty()
     try:
         os.write(ours, b"\x04")  # Ctrl-D
@@ -340,7 +340,7 @@ TYPED = (
 
 
 def test_requests_from_a_terminal(tbd, tmp_path):
-    """Where words are read is said once, by the form that reads requests."""
+    """The form that reads requests says once where words are read."""
     kinds.made(tmp_path, "a ledger")
     assert on_terminal(tbd, tmp_path, ["run", "ledger", "2"], stdin=True) == (0, b"", TYPED)
     assert on_terminal(tbd, tmp_path, ["check", "ledger"], stdin=True) == (0, summary("0"), "")
@@ -359,7 +359,7 @@ def test_a_start_is_reported_to_a_terminal(tbd, tmp_path, words, kind, said):
     assert on_terminal(tbd, tmp_path, words.split(), stderr=True) == (0, b"", said)
 
 
-# Forms whose output takes so many bytes, or none at all.
+# Forms whose output takes this many bytes, or no bytes at all.
 LOST = "tbd: Device: standard output\n"
 OUTPUTS = [
     ("run ledger 2", "no byte", 0, REPLIES, MADE + LOST),

@@ -150,7 +150,7 @@ def test_nothing_more_is_acknowledged(tbd, tmp_path, harm):
 
 @pytest.mark.parametrize("harm", [moved, removed])
 def test_what_was_acknowledged_is_in_the_file(tbd, tmp_path, harm):
-    """The file goes amid the rounds, and is looked at by a name that it has beside."""
+    """The file goes amid the rounds, and is looked at by another name that it has."""
     served = Served(tbd, tmp_path / "ledger")
     os.link(served.path, tmp_path / "beside") if served.opens() is None else None
     slow = threading.Timer(0.2, harm, [served.path])

@@ -2,10 +2,10 @@
 
     /usr/bin/python3 -m pytest tests/files/test_keep.py [--kills N] [--flips N] [--cuts N] [--seed N]
 
-A program that holds a reply back, or does not end, for 20 seconds (KEEP_SECONDS) fails the test with a line that names it.
-Clients retry as docs/use/CLIENTS.md says: each sends one request at a time, and the same bytes again until it has the reply. Calls of the
-program fail or lie by shim.c, which wants gcc. Two mutants are built too, unproved, by `rt try` in a copy, and run
-under strace: one that replies before it commits and one that does not sync have to be caught.
+A program that holds a reply back, or does not end, for 20 seconds (KEEP_SECONDS) fails the test with a line that names it. Clients retry as
+docs/use/CLIENTS.md says: each sends one request at a time, and the same bytes again until it has the reply. Calls of the program fail or lie by
+shim.c, which needs gcc. Two mutants are built too, unproved, by `rt try` in a copy, and run under strace: one that replies before it commits and one
+that does not sync have to be caught.
 """
 import atexit
 import contextlib
@@ -63,7 +63,7 @@ def stuck(process, name):
 
 
 def taken(process, count):
-    """So many bytes of a program's output, or fewer where it ends before."""
+    """The next bytes of a program's output, or fewer if it ends before."""
     data = b""
     while len(data) < count:
         if not select.select([process.stdout], [], [], SECONDS)[0]:
@@ -161,7 +161,7 @@ class Ledger:
         return struct.pack("<Q", self.moment) + frame
 
     def send(self, process, frames):
-        """Sends frames; a program that has ended takes none."""
+        """Sends frames; a program that has ended takes no frame."""
         try:
             process.stdin.write(b"".join(self.pair(frame) for frame in frames))
             process.stdin.flush()
@@ -178,7 +178,7 @@ class Ledger:
         return header + body if len(header + body) == reply_length(header) else None
 
     def round(self, process, clients, kill_after=None):
-        """Each of the clients sends, and takes its reply. False where the program ended."""
+        """Each of the clients sends, and takes its reply. False if the program ended."""
         timer = threading.Timer(kill_after, process.kill) if kill_after is not None else None
         self.send(process, [it.next_frame() for it in clients])
         if timer:
@@ -476,7 +476,7 @@ def test_orders(tbd, folder, shim):
         case(f"a control that must be caught: {fault}", early > 0, f"{early} of {told}")
 
 
-# Mutants: the program's own body, where nothing is to be caught, one that replies before it commits, and one that does not sync.
+# Mutants: the program's own body, in which nothing is to be caught, one that replies before it commits, and one that does not sync.
 BUILDS = (
     (
         "the program as it is",
@@ -601,7 +601,7 @@ def data(kept, folder):
 
 @pytest.fixture
 def latches(kept):
-    """Where its latches are."""
+    """The places of its latches."""
     return kept[1]
 
 
@@ -619,7 +619,7 @@ def look_at(tbd, path, data):
     return told
 
 
-# Words that are none of the program's forms, and what is reported of them.
+# Words that are not one of the program's forms, and what is reported for them.
 WORDS = [
     ("run ledger.tbk 65", "run ledger.tbk 65: CLIENTS_MAX is 1 to 64"),
     ("run ledger.tbk 65 1", "run ledger.tbk 65: CLIENTS_MAX is 1 to 64"),
@@ -761,8 +761,8 @@ def test_told_of_ends(tbd, folder):
 @pytest.mark.slow
 @pytest.mark.usefixtures("words_file")
 def test_failing_dumps(tbd, folder, shim):
-    """A read that fails, at each place in turn, ends a dump in Device; once none is left to fail, the dump is whole. Before them one
-    read looks whether the file is a ledger's or a log's: where it fails, the file is read as a ledger's.
+    """A read that fails, at each place in turn, ends a dump in Device; once no read is left to fail, the dump is whole. Before them one read looks
+    whether the file is a ledger's or a log's: if it fails, the file is read as a ledger's.
     """
     path, number = os.path.join(folder, "words.tbk"), 1
     whole = told_of(tbd, folder, ["dump", path])
@@ -844,7 +844,7 @@ def dumped(tbd, folder, path, **how):
 
 @pytest.mark.slow
 def test_looks(tbd, folder):
-    """Dumps and checks next to a server under load: none is refused, and each dump is a prefix of the next."""
+    """Dumps and checks next to a server under load: no form is refused, and each dump is a prefix of the next."""
     ledger = Ledger(tbd, folder, "live")
     ledger.open_accounts()
     dumps, told = [], []
@@ -1013,7 +1013,7 @@ def test_reported(tbd, folder):
 
 @pytest.mark.slow
 def test_long_starts(tbd, folder):
-    """A start over more than so many megabytes: its progress is reported where that is asked for, and else nothing."""
+    """A start over more than some megabytes: its progress is reported if that is asked for, and otherwise nothing."""
     wrong = Transfer(1, CASH, SALES, 1, ledger=700, code=10).to_bytes() * 8190
     frames = [
         request_frame(7, 1, number, Operation.create_transfers, wrong)
@@ -1063,7 +1063,7 @@ def terminal():
 
 @pytest.mark.slow
 def test_on_terminals(tbd, folder):
-    """What is reported where requests would be typed, and where lines are seen on a terminal."""
+    """What is reported if requests would be typed, and if lines are seen on a terminal."""
     master, slave = terminal()
     os.write(master, b"\x04")  # Ctrl-D
     ran = subprocess.run(
@@ -1099,7 +1099,7 @@ def test_on_terminals(tbd, folder):
 
 @pytest.mark.quick
 def test_told_at_once(tbd, folder):
-    """A line goes out in one write: it stays whole where several programs write to one file."""
+    """A line goes out in one write: it stays whole if several programs write to one file."""
     ours, theirs = socket.socketpair(socket.AF_UNIX, socket.SOCK_SEQPACKET)
     with ours:
         with theirs:
@@ -1118,11 +1118,11 @@ def test_told_at_once(tbd, folder):
     )
 
 
-# Dumps behind a commit, and dumps that go on
+# Dumps after a commit, and dumps that go on
 
 
 def entry_ends(dump):
-    """Where each entry of a dump ends, behind its head."""
+    """The end of each entry of a dump, after its head."""
     ends = [16]
     while ends[-1] < len(dump):
         at = ends[-1]
@@ -1131,7 +1131,7 @@ def entry_ends(dump):
 
 
 def more_of(process, count):
-    """At least so many more bytes of a program's output, or fewer where it ends before or is late."""
+    """At least this many more bytes of a program's output, or fewer if it ends before or is late."""
     data, until = b"", time.monotonic() + SECONDS
     while len(data) < count and time.monotonic() < until:
         if select.select([process.stdout], [], [], 0.1)[0]:
@@ -1205,7 +1205,7 @@ def test_follows(tbd, folder):
 
 
 def shorter_file(tbd, folder, ledger):
-    """A dump that goes on ends where its file gets shorter than what it wrote."""
+    """A dump that goes on ends if its file gets shorter than what it wrote."""
     path = shutil.copy(ledger.file, os.path.join(folder, "shorter.tbk"))
     follower = followers(tbd, folder, path, 0)[0]
     more_of(follower, 16)
@@ -1217,7 +1217,7 @@ def shorter_file(tbd, folder, ledger):
 
 
 def closed_pipe(tbd, folder, ledger):
-    """A dump that goes on ends where nobody reads it any more."""
+    """A dump that goes on ends if nobody reads it any more."""
     follower = followers(tbd, folder, ledger.file, 0)[0]
     follower.stdout.close()
     process = ledger.start()
@@ -1231,14 +1231,14 @@ def closed_pipe(tbd, folder, ledger):
 
 
 def copied(tbd, form, path, new, **how):
-    """What a form that makes a new file of a file says, and what the new file holds: None where there is none."""
+    """What a form that makes a new file of a file says, and what the new file holds: None if there is no new file."""
     told = told_of(tbd, os.path.dirname(path), [form, path, new], **how)
     return told, dumped(tbd, os.path.dirname(path), new) if os.path.exists(new) else None
 
 
 @pytest.mark.slow
 def test_salvages(tbd, folder, data, latches, rng):
-    """A file with a bit flipped at many places: what is before the damage is taken over, and all where it is in a length; what is lost is reported."""
+    """A file with a bit flipped at many places: what is before the damage is copied, and all if it is in a length; what is lost is reported."""
     count = 40
     whole, path = os.path.join(folder, "sound.tbk"), os.path.join(folder, "hurt.tbk")
     with open(whole, "wb") as file:
@@ -1275,7 +1275,7 @@ def test_salvages(tbd, folder, data, latches, rng):
 
 @pytest.mark.quick
 def test_sound_copies(tbd, folder, data):
-    """Copies of a whole file and of one with a torn end are equal to it, of the owner alone, and can be served."""
+    """Copies of a whole file and of one with a torn end are equal to it, only for the owner, and can be served."""
     whole = os.path.join(folder, "sound.tbk")
     dump = dumped(tbd, folder, whole)
     entries = len(entry_ends(dump)) - 1
@@ -1310,7 +1310,7 @@ def test_sound_copies(tbd, folder, data):
 @pytest.mark.quick
 @pytest.mark.usefixtures("words_file")
 def test_copies_of_no_ledger(tbd, folder):
-    """Of what is no ledger, and of names that cannot be, nothing is made."""
+    """Nothing is made of what is no ledger, or of names that cannot be."""
     with open(os.path.join(folder, "letter.txt"), "w", encoding="utf-8") as file:
         file.write("to whom it may concern\n")
     target = os.path.join(folder, "target.tbk")
@@ -1424,7 +1424,7 @@ def test_backups(tbd, folder):
 
 @pytest.mark.slow
 def test_cuts(tbd, folder, data, latches, entries, pytestconfig):
-    """The file cut at each of its last bytes, so many."""
+    """The file cut at each of its last bytes, a number of them."""
     count = pytestconfig.getoption("cuts")
     path, wrong = os.path.join(folder, "cut.tbk"), []
     for length in range(len(data) - count, len(data)):
@@ -1437,7 +1437,7 @@ def test_cuts(tbd, folder, data, latches, entries, pytestconfig):
 
 @pytest.mark.slow
 def test_flips(tbd, folder, data, latches, entries, rng, pytestconfig):
-    """Bits that are turned, each reported as damage but for those of open latches, which stay open."""
+    """Bits that are turned, each reported as damage except those of open latches, which stay open."""
     count = pytestconfig.getoption("flips")
     path, wrong, damaged = os.path.join(folder, "flip.tbk"), [], 0
     for _ in range(count):

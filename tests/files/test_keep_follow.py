@@ -1,5 +1,5 @@
-"""Kills the built `tbd follow` amid its work: a start wants the log from the right position, and
-answers as a follower without a file that has read it all.
+"""Kills the built `tbd follow` amid its work: a start asks for the log from the right position, and
+replies as a follower without a file that has read it all.
 
     /usr/bin/python3 -m pytest tests/files/test_keep_follow.py [--kills N] [--seed N]
 
@@ -35,8 +35,8 @@ def pair(moment, session, number, operation, body=b""):
 
 
 def contents(count, rng):
-    """The pairs of so many entries: client 7 registers, creates two accounts and moves money, and
-    sends its last request again now and then."""
+    """The pairs of a number of entries: client 7 registers, creates two accounts and moves money,
+    and sends its last request again now and then."""
     accounts = b"".join(Account(id=number, ledger=700, code=10).to_bytes() for number in (1, 2))
     yield pair(10, 0, 0, Operation.register) + pair(10, 1, 1, Operation.create_accounts, accounts)
     number, last = 1, b""
@@ -64,7 +64,7 @@ def item(position, pairs):
 
 
 def standing(program, path):
-    """The position and the hashes that a start of a file answers to a question."""
+    """The position and the hashes that a start of a file replies to a question."""
     status, output, said = tried.ran([program, "follow", path, CLIENTS], QUESTION)
     if status or len(output) != STANDING:
         return None, said
@@ -81,7 +81,7 @@ def feed(process, data, pause):
 
 def killed(program, path, data, wanted, rng):
     """Gives a program these items and kills it: what it has written by then begins the wanted. It
-    is read meanwhile, and killed too where it takes the items no more."""
+    is read meanwhile, and killed too if it takes no more items."""
     with subprocess.Popen(
         [program, "follow", path, CLIENTS],
         bufsize=0,

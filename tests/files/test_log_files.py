@@ -1,7 +1,7 @@
 """`tbd check`, `backup` and `salvage` of a log's file, whose bytes the test writes itself: blocks
-and records as docs/use/TBD.md and FORMATS.md have them, the position and hashes behind each entry
-by `tbd follow-memory`, which has no file. What `tbd follow` refuses is refused by the forms that
-read, with the same line.
+and records as docs/use/TBD.md and FORMATS.md have them, the position and hashes after each entry by
+`tbd follow-memory`, which has no file. What `tbd follow` refuses is refused by the forms that read,
+with the same line.
 
     python3 -m pytest -m quick tests/files/test_log_files.py
 """
@@ -20,7 +20,7 @@ from .test_damage import CHECKSUM, LATCH, LENGTH, MAGIC
 
 OPEN, CLOSED = b"\xff" * 4, bytes([90, 195, 150, 105])
 FIXED = LATCH + LENGTH + CHECKSUM
-MARK, STANDING = 6, 73  # bytes of a record before the pairs: the rules, and what a question answers
+MARK, STANDING = 6, 73  # bytes of a record before the pairs: the rules, and the reply to a question
 QUESTION = b"\2"
 CLIENTS, PROFILE, ENTRIES = 8, 1, 20
 LAST_TIME = 200  # of the last request
@@ -76,7 +76,7 @@ class Log:
         return file_of(self.records[:entries])
 
     def at(self, entry):
-        """Where the block of an entry begins, counted from 0."""
+        """The offset of the block of an entry, counted from 0."""
         return len(self.file(entry)) - LATCH
 
 
@@ -107,7 +107,7 @@ class Ran:
 
 @pytest.fixture(name="run")
 def fixture_run(tbd, tmp_path):
-    """Runs a form over a file of these bytes, which stay but for what `follow` does."""
+    """Runs a form over a file of these bytes, which stay, except for what `follow` does."""
 
     def run(form, data, given=b""):
         old, new = tmp_path / "old", tmp_path / "new"

@@ -14,7 +14,7 @@ from .kinds import FILES, item, ran
 
 pytestmark = pytest.mark.quick
 LOG, ANSWERS = ((ROOT / "examples" / it).read_bytes() for it in ("first.log", "first.answers"))
-# Where the items of the log end, and the position after each.
+# The ends of the items of the log, and the position after each.
 ENDS = {0: 0, 385: 1, 386: 1, 587: 2, 860: 3, 861: 3}
 PAIRS = LOG[17:385] + LOG[403:587] + LOG[604:860]
 FOLLOW = ["follow", "ledger", "2"]
@@ -52,11 +52,11 @@ def test_started_again(tbd, tmp_path, end):
 
 
 def test_dumped_as_its_pairs(tbd, tbs, tmp_path, whole):
-    """The dump has no positions: it is that of the pairs alone."""
+    """The dump has no positions: it is that of only the pairs."""
     status, dump, _ = ran(str(tbs), tmp_path, ["dump", "2"], PAIRS)
     assert status == 0
     assert ran(tbd, tmp_path, ["dump", "ledger"]) == (0, dump, "")
-    later = dump[16 + 16 + 48 :]  # behind the head and an entry that registers a client
+    later = dump[16 + 16 + 48 :]  # after the head and an entry that registers a client
     assert ran(tbd, tmp_path, ["dump", "ledger", "--after", "1"]) == (0, later, "")
     assert ran(tbd, tmp_path, ["dump", "ledger", "--after", "4"]) == (0, b"", "")
     assert ran(tbd, tmp_path, FOLLOW) == (0, b"", at(3))
@@ -124,7 +124,7 @@ def put(data, at, value):
 
 SHORT = "Short: standard input ends within an item; those before it were answered"
 NO_ITEM = "standard input goes on with no item; those before it were answered"
-# Items that are refused, behind the first entry or before any.
+# Items that are refused, after the first entry or before any.
 BEHIND = [
     (LOG[:385], "Repeat at 1"),
     (LOG[587:860], "Gap at 3"),
@@ -188,7 +188,7 @@ def test_a_log_cut_at_each_length(tbd, tmp_path):
 
 
 # A byte of the first entry's record that is another: of its kind, its position, the hashes of the
-# log and of the replies, and its moment; or so many of its first bytes.
+# log and of the replies, and its moment; or a number of its first bytes.
 RECORD = len(kinds.MAGIC) + 11, 79 + len(ONE)
 
 

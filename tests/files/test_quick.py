@@ -4,7 +4,7 @@
 
 Files are written here, block by block, as docs/use/TBD.md says. What `check` accepts the quick one
 accepts, with the same lines and one more. What it refuses has the same exit status and line in
-both; only a request that is not new is found by the whole check alone.
+both; only the whole check finds a request that is not new.
 """
 
 import struct
@@ -36,7 +36,8 @@ def registered(commit, time, client):
 
 
 def created(commit, time, count):
-    """An entry of client 7 with so many accounts: its time is at least so many above the last."""
+    """An entry of client 7 that creates accounts: its time is above the last by at least as
+    many."""
     accounts = (Account(id=it, ledger=700, code=10).to_bytes() for it in range(1, count + 1))
     frame = request_frame(7, 1, 1, Operation.create_accounts, b"".join(accounts))
     return struct.pack("<QQ", commit, time) + frame

@@ -35,7 +35,7 @@ NO_BLOCK_OF_HEAD = (
 )
 
 
-# The records of a file, the byte that is changed in it or none, the status, and what is said. If an
+# The records of a file, the byte that is changed in it or None, the status, and what is said. If an
 # entry may not come next and a block is damaged, the one that comes first is named.
 ROWS = [
     ([FIRST], None, 5, NO_HEAD),
@@ -83,7 +83,7 @@ def test_the_entries_before_are_salvaged(tbd, tmp_path, second):
     assert (tmp_path / "new").read_bytes() == journal([HEAD, FIRST])
 
 
-# A head's block is refused where any part of it is changed: its length, its checksum, its record.
+# A head's block is refused if any part of it is changed: its length, its checksum, its record.
 @pytest.mark.parametrize("at", [12, 15, 19, 24])
 def test_nothing_is_made_without_rules(tbd, tmp_path, at):
     (tmp_path / "ledger").write_bytes(changed(LEDGER, at))
@@ -93,8 +93,8 @@ def test_nothing_is_made_without_rules(tbd, tmp_path, at):
         assert not (tmp_path / "new").exists()
 
 
-# Bytes behind the closed latch of a file without entries: none, parts of a block, the most that a
-# batch has, and more.
+# Bytes after the closed latch of a file without entries: no bytes, parts of a block, the most that
+# a batch has, and more.
 BATCH = kinds.TOO_LONG - 1
 TAILS = [b"", b"\xff", b"\1" * 7, bytes(40), b"\xff" * BATCH]
 TOO_LONG = [b"\xff" * (BATCH + 1), bytes(5_000_000)]
@@ -120,7 +120,7 @@ def test_more_than_a_batch_is_not_cut_off(tbd, tmp_path, tail):
     assert (tmp_path / "ledger").read_bytes() == data
 
 
-# A file is created in one that has none of a journal's bytes, or its first ones.
+# A file is created in one that has no bytes of a journal, or its first ones.
 @pytest.mark.parametrize("begun", [b"", MAGIC[:5] + bytes(2), MAGIC + CLOSED + b"behind"])
 def test_a_creation_is_made_again(tbd, tmp_path, begun):
     (tmp_path / "ledger").write_bytes(begun)

@@ -32,12 +32,12 @@ SCRIPT = b"".join(PAIRS)
 REPLIES = [48, 48, 48, 48, 48, 176]  # the bytes of each
 ENTRIES = 4  # that the script makes: the fourth pair is a repeat, the fifth is older
 LOG = (ROOT / "examples/first.log").read_bytes()
-# Where an item of the log ends, and how many bytes answer all up to there.
+# The end of an item of the log, and how many bytes answer all up to there.
 ITEMS = [(385, 122), (386, 195), (587, 256), (860, 506), (861, 579)]
 
 
 def ends(pairs, replies):
-    """Where each pair ends, and how many bytes answer all up to there."""
+    """The end of each pair, and how many bytes answer all up to there."""
     given, answered, found = 0, 0, []
     for one, reply in zip(pairs, replies):
         given, answered = given + len(one), answered + reply
@@ -103,7 +103,8 @@ def test_a_repeat_after_a_start_gets_its_first_reply(tbd, tmp_path):
 
 THREE = b"".join(PAIRS[:2]) + pair(10, 7, 1, 2, Operation.create_transfers, MOVED)
 AT = len(PAIRS[0] + PAIRS[1])  # where the third pair begins
-# Where the third pair is changed and to what, or nothing if its last byte is missing; the fault.
+# The place where the third pair is changed and to what, or nothing if its last byte is missing; the
+# fault.
 FAULTS = [(None, "Short"), ((37, 1), "Reserved"), ((7, 128), "TimeExhausted")]
 
 
@@ -175,7 +176,7 @@ def test_pairs_that_are_there_share_a_commit(tbd, shim, tmp_path):
 
 @pytest.mark.parametrize("path", ["ledger", "./ledger", "a/ledger", "a/b/ledger", "link"])
 def test_the_folder_of_a_new_file_is_synced(tbd, shim, tmp_path, path):
-    """Of a link it is that of its target. A start over a file that is there syncs it again."""
+    """For a link it is that of its target. A start over a file that is there syncs it again."""
     target = tmp_path / path
     if path == "link":
         (tmp_path / "targets").mkdir()

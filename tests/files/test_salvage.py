@@ -1,5 +1,5 @@
 """What `tbd salvage` gets of a ledger's file of twenty batches that is damaged at one place: the
-entries before it, and those behind it that still are the next ones.
+entries before it, and those after it that still are the next ones.
 
     python3 -m pytest -m quick tests/files/test_salvage.py
 """
@@ -18,7 +18,7 @@ REFUSED = (5, 6)  # exit statuses: NotAJournal, Damaged
 
 @dataclass
 class Whole:
-    """A whole file, its dump, and the offset of each block; behind the head's those of entries."""
+    """A whole file, its dump, and the offset of each block; after the head's those of entries."""
 
     tbd: str
     data: bytes

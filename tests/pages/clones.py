@@ -55,7 +55,7 @@ class Clone:
             (commands / path.name).symlink_to(path)
 
     def build(self, *names: str) -> None:
-        """Puts built programs where a clone has them, and on PATH."""
+        """Puts built programs into their places in a clone, and on PATH."""
         for name in names:
             out = self.folder / "crates" / name / "out"
             out.mkdir(parents=True)

@@ -20,7 +20,7 @@ from .test_links import pages
 
 APPS = {"telovamish": "apps/telovamish", "tb-sql": "apps/books"}
 APPS |= {"tb-listen": "apps/host", "tb-replica": "apps/host"}
-# Of the shell, the system, other languages and the kit; and what a block has just made.
+# Commands of the shell, the system, other languages and the kit; and what a block has made.
 OTHERS = """for done sleep cmp mv install man editor curl rsync sh apt systemctl journalctl runuser
     cc rustc javac java go npm node tsc pip mypy sqlite3 etcdctl cd rt make tbs tbd
     $OUT/first $OUT/first_rs $OUT/script"""
@@ -42,7 +42,7 @@ def commands(line: str) -> Iterator[list[str]]:
 
 
 def script(page: Path, words: list[str]) -> list[str]:
-    """A command as it is called here, with its form if it has forms; none of the system's."""
+    """A command as it is called here, with its form if it has forms; not those of the system."""
     if words[0].endswith("python3"):
         words = [it for it in words[1:] if it != "-B"]
     name = words[0]

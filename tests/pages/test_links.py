@@ -14,7 +14,7 @@ HEADING = re.compile(r"^#+ (.+?)\s*$", re.M)
 
 
 def pages() -> list[Path]:
-    """The pages that are tracked or new, but for those of other people's making."""
+    """The pages that are tracked or new, except those that other people made."""
     words = ["git", "ls-files", "--cached", "--others", "--exclude-standard", "*.md"]
     listed = subprocess.run(words, cwd=ROOT, capture_output=True, text=True, check=True)
     return [ROOT / it for it in listed.stdout.split() if (ROOT / it).exists()]

@@ -1,9 +1,9 @@
 """What pages say of the code is there, as far as a search can say.
 
-- Each Rust example of a page CALLING.md is there word for word, but for its imports, in a crate
-  that the gate proves.
-- The head of each crate's lib.rt or main.rt lists the modules of that crate, all of them and no
-  other; if it lists those of a module, these too. So does the head of a module that lists any.
+- Each Rust example of a page CALLING.md is there word for word, except its imports, in a crate that
+  the gate proves.
+- The head of each crate's lib.rt or main.rt lists exactly the modules of that crate; if it lists
+  those of a module, these too. So does the head of a module that lists any.
 - Each name that a walk of docs/work/ARCHITECTURE.md gives as `module::function` or `Type::call` is
   in the crate that comes before it; so is each file that the page names, with the names in brackets
   after it, or before it as `name of` it.
@@ -32,12 +32,12 @@ PATH = re.compile(
     r"(?<![\w/.*])((?:docs|apps|bench|clients|crates|packaging|tables|tests|tools)/"
     r"[\w./-]*\w)(?![\w*/])"
 )
-# Of a folder out/, and what a page says may not be there.
+# What is in a folder out/, and what a page says may be missing.
 ABSENT = re.compile(r"/out(?:/|$)|^crates/NAME")
 FILE = re.compile(r"`([\w./-]+\.(?:antt|rt|py|rs|h|md|txt))`")
 OPTION = re.compile(r"(?<![\w-])--[a-z][a-z-]*")
 STRING = re.compile(r'"(--[a-z][a-z-]*)"')
-# Where the options of the programs that users start are.
+# The files that have the options of the programs that users start.
 OPTIONS = (
     "crates/*/src/help.rt",
     "apps/host/src/tb_host/*.py",
@@ -47,7 +47,7 @@ OPTIONS = (
 
 
 def without_imports(block: str) -> str:
-    """The example behind its last import."""
+    """The example after its last import."""
     lines = block.splitlines(keepends=True)
     imports = [at for at, line in enumerate(lines) if line.startswith(("use ", "ghost use "))]
     return "".join(lines[imports[-1] + 1 if imports else 0 :]).lstrip("\n")
@@ -131,7 +131,7 @@ def is_there(crate: str, name: str) -> bool:
 
 
 def walks():
-    """Each name of a walk, where it is not in the crate that comes before it."""
+    """Each name of a walk, and whether it is in the crate that comes before it."""
     page = ROOT / "docs/work/ARCHITECTURE.md"
     text = page.read_text()
     walked = text[text.index("\n## Walks\n") :]
@@ -182,7 +182,7 @@ def paths():
 
 
 def scripts():
-    """Each file that begins with #!, where it may not be run."""
+    """Each file that begins with #!, and whether it may be run."""
     for name in repository.files(ROOT):
         with open(ROOT / name, "rb") as file:
             is_script = file.read(2) == b"#!"
@@ -192,7 +192,7 @@ def scripts():
 
 
 def options():
-    """Each option of a program, where no page of docs/use/ names it."""
+    """Each option of a program, and whether a page of docs/use/ names it."""
     pages = [page.read_text() for page in ROOT.glob("docs/use/*.md")]
     named = {it for page in pages for it in OPTION.findall(page)}
     for path in sorted(it for pattern in OPTIONS for it in ROOT.glob(pattern)):

@@ -13,7 +13,7 @@ from ..conftest import ROOT, ran
 
 pytestmark = pytest.mark.quick
 ALL = ["run", "dump", "replay", "storm"]
-# Where the code has the names of faults.
+# The places where the code has the names of faults.
 FAULTS = (
     "tb_records/src/faults.rt",
     "tb_records/src/dumps.rt",
@@ -21,7 +21,7 @@ FAULTS = (
     "tb_commands/src/commands.rt",
     "tb_storm/src/faults.rt",
 )
-# Where the listener has the names that it sends.
+# The place where the listener has the names that it sends.
 HOST = ("access", "command", "connections", "lines", "process", "serving", "shares")
 SENT = re.compile(r'(?:Told\(|given\.(?:idle|slow), |stop\(|return |else )"([A-Z]\w+)"')
 

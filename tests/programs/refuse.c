@@ -5,8 +5,8 @@
  *     LD_PRELOAD=refuse.so REFUSE=growth REFUSE_AT=3 REFUSE_REPORT=report program ...
  *
  * REFUSE is growth (malloc and realloc answer that there is no memory), read or write (EIO), or
- * stall (a write of bytes takes none). With REFUSE_ON all later calls of that kind are refused too.
- * A read of standard input moves REFUSE_READ bytes at the most, a write to standard output
+ * stall (a write takes no bytes). With REFUSE_ON all later calls of that kind are refused too. A
+ * read of standard input moves REFUSE_READ bytes at the most, a write to standard output
  * REFUSE_WRITE bytes. The file REFUSE_REPORT has three numbers of 8 bytes then: the calls of that
  * kind that were asked for, those that were refused, and the blocks taken and not given back; they
  * are kept in the file, however the program ends. What the C library asks for itself, as for a

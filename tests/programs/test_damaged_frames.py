@@ -115,14 +115,14 @@ def request_length(frame):
 
 
 class Sessions:
-    """Of each client its session, its last request and that one's commit; the last commit, and
-    the last time."""
+    """For each client its session, its last request and that one's commit; the last commit, and the
+    last time."""
 
     def __init__(self, clients_max):
         self.clients_max, self.rows, self.commit, self.time = clients_max, {}, 0, 0
 
     def status(self, frame):
-        """The status of the answer; None where the request is new."""
+        """The status of the answer; None if the request is new."""
         client, (session, request, operation) = bytes(frame[:16]), struct.unpack_from(
             "<QIB", frame, 16
         )
@@ -149,7 +149,7 @@ class Sessions:
         return self.time + max(events, 1)
 
     def enter(self, frame, time):
-        """Executes a new request, and answers the head of its reply, but for its length."""
+        """Executes a new request, and returns the head of its reply, except its length."""
         client, session, request, operation = bytes(frame[:16]), *struct.unpack_from(
             "<QIB", frame, 16
         )
@@ -412,9 +412,9 @@ def number_near(chance, right):
 
 
 def make_stream(chance, sessions, lead_of, goes_on):
-    """Rows of frames behind their leads, damaged; most of those at which a reader would stop are
-    left out, and the first that is not is the last but for what is spliced on. Answers the bytes,
-    and how many frames."""
+    """Rows of frames after their leads, damaged; most of those at which a reader would stop are
+    left out, and the first that is not is the last, except for what is spliced on. Returns the
+    bytes, and how many frames."""
     rows, other = [], header(3, 0, 0, REGISTER, 0)
     while len(rows) < 40:
         right = next_frame(chance, sessions)
@@ -492,7 +492,7 @@ def limited(kib):
 
 
 def run(words, given, kib):
-    """Status, output and standard error; no status where it is still running after a minute."""
+    """Status, output and standard error; no status if it is still running after a minute."""
     try:
         ran = subprocess.run(
             words, input=given, capture_output=True, timeout=SECONDS, preexec_fn=limited(kib)
@@ -565,7 +565,7 @@ def keep(given):
 
 
 def through_program(chance, frames):
-    """The program's runs over so many damaged frames. Answers how many runs were wrong."""
+    """The program's runs over a number of damaged frames. Returns how many runs were wrong."""
     # a body as large as a header can claim, and 512 KiB for requests and replies as small as those
     # here
     kib = least_room() + ITEMS_MAX * 128 // 1024 + 512
@@ -594,7 +594,7 @@ def kept_as(status, commit, length=0, operation=ACCOUNTS, request=1):
 
 
 def worked():
-    """Frames behind their kinds, and the line that each gets by docs/use/FORMATS.md."""
+    """Frames after their kinds, and the line that each gets by docs/use/FORMATS.md."""
     lookup = header(7, 1, 1, LOOK_ACCOUNTS, 16)
     return (
         (1, header(7, 0, 0, REGISTER, 0), 0),
@@ -629,7 +629,7 @@ def read_worked():
 
 
 def read_batch(chance, count):
-    """Gives the readers so many damaged frames of requests and replies. Answers the faults, and
+    """Gives the readers a number of damaged frames of requests and replies. Returns the faults, and
     how many were answered wrongly."""
     sessions, given, wanted, other = Sessions(5), [], [], header(3, 0, 0, REGISTER, 0)
     for _ in range(count):
@@ -659,7 +659,7 @@ def read_batch(chance, count):
 
 
 def through_readers(chance, frames):
-    """The readers over so many damaged frames. Answers how many were answered wrongly."""
+    """The readers over a number of damaged frames. Returns how many were answered wrongly."""
     faults, count, failed = {}, 0, 0
     while count < frames:
         size = min(10000, frames - count)

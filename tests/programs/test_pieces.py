@@ -59,7 +59,7 @@ FORMS = {"run 2": run, "dump 2 1": dump, "replay": replay}
 
 
 def taken(process, count):
-    """So many bytes of a program's output, or fewer where it ends or is late."""
+    """The next bytes of a program's output, or fewer if it ends or is late."""
     got, until = b"", time.monotonic() + SECONDS
     while len(got) < count and time.monotonic() < until:
         if select.select([process.stdout], [], [], 1)[0]:

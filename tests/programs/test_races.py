@@ -27,7 +27,7 @@ void *__tsan_memset(void *to, int byte, size_t n) { return memset(to, byte, n); 
 
 
 def module_of(crate, kit, folder):
-    """Builds the crate's program once more, from what its check kept, and answers its module: a
+    """Builds the crate's program once more, from what its check kept, and returns its module: a
     compiler that keeps it comes before the kit's."""
     tools = f"{folder}/toolchain"
     os.makedirs(f"{tools}/bin")

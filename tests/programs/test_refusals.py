@@ -1,12 +1,12 @@
 """Each allocation, each read and each write of the built programs refused in turn, once each, and
-what they answer then.
+what they reply then.
 
-`tb_refusals` serves a script by each call that may want memory, and makes what was refused again.
-What is right comes from the frames of this file, from examples/first.replies, and from `tbs` when
-nothing is refused. All memory has to be given back after each run, whatever was refused. A loop
-that refuses nothing shows nothing: each case counts its refusals and has a least number of them.
-With `--every N` the first call is refused, and each N-th after it. refuse.c, which the programs
-are run over, needs cc and Linux.
+`tb_refusals` serves a script by each call that may run out of memory, and makes a refused call
+again. What is right comes from the frames of this file, from examples/first.replies, and from `tbs`
+when nothing is refused. All memory has to be given back after each run, whatever was refused. A
+loop that refuses nothing shows nothing: each case counts its refusals and has a least number of
+them. With `--every N` the first call is refused, and each N-th after it. refuse.c, which the
+programs are run over, needs cc and Linux.
 """
 
 import collections
@@ -35,7 +35,7 @@ def case(name, why, counted=""):
 
 
 class Script:
-    """Pairs of a moment and a frame, and where each begins."""
+    """Pairs of a moment and a frame, and the offset of each."""
 
     def __init__(self, moment=10):
         self.moment, self.number, self.pairs = moment, 0, []
@@ -150,7 +150,7 @@ def plain(program, words, script):
 
 
 class Refuser:
-    """Runs programs over refuse.c, and refuses the first call and every so many-th."""
+    """Runs programs over refuse.c, and refuses the first call and every `every`-th."""
 
     def __init__(self, folder, every):
         self.shared, self.report = f"{folder}/refuse.so", f"{folder}/report"
@@ -172,8 +172,8 @@ class Refuser:
         return run(program, words, script, environment)
 
     def in_turn(self, program, words, script, kind="growth", **most):
-        """The run with the first call of this kind refused, with the second (or, where few are,
-        with one further on), and so on, up to the first that refuses none."""
+        """The run with the first call of this kind refused, with the second (or, if few are
+        refused, with one further on), and so on, up to the first run that refuses no call."""
         at = 1
         while True:
             ran = self.run(program, words, script, kind, at, **most)
@@ -183,7 +183,7 @@ class Refuser:
             at += self.every
 
     def least(self, count):
-        """How many refusals have to be met where each call is refused once, or where few are."""
+        """How many refusals have to be met if each call is refused once, or if few are."""
         return count if self.every == 1 else 1
 
 
@@ -195,7 +195,7 @@ def refuser(program, request, tmp_path_factory):
 
 
 def right(words, script):
-    """What `tbs` answers when nothing is refused."""
+    """What `tbs` replies when nothing is refused."""
     ran = plain(PROGRAM, words, script)
     if ran.status:
         pytest.fail(f"tbs {words}: {ran.lines}")
@@ -206,14 +206,13 @@ def shown(counts):
     return ", ".join(f"{count} {name}" for name, count in sorted(counts.items()))
 
 
-# What is refused of the program's own, and where no call says so: a block that would have become
-# smaller
+# What is refused of the program's own, if no call says so: a block that would have become smaller
 OWN = "SetUp", "copy NoMemory", "no call"
 
 
 def each_growth(refuser, name, form, clients, script, judge, least, wanted):
     """Each allocation refused in turn while a form serves a script: what `judge` says of each run,
-    all memory given back, and at least so many refusals of calls, each of the wanted kinds among
+    all memory given back, and at least this many refusals of calls, each of the wanted kinds among
     them.
     """
     counts, whys = collections.Counter(), []
@@ -262,7 +261,7 @@ def answers(wanted):
 
 
 def calls_answer(replies, history):
-    """As `answers`, or a server that ended since memory ran out, and a prefix of both."""
+    """As `answers`, or a server that ended because memory ran out, and a prefix of both."""
 
     def judge(ran):
         if set_up(ran) or (ran.status, ran.output) == (0, replies + history):
@@ -303,7 +302,7 @@ def offers_stand(pairs, clients):
 
 
 def ends(pairs, first=0):
-    """Where each pair, or each entry of a dump, ends."""
+    """The end of each pair, or of each entry of a dump."""
     at, all_ends = first, []
     for pair in pairs:
         at += len(pair)
@@ -352,7 +351,7 @@ def dumped(script, clients):
 
 
 def beginnings(words, pairs, head=b""):
-    """What `tbs` answers to none of the pairs, to the first, to the first two, and so on."""
+    """What `tbs` replies to no pair, to the first, to the first two, and so on."""
     return [right(words, head + b"".join(pairs[:count])) for count in range(len(pairs) + 1)]
 
 
@@ -515,7 +514,7 @@ def each_read(refuser, name, words, script, written, starts):
 
 def each_write(refuser, name, words, script, kind, wanted, **most):
     """Each write fails in turn, or takes nothing, once: replies that are passed on before a read,
-    and are not taken then, are offered again, and nothing is lost; else it is Device, and the
+    and are not taken then, are offered again, and nothing is lost; otherwise it is Device, and the
     output is a prefix of the right one."""
     whys, count, again = [], 0, 0
     for at, ran in refuser.in_turn(PROGRAM, words, script, kind, write=MOST, **most):
@@ -600,7 +599,7 @@ def each_growth_of_tbd(refuser, words, script, judge, new, least):
 
 
 def test_ledgers(refuser, tmp_path):
-    """A ledger in a file, where memory is refused."""
+    """A ledger in a file, if memory is refused."""
     pairs, file, new = rows().pairs, f"{tmp_path}/kept.tbk", f"{tmp_path}/new.tbk"
     written, histories = beginnings(["run", 2], pairs), beginnings(["dump", 2], pairs)
     script = b"".join(pairs)

@@ -28,7 +28,7 @@ def test_totals(tbs, request, clients, transfers):
 
 
 def limited(room):
-    """Before a program begins: no file gets longer than so many bytes."""
+    """Before a program begins: no file gets longer than this many bytes."""
 
     def limit():
         signal.signal(signal.SIGXFSZ, signal.SIG_IGN)

@@ -27,7 +27,7 @@ def read(name):
 
 
 SCRIPT, REPLIES = read("first.script"), read("first.replies")
-# where each pair of the script ends, and the reply to it
+# the end of each pair of the script, and the reply to it
 PAIR_ENDS, REPLY_ENDS = [0, 56, 368, 472], [0, 48, 96, 400]
 FIRST, FIRST_REPLY = SCRIPT[:56], REPLIES[:48]
 
@@ -116,7 +116,7 @@ def taken(program, length):
 
 
 def conversation(sendings):
-    """Sends the bytes of each sending and waits for its reply before the next one; answers the
+    """Sends the bytes of each sending and waits for its reply before the next one; returns the
     replies and the end."""
     program = subprocess.Popen(
         [PROGRAM, *RUN],
@@ -274,7 +274,7 @@ def test_sessions():
         (0, b"".join(answers), b""),
     )
 
-    # no account 99: code 21; profile 2 keeps the id, and answers it 68
+    # no account 99: code 21; profile 2 keeps the id, and returns 68 for it
     script = (
         SCRIPT[:368]
         + pair(10, 7, 1, 2, 130, transfer(70, 99, 2, 1))
@@ -434,7 +434,7 @@ def test_dumps():
     case("a long script, dumped and replayed", ended(long_dump, REPLAY), ended(long_script))
 
     # transfer 77 of no account, and then of account 1: profile 2 has its id failed where the first
-    # is behind the mark
+    # is after the mark
     failing, again = (
         pair(10, 7, 1, number, 130, transfer(77, debit, 2, 1))
         for number, debit in ((2, 99), (3, 1))

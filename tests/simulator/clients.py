@@ -1,4 +1,4 @@
-"""Clients that keep the rules of docs/use/CLIENTS.md, and peers that keep none."""
+"""Clients that keep the rules of docs/use/CLIENTS.md, and peers that keep no rule."""
 
 from __future__ import annotations
 

@@ -182,7 +182,7 @@ def wake(future: asyncio.Future[Any], result: Any = None) -> None:
 
 @types.coroutine
 def _turn() -> Generator[None, None, None]:
-    """Lets all else that is ready be done first."""
+    """Lets everything else that is ready be done first."""
     yield
 
 

@@ -123,7 +123,7 @@ def test(seed: int, steps: int | None = None) -> list[str]:
     """Runs a seed. What was wrong."""
     hook, sys.unraisablehook = sys.unraisablehook, lambda _: None
     gc.disable()  # what is collected amid a run would not be the same each time
-    gc.freeze()  # so that the collection looks at what the run has left alone
+    gc.freeze()  # so that the collection looks only at what the run has left
     try:
         return _test(seed, steps)
     finally:

@@ -110,7 +110,7 @@ def planted(name: str, folder: Path) -> Path:
 
 
 def found(name: str, folder: Path, seeds: int, jobs: int = 2) -> str:
-    """The line of the first seed that fails with an edit. Empty if none does."""
+    """The line of the first seed that fails with an edit. Empty if no seed does."""
     words = ["--seeds", str(seeds), "--jobs", str(jobs), "--stop", "--host"]
     ran = subprocess.run(
         [sys.executable, "-m", "tests.simulator.simulate", *words, str(planted(name, folder))],

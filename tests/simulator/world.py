@@ -98,7 +98,7 @@ class Machine:
             self.start()
 
     def crash(self, away: float = 3.0) -> None:
-        """Ends this life at once, and starts the next one at most so many seconds later. What was
+        """Ends this life at once, and starts the next one at most this many seconds later. What was
         not synced is torn."""
         if self.host is None or not self.host.is_up:
             return
@@ -303,7 +303,7 @@ class World:
     def _clock(self) -> None:
         machine = self.machines[0]  # two wrong clocks that agree would be right for the others
         machine.ahead = int(self.drawn.uniform(-100, 100) * 1e9)
-        # a clock that steps is one of its next start: of it alone, or after an outage of all, in
+        # a clock that steps is one of its next start: only of it, or after an outage of all, in
         # which it may be the first that is back
         machine.crash()
         if self.drawn.random() < 0.5:

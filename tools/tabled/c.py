@@ -184,7 +184,7 @@ def rows_of(kinds, kind, argument):
 
 
 def function(tag, argument, rows):
-    """A function that answers names."""
+    """A function that returns names."""
     lines = [f"static inline const char *{tag}_name(uint32_t {argument}) {{"]
     lines += [f"    switch ({argument}) {{"]
     lines += [f'    case TB_{constant}: return "{name}";' for constant, name in rows]

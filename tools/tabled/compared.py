@@ -251,7 +251,7 @@ def tests(text, names):
 
 def classes(text):
     """The classes of a request in the order of its tests: without a row, the tests of a row,
-    else."""
+    otherwise."""
     none = r.first(r"if is_register r\.body then New else (\w+)\)$", text, "class_of")[1]
     tests = r.body(text, "class_beside")
     lines = re.findall(r"^    else if .* then (\w+)$", tests, re.M)

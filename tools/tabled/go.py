@@ -224,7 +224,7 @@ def sizes_of(table):
 
 
 def places(table):
-    """Where each field is."""
+    """The offset of each field."""
     found = []
     for row in table["layouts"]:
         prefix = f"at{t.camel(row['name'])}"

@@ -92,7 +92,7 @@ def frame_tests(table):
 
 
 def side_by_side(table, layouts):
-    """Layouts by their heads: what is at each place where one of them has a field."""
+    """Layouts by their heads: what is at each place at which one of them has a field."""
     sides = [{it["at"]: it for it in t.layout(table, it)["fields"]} for it in layouts.values()]
     lines = [(at, *(cell(side.get(at)) for side in sides)) for at in sorted(set().union(*sides))]
     return rows(("At", *layouts), lines)

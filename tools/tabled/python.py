@@ -77,7 +77,7 @@ def layout(table):
 
 
 def places(table, name):
-    """Where a record has each field, and how many bytes."""
+    """The offset of each field of a record, and how many bytes it has."""
     lines = [f"{name.upper()}_PLACES: Dict[str, Tuple[int, int]] = {{"]
     for it in t.fields(table, name):
         lines.append(f'    "{it["name"]}": ({it["at"]}, {t.size_of(it)}),')
@@ -85,7 +85,7 @@ def places(table, name):
 
 
 def place(table, name):
-    """Where accounts and transfers have a field."""
+    """The offset of a field in accounts and transfers."""
     (found,) = {
         field["at"]
         for record in ("account", "transfer")
@@ -127,7 +127,7 @@ def records(table):
 
 def record(table, name):
     """The class of a record: its fields with their ranges, and its bytes. Its fields are in the
-    order of TigerBeetle's class, which has none that is reserved."""
+    order of TigerBeetle's class, which has no reserved field."""
     kind, fields = t.camel(name), t.fields(table, name)
     flags = f"{kind}Flags"
     ranges = ", ".join(
@@ -192,7 +192,7 @@ def made(fields, flags):
 
 
 def wrapped(line, width=100):
-    """A line with a bracket, in several lines where it is too long."""
+    """A line with a bracket, in several lines if it is too long."""
     if len(line) <= width:
         return [line]
     at = min(place for place in (line.find("("), line.find("{")) if place >= 0)

@@ -7,7 +7,7 @@ from . import table as t
 
 
 class Missing(Exception):
-    """A list is not where it is looked for."""
+    """A list is not at the place at which it is looked for."""
 
 
 class Sources:
@@ -159,7 +159,7 @@ def constant(text, *names):
 
 
 def largest(text, name):
-    """The largest number of a constant's type, where the constant is that."""
+    """The largest number of a constant's type, if the constant is that."""
     return (1 << int(first(name, text, name)[1])) - 1
 
 
