@@ -73,7 +73,7 @@ class Process:
             self.process.wait()
 
     def end(self, seconds=30):
-        """Ends it as its user would. Answers its status."""
+        """Ends it as its user would. Returns its status."""
         self.send(signal.SIGTERM)
         try:
             return self.process.wait(seconds)
@@ -211,7 +211,7 @@ class Machines:
             raise TimeoutError(f"{it.name} ended: {it.said(it.since)}")
 
     def part(self, *words, seconds=60):
-        """Runs a part of tb-replica, as status. Answers its status, and what it printed."""
+        """Runs a part of tb-replica, as status. Returns its status, and what it printed."""
         ran = subprocess.run(
             [PYTHON, "-B", f"{HOST}/tb-replica", *words],
             capture_output=True,

@@ -33,7 +33,7 @@ def files_of_postgresql(cluster, at):
 
 
 def change(paths, data, at, bit):
-    """Changes a bit of an entry wherever files have it. Answers how many places that are."""
+    """Changes a bit of an entry wherever files have it. Returns how many places that are."""
     count = 0
     for path in paths:
         with open(path, "r+b") as file:
@@ -48,7 +48,7 @@ def change(paths, data, at, bit):
 
 
 def change_entries(paths, script, first, bit):
-    """Changes a bit in each part, each in another entry, from one of them on. Answers the parts for
+    """Changes a bit in each part, each in another entry, from one of them on. Returns the parts for
     which that was found in no file."""
     missed, entries = [], iter(script[first:])
     for name, at in PARTS.items():

@@ -526,7 +526,7 @@ def entries_of(entries, mark_above):
 
 
 def one_run(chance, kib):
-    """Gives the program a damaged script or dump. Answers the kind, how many frames it had, the
+    """Gives the program a damaged script or dump. Returns the kind, how many frames it had, the
     fault, what was wrong, and the bytes."""
     kind = chance.choice(("run", "run", "dump", "replay", "replay"))
     if kind == "replay":
@@ -617,7 +617,7 @@ def worked():
 
 
 def read_worked():
-    """Gives the readers the frames of `worked`. Answers how many were answered wrongly."""
+    """Gives the readers the frames of `worked`. Returns how many were answered wrongly."""
     given = [struct.pack("<BI", kind, len(frame)) + frame for kind, frame, _ in worked()]
     status, output, told = run([READER, "read"], b"".join(given), 65536)
     answers = output.split(b"\n")[:-1]

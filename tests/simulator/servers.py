@@ -148,7 +148,7 @@ class Process:
         self._later(self._work, "work")
 
     def _work(self) -> None:
-        """Answers the pairs that are whole."""
+        """Serves the pairs that are whole."""
         self.is_due = False
         if self.returncode is not None or not self.is_ready:
             return

@@ -222,7 +222,7 @@ class Browser(unittest.TestCase):
                     self.assertEqual(self.driver.execute_script(HIDDEN, width <= CARDS), [])
 
     def test_print(self):
-        """On A4 nothing is wider than the page, no amount is broken, and links are left out."""
+        """On A4 nothing is wider than the page, no amount is broken, and links are not printed."""
         for address, words in (
             (f"/account/{SALES}/2026-10", "Closing balance"),
             (f"/account/{GREAT}/2026-09", "the lines add up"),

@@ -14,7 +14,7 @@ from tb_sql import checking
 from tb_sql.numbers import held
 from tb_sql.schema import KEYS, TABLES, columns
 
-# the columns that other rows determine; of all others the entry's digest tells
+# the columns that other rows determine; the entry's digest covers all others
 DERIVED = {
     "position": ["commit_number", "time", "digest"],
     "entries": ["commit_number"],

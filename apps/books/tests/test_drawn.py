@@ -57,7 +57,7 @@ def filters(rng, operation, plain):
 
 
 def is_wrong(operation, wanted):
-    """What TigerBeetle answers by nothing."""
+    """What TigerBeetle returns nothing for."""
     first, last = wanted["timestamp_min"], wanted["timestamp_max"]
     wrong = [wanted["limit"] == 0, first > 2**63 - 1, last > 2**63 - 1, 0 < last < first]
     if "account_id" in wanted:

@@ -62,7 +62,7 @@ class Loading(unittest.TestCase):
             (script(), follow, "sqlite3", signal.SIGINT, 0),
             (AS_FILE, follow, "argparse", signal.SIGTERM, 0),
             (AS_MODULE, serve, "sqlite3", signal.SIGINT, 0),
-            # of a module that is loaded for pages alone
+            # of a module that is loaded only for pages
             (script(), serve, "tb_sql.pages.server", signal.SIGTERM, 0),
             (script(), serve, "tb_sql.pages.server", signal.SIGINT, 0),
         ):

@@ -386,7 +386,7 @@ class OtherHistories(Tables):
         self.assertEqual(self.contents(), before)
 
     def test_file_that_is_deleted_meanwhile(self):
-        """A load that goes on does not write where nobody reads."""
+        """A load that goes on does not write if nobody reads."""
         steps = history().steps
         for is_replaced in (False, True):
             store = SqliteStore(self.path)
@@ -510,7 +510,7 @@ class Words(Tables):
         self.assertEqual((status, said.count("\n")), (1, 1), said)
 
     def test_edited_position(self):
-        """A load and a check tell it by the same line."""
+        """A load and a check report it by the same line."""
         made = Made().register()
         self.load(made)
         for column, wrong in (

@@ -55,7 +55,7 @@ class Pages(Tables):
 
 class Shown(Pages):
     def test_edited_position(self):
-        """Each page tells it as a load does, and none is served."""
+        """Each page reports it as a load does, and no page is served."""
         self.load(history())
         for column, wrong in (("commit_number", "x"), ("time", 1.5), ("head", "{")):
             kept = self.row(f"SELECT {column} FROM position")
@@ -141,7 +141,7 @@ class Shown(Pages):
         self.assertIn("There are no postings.", self.words("/account/1"))
 
     def test_pages_beyond_the_rows(self):
-        """They say so. They told that there are none at all."""
+        """They say so. They reported that there are no rows at all."""
         self.load(history())
         end = (1 << 63) - 1
         for rows, address, none in (
@@ -484,7 +484,7 @@ class Stalled(Pages):
             time.sleep(0.1)
 
     def test_bounds_of_threads_and_connections(self):
-        """Others wait: none is served beyond them, and none is lost."""
+        """Others wait: no request is served beyond them, and no request is lost."""
         before = threading.active_count()
         held = [self.sent(b"GET / HTTP/1.1\r\n") for _ in range(12)]
         time.sleep(0.3)

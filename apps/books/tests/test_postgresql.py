@@ -1,5 +1,5 @@
 """The same tables in PostgreSQL: each value is that of the file of SQLite. Makes a server of its
-own in a folder, as postgres where this user is root."""
+own in a folder, as postgres if this user is root."""
 
 import contextlib
 import os
@@ -185,7 +185,7 @@ class PostgreSQL(Tables):
         self.assertEqual(self.load_there(made).entries, 0)
 
     def test_great_sums(self):
-        """Of a ledger above 128 bits: the view's sum is exact."""
+        """The sums of a ledger above 128 bits: the view's sum is exact."""
         audit = Made().register().accounts(*(account(it) for it in range(1, 5)))
         audit.transfers(transfer(11, 1, 2, MAX), transfer(12, 3, 4, MAX))
         self.load_both(audit)
@@ -213,7 +213,8 @@ class PostgreSQL(Tables):
         self.assertIn("entry 2 is another one", str(raised.exception))
 
     def test_lost_connection(self):
-        """One that breaks while rows are read, as where the server is stopped, is one line."""
+        """One that breaks while rows are read, for example because the server is stopped, is one
+        line."""
         audit = Made().register().accounts(account(1), account(2))
         self.load_there(audit)
         store = PostgresStore(self.url)

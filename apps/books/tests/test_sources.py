@@ -57,7 +57,7 @@ class Sources(Tables):
         return ran.returncode, ran.stderr
 
     def words(self):
-        """The words of the programs that were started since the last time."""
+        """The words of the programs that were started after the last call."""
         path = pathlib.Path(self.environment["WORDS"])
         found = path.read_text().splitlines() if path.exists() else []
         path.unlink(missing_ok=True)
@@ -100,8 +100,8 @@ class Sources(Tables):
         self.assertEqual(self.contents(), before)
 
     def test_tables_in_the_ledger_s_own_file(self):
-        """They are refused. An empty one, as of a server that was just started, was made a file of
-        SQLite."""
+        """They are refused. An empty one, such as that of a server that has only started, was made
+        a file of SQLite."""
         link = self.room / "link"
         link.symlink_to(self.file)
         self.file.touch()

@@ -20,7 +20,7 @@ from test_tb_client import account, transfer
 
 SEED = int(os.environ.get("SEED") or random.SystemRandom().randrange(1 << 32))
 CALLERS, CALLS, CLIENTS, BATCHES = 4, 40, 4, 40
-IN_TIME = 10.0  # seconds for a reply: the machine may do a lot else
+IN_TIME = 10.0  # seconds for a reply: the machine may do a lot more
 RESET = struct.pack("ii", 1, 0)  # a connection is closed without a farewell
 LOOKUP = struct.pack("<QQ", 1, 0) * 8190  # the ids of a long reply
 
@@ -32,7 +32,7 @@ def frame(random_of, body=b"\0" * 128):
 
 
 def count_of(it, most):
-    """How many of so many bytes come."""
+    """How many of these bytes come."""
     count = 0
     while count < most and (more := it.recv(most - count)):
         count += len(more)
@@ -137,7 +137,7 @@ class Abuse(unittest.TestCase):
                 faults.append(f"{kind.__name__}: {fault}")
 
     def moved(self, listener):
-        """Moves money, and answers how long each reply took."""
+        """Moves money, and returns how long each reply took."""
         waits = []
         with Session.register(Socket(listener.address, IN_TIME)) as session:
             for _ in range(BATCHES):

@@ -1,5 +1,5 @@
-"""Who gets in over sockets, and what a host tells of itself: TLS, users, client ids, sockets that
-systemd passes, counts and evictions. Certificates are made by openssl for one run.
+"""Who gets in over sockets, and what a host reports about itself: TLS, users, client ids, sockets
+that systemd passes, counts and evictions. Certificates are made by openssl for one run.
 
     /usr/bin/python3 -m pytest tests/test_access.py
 """
@@ -48,7 +48,7 @@ UPPER = 1 << 64
 
 
 def client_context(paths, name=None):
-    """How a client speaks TLS: with this certificate, or none."""
+    """How a client speaks TLS: with this certificate, or with no certificate."""
     context = ssl.create_default_context(cafile=paths["ca"])
     if name:
         context.load_cert_chain(paths[name], paths[f"{name}_key"])
@@ -101,7 +101,7 @@ class OverTLS(unittest.TestCase):
             self.assertEqual(listener.end(), 0)
 
     def test_who_has_no_certificate_or_a_wrong_one(self):
-        """TLS's own alert says why, where the loop of asyncio says nothing. The client is told so
+        """TLS's own alert says why; the loop of asyncio says nothing. The client is told so
         at once, and does not call on and on."""
         with self.listening("--client-ca", self.paths["ca"]) as (listener, place):
             for name, alert in (
@@ -194,7 +194,7 @@ class OverTLS(unittest.TestCase):
 
     def test_many_that_call_at_once(self):
         """No more files are open than the limit on connections asks for, and clients are served
-        meanwhile. All that called were taken before anyone else was looked at."""
+        meanwhile. All that called were taken before others were looked at."""
         with self.listening("--client-ca", self.paths["ca"], "--connections", "8") as (it, place):
             files = 3 * 8 + 64
             resource.prlimit(it.process.pid, resource.RLIMIT_NOFILE, (files, files))
@@ -228,7 +228,7 @@ class OverTLS(unittest.TestCase):
                 self.assertEqual(listener.wait(20), 0)
 
     def renewed(self, listener, said):
-        """Sends SIGHUP, and waits for the line that it is answered with."""
+        """Sends SIGHUP, and waits for the line that reports it."""
         listener.process.send_signal(signal.SIGHUP)
         while "SIGHUP: " not in (line := listener.tells()):
             self.assertTrue(line)
@@ -544,7 +544,7 @@ class Reports(unittest.TestCase):
     def read_metrics(self, listener, place):
         with Session.register(Socket(listener.path)) as session:
             session.lookup_accounts([1])
-        time.sleep(0.1)  # the system counts what a process wrote just after that
+        time.sleep(0.1)  # the system counts what a process wrote a moment after that
         with urllib.request.urlopen(f"http://{place}/metrics", timeout=10) as page:
             text = page.read().decode()
         for line in (
@@ -558,8 +558,8 @@ class Reports(unittest.TestCase):
             self.assertIn(line, text)
 
     def test_commits(self):
-        """Each request in turn is a commit; those that wait at once are one; none is lost or
-        counted twice where the server is killed."""
+        """Each request in turn is a commit; those that wait at once are one; no commit is lost or
+        counted twice if the server is killed."""
         with tempfile.TemporaryDirectory() as folder:
             path = os.path.join(folder, "status")
             with Running("--status", path, folder=folder) as listener:
@@ -583,8 +583,8 @@ class Reports(unittest.TestCase):
                     self.told_commits(path, 28)
 
     def told_commits(self, path, wanted):
-        """The system counts what a process writes just after it is there: so the last commit may be
-        told a moment later, and none is ever told that was not made."""
+        """The system counts what a process writes a moment after it is there. So the last commit
+        may be reported a moment later, and no commit is ever reported that was not made."""
         until = time.monotonic() + 20
         while self.commits(path)[0] < wanted and time.monotonic() < until:
             time.sleep(0.01)
@@ -596,10 +596,10 @@ class Reports(unittest.TestCase):
         return it["commits"], it["syncs"]
 
     def at_once(self, listener, some):
-        """What each session looks up, where the server is given all requests together."""
+        """What each session looks up, if the server is given all requests together."""
         server, pipe = listener.server(), f"/proc/{listener.server()}/fd/0"
         os.kill(server, signal.SIGSTOP)
-        while self.state_of(server) != "T":  # until then it may still take a first request alone
+        while self.state_of(server) != "T":  # until then it may still take only a first request
             time.sleep(0.01)
         with concurrent.futures.ThreadPoolExecutor(len(some)) as pool:
             found = [pool.submit(it.lookup_accounts, [1]) for it in some]
@@ -616,7 +616,7 @@ class Reports(unittest.TestCase):
             return file.read().rpartition(")")[2].split()[0]
 
     def test_commits_that_are_not_known(self):
-        """Behind a shell another process writes; a server that keeps nothing has none."""
+        """Under a shell another process writes; a server that keeps nothing has no commits."""
         commands = [["sh", "-c", '"$@"; exit', "sh", *KEEPER, "run", "{}/ledger", "64"]]
         if os.access(PROGRAM, os.X_OK):
             commands.append([PROGRAM, "run", "64"])

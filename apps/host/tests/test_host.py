@@ -61,7 +61,7 @@ from tb_host.taken import Taken
 sys.path.append(CONFORMANCE)
 import certificates  # noqa: E402
 
-# A server with a reply to each pair: the commit is its number. FILE tells how many it read.
+# A server with a reply to each pair: the commit is its number. FILE says how many it read.
 SERVER = """
 import os, struct, sys
 commit, stdin, stdout = 0, sys.stdin.buffer, sys.stdout.buffer
@@ -107,7 +107,7 @@ while kind := stdin.read(1):
 """
 FOLLOWS = [sys.executable, "-SEc", FOLLOWER, "64"]
 
-# The same over a file of entries, as `tbd follow` keeps it. It may be killed before it tells the
+# The same over a file of entries, as `tbd follow` keeps it. It may be killed before it reports the
 # replies that its file has: LATE is the position of the entry at which it waits for that.
 KEEPER = """
 import hashlib, os, struct, sys, time
@@ -191,7 +191,7 @@ class MemoryLog:
         # those that do not answer
         self.places, self.changed, self.away = ["n0", "n1", "n2"], {}, set()
         self.passed = []  # what was taken as another node has it
-        self.time = None  # what its own clock tells, if it has one
+        self.time = None  # what its own clock says, if it has one
         self.said_of_room = ""  # why it takes no more
 
     async def full(self):
@@ -238,7 +238,7 @@ class MemoryLog:
                 await self.grown.wait()
             at = self.at + 1
             it = self._as_at(self.places[0], at)
-            if isinstance(it, Report) or it.data is not None:  # else this node has lost it
+            if isinstance(it, Report) or it.data is not None:  # otherwise this node has lost it
                 self.is_passed = False
                 yield it
                 if self.is_passed:
@@ -291,7 +291,7 @@ class MemoryLog:
 
 class Entries(unittest.TestCase):
     def test_bytes(self):
-        """Of formats 1 and 2. The second has the SHA-256 of its magic and of all after that."""
+        """Formats 1 and 2. The second has the SHA-256 of its magic and of all after that."""
         it = entry(A, 7, pair(5, register(9)), position=3, digest=b"d" * 32, answered=2)
         rest = A + struct.pack("<QQ", 7, 3) + b"d" * 32 + struct.pack("<Q", 2) + NOTHING + it.pairs
         self.assertEqual(it.to_bytes(1), b"TBENTRY1" + rest)
@@ -324,7 +324,7 @@ class Entries(unittest.TestCase):
                 Entry.from_bytes(b"".join(made) + data[40:144] + wrong)
 
     def test_each_bit_of_an_entry(self):
-        """One that was changed is none, whichever it is."""
+        """One that was changed is no entry, whichever it is."""
         short = entry(A, 7, pair(5, register(9)), position=3, digest=b"d" * 32, answered=2)
         for it in (short, entry(A, 7, *[pair(5, register(9))] * 80)):
             self.each_bit_of(it.to_bytes())
@@ -494,8 +494,8 @@ class Copies(unittest.TestCase):
         return ran.returncode, ran.stdout, ran.stderr.decode()
 
     def test_the_script_of_a_copy(self):
-        """One that is damaged is told behind what is right. One that lacks its end, as where it was
-        copied while it was in use, is not."""
+        """One that is damaged is reported after what is right. One that lacks its end, for example
+        because it was copied while it was in use, is not."""
         pairs = [pair(number, register(number)) for number in range(1, 6)]
         self.assertEqual(self.script(self.folder), (0, b"".join(pairs), ""))
         said = "tb_replica: standard output: No space left on device\n"
@@ -553,7 +553,7 @@ class Copies(unittest.TestCase):
             os.kill(int(str(found.exception)), signal.SIGKILL)
 
     def test_the_hashes_of_a_server_that_writes_what_is_no_reply(self):
-        """It is ended and told, also where that has the length of a long reply, or comes behind the
+        """It is ended and reported, also if that has the length of a long reply, or comes after the
         last reply. It was waited for without an end."""
         wrong = "stdout.write(head[8:24] + b'x' * 32)"
         late = "stdout.write(b'x' * 10**6)"
@@ -640,7 +640,7 @@ class Replies(unittest.IsolatedAsyncioTestCase):
 
 
 def put(said, revision, key, value):
-    """Adds a change to what a watch says, as etcd does. Answers its key."""
+    """Adds a change to what a watch says, as etcd does. Returns its key."""
     pair = said.events.add().kv
     pair.key, pair.value, pair.create_revision, pair.mod_revision = key, value, revision, revision
     said.header.revision = revision
@@ -748,7 +748,7 @@ class Etcd(unittest.IsolatedAsyncioTestCase):
             await reading
 
     async def test_channels_that_were_left_are_closed(self):
-        """After a while, or at the end where that comes before; each once."""
+        """After a while, or at the end if that comes before; each once."""
         from tb_host import etcd
 
         for is_ended_before in (True, False):
@@ -803,7 +803,7 @@ class Etcd(unittest.IsolatedAsyncioTestCase):
             self.assertEqual(str(found.exception), f"{path}: is no text")
 
     async def test_the_leader_is_written_to(self):
-        """The one that is written to says who leads; where it says nothing, the next one does. One
+        """The one that is written to says who leads; if it says nothing, the next one does. One
         that takes itself for the leader is not asked."""
         from tb_host.etcd import EtcdLog, rpc
 
@@ -876,7 +876,7 @@ class Etcd(unittest.IsolatedAsyncioTestCase):
 
     async def test_what_a_disk_has_made_of_a_key(self):
         """An entry by another key is read. One with two revisions, and what is beyond the log's own
-        one, is none: it is read elsewhere."""
+        one, is no entry: it is read elsewhere."""
         from tb_host import etcd
 
         log, data = etcd.EtcdLog([("a", 1)], "bank", Access()), entry(A, 1).to_bytes()
@@ -1098,7 +1098,7 @@ class Etcd(unittest.IsolatedAsyncioTestCase):
             self.assertEqual(await log.reports(), {"r0": b"{}"})
 
     async def test_up_to_where_the_log_was_trimmed(self):
-        """What does not tell that is named. It ended each replica by a traceback."""
+        """What does not report that is named. It ended each replica by a traceback."""
         from tb_host.etcd import EtcdLog
 
         log = EtcdLog([("127.0.0.1", 1)], "bank", Access())
@@ -1206,7 +1206,7 @@ class PostgreSQL(unittest.IsolatedAsyncioTestCase):
         writer.close()
 
     async def _garbling(self, reader, writer):
-        """One whose answers are none."""
+        """One whose answers are not answers."""
         await self._greeted(reader, writer)
         await reader.read(1)
         writer.write(b"no message of PostgreSQL's")
@@ -1253,7 +1253,7 @@ class PostgreSQL(unittest.IsolatedAsyncioTestCase):
         self.assertEqual(found, ["1 of 2", "0 of 2"])
 
     async def test_a_primary_that_is_alone(self):
-        """The next address is tried. One without its standbys takes each connection, and answers
+        """The next address is tried. One without its standbys takes each connection, and replies
         nothing: it was called again and again, though another was the primary by then."""
         from tb_host import postgresql
 
@@ -1273,8 +1273,8 @@ class PostgreSQL(unittest.IsolatedAsyncioTestCase):
             server.close()
 
     async def test_why_no_address_is_connected(self):
-        """Each is told with its own fault. The last one's was, without a name: that of a standby,
-        where the primary is down."""
+        """Each is reported with its own fault. The last one's was reported, without a name: that of
+        a standby, while the primary is down."""
         from tb_host.postgresql import PostgresLog
 
         with contextlib.ExitStack() as held:
@@ -1328,7 +1328,7 @@ class PostgreSQL(unittest.IsolatedAsyncioTestCase):
             return await asyncio.wait_for(reading, 5)
 
     async def test_it_is_read_elsewhere(self):
-        """Where what was written is not read: a primary that was replaced and lives on was read
+        """If what was written is not read there: a primary that was replaced and lives on was read
         without an end."""
         found = await self.first_read([], [(1, b"an entry", "0/1")])
         self.assertEqual(found, Written(1, b"an entry"))
@@ -1343,7 +1343,7 @@ class PostgreSQL(unittest.IsolatedAsyncioTestCase):
         self.assertEqual(said, ["it is away"])
 
     async def test_a_disk_that_is_full_where_it_is_read(self):
-        """It is read again, and a part of the command tells it. Both ended by a traceback."""
+        """It is read again, and a part of the command reports it. Both ended by a traceback."""
         from tb_host.postgresql import errors
 
         with contextlib.redirect_stderr(io.StringIO()) as told:
@@ -1369,8 +1369,8 @@ class PostgreSQL(unittest.IsolatedAsyncioTestCase):
 
     @unittest.skipUnless(POSTGRES, "PostgreSQL is not installed")
     async def test_a_user_who_may_make_no_tables(self):
-        """The tables that are there are enough. It was refused for want of CREATE on the schema,
-        which PostgreSQL looks for first."""
+        """The tables that are there are enough. It was refused because CREATE on the schema was
+        missing, which PostgreSQL looks for first."""
         from tb_host.postgresql import PostgresLog
 
         with postgres() as folder:
@@ -1498,7 +1498,7 @@ class PostgreSQL(unittest.IsolatedAsyncioTestCase):
 
 
 class OverALog(unittest.IsolatedAsyncioTestCase):
-    """A replica over a log in memory, before a server that answers each pair."""
+    """A replica over a log in memory, before a server that replies to each pair."""
 
     kind = Copy
 
@@ -1625,7 +1625,7 @@ class Replicas(OverALog):
         self.assertEqual(str(found.exception), f"{self.folder}/log: Input/output error")
 
     async def test_a_server_that_writes_unasked(self):
-        """Also where what it started keeps its output open."""
+        """Also if what it started keeps its output open."""
         start = "import os, subprocess, time\n"
         sleeps = "subprocess.Popen(['sleep', '9'], start_new_session=True)\n"
         for more in ("", sleeps):
@@ -1655,8 +1655,8 @@ class Replicas(OverALog):
         await self.closed(it)
 
     async def test_nothing_is_taken_behind_a_fault(self):
-        """What comes behind it would get its position. A copy on a full disk then lacked an entry;
-        so did the replies, where the engine counts an entry as read when it was handed over."""
+        """What comes after it would get its position. A copy on a full disk then lacked an entry;
+        so did the replies, if the engine counts an entry as read when it was passed on."""
         it = await self.began()
         await self.asked(it, 6)
         position, right = self.copy.position, entry(A, 1, pair(1, register(5))).to_bytes()
@@ -1822,7 +1822,8 @@ class Replicas(OverALog):
         await self.closed(it)
 
     async def test_a_log_that_is_away_at_the_end(self):
-        """The last report leaves the server time to end: else that is killed, and said to be it."""
+        """The last report leaves the server time to end: otherwise that is killed, and said to be
+        it."""
         it = await self.began(slow=3.0)
         await self.asked(it, 6)
         with mock.patch.object(self.log, "report", lambda *_: asyncio.sleep(60)):
@@ -1893,7 +1894,7 @@ class Replicas(OverALog):
         self.assertEqual(await self.begins(self.made()), "Trimmed")
 
     async def test_a_beginning_that_no_trim_put(self):
-        """It is named where it contradicts the copy or the log. It was Trimmed, and an operator
+        """It is named if it contradicts the copy or the log. It was Trimmed, and an operator
         looked for a peer's copy."""
         it = self.made()
         one = entry(A, 1, pair(1, register(1)))
@@ -2004,7 +2005,8 @@ class Replicas(OverALog):
         self.assertEqual(self.told.getvalue().count("\n"), 1)
 
     async def answers(self, ahead):
-        """Another replica answers once that this one's clock is so many seconds ahead of its."""
+        """Another replica answers once that this one's clock is a number of seconds ahead of
+        its."""
         await self.answers_to(json.loads(self.log.kept["r0"])["hello"], ahead)
 
     async def answers_to(self, hello, ahead):
@@ -2043,8 +2045,8 @@ class Replicas(OverALog):
 
     @mock.patch.multiple(replica, CLOCK_AGAIN=0.01, ANSWERS=0.1)
     async def test_a_clock_that_is_ahead_at_a_boot(self):
-        """The replica serves once the clock was set, by moments of then; also where nobody answers
-        any more. It ended, and was not started again."""
+        """The replica serves once the clock was set, by moments of then; also if nobody answers any
+        more. It ended, and was not started again."""
         right = time.time_ns
         with mock.patch.object(time, "time_ns", lambda: right() + 1000 * 10**9):
             it = await self.meets()
@@ -2105,7 +2107,7 @@ class Replicas(OverALog):
 
     @mock.patch.multiple(replica, CLOCK_AGAIN=0.01, ANSWERS=0.05)
     async def test_an_answer_that_comes_late(self):
-        """Another replica answers a hello after others were said. It waited without end where no
+        """Another replica answers a hello after others were said. It waited without end if no
         answer came in its own round. One of long ago says nothing of the clock any more."""
         it = await self.meets()
         first = it.hello
@@ -2138,7 +2140,7 @@ class Replicas(OverALog):
 
     @mock.patch.multiple(replica, CLOCK_AGAIN=0.01, ANSWERS=0.1)
     async def test_two_that_begin_at_once(self):
-        """Each tells the other its clock, though neither serves yet."""
+        """Each sends the other its clock, though neither serves yet."""
         first, folder = await self.began(alone=False), self.folder
         runs = [self.running]
         await self.waits(first)
@@ -2154,7 +2156,7 @@ class Replicas(OverALog):
         await asyncio.wait_for(asyncio.gather(*runs, self.running), 20)
 
     async def test_the_engine_confirms_the_clock(self):
-        """If it tells a clock of its own."""
+        """If it has a clock of its own."""
         self.log.time = lambda: time.time_ns() - 50 * 10**9
         it = await self.began(alone=False)
         await self.asked(it, 6)
@@ -2184,7 +2186,7 @@ class Replicas(OverALog):
         await self.closed(it)
 
     async def test_reports_that_are_none(self):
-        """A replica passes them over. `status` and `trim` tell whose it is."""
+        """A replica skips them. `status` and `trim` report whose it is."""
         it = await self.began()
         given = argparse.Namespace(log="etcd://a/b", forget=[])
         self.log.full = mock.AsyncMock(return_value="")
@@ -2300,7 +2302,7 @@ class Rot(OverALog):
     PARTS.update({"session": 170, "operation": 180, "length": 184, "zeros": 190})
 
     def fill(self, count=3):
-        """Entries of a writer. Answers their bytes."""
+        """Entries of a writer. Returns their bytes."""
         data = [entry(A, it, pair(it, register(it))).to_bytes() for it in range(1, count + 1)]
         for it in data:
             self.log.put(it)
@@ -2445,7 +2447,7 @@ class Rot(OverALog):
             self.assertEqual(await self.ended(), "Rotten")
 
     async def test_a_copy(self):
-        """Each part of a record: the replica ends alone, by the name of its disk's fault."""
+        """Each part of a record: only this replica ends, by the name of its disk's fault."""
         it = await self.began()
         for client in (6, 7):
             await self.asked(it, client)
@@ -2486,7 +2488,7 @@ class Rot(OverALog):
 
     def lost(self, position):
         """A node has lost an entry of a writer's only one, before another one's; and an entry then
-        tells the hash of the log at a position."""
+        has the hash of the log at a position."""
         first, lost, other = (entry(it, 1, pair(1, register(it[0]))) for it in (A, B, b"c" * 16))
         digest = NOTHING
         for it in (first, lost, other)[:position]:
@@ -2503,8 +2505,8 @@ class Rot(OverALog):
         await self.goes_on()
 
     async def test_a_replica_that_has_another_log(self):
-        """It took an entry after one that its node had lost. It ends alone, whatever it is that
-        shows that."""
+        """It took an entry after one that its node had lost. Only this replica ends, whatever it is
+        that shows that."""
         for position in (2, 3):
             self.folder, self.log = f"{self.folder}-", MemoryLog()
             other = self.lost(position)
@@ -2855,7 +2857,7 @@ class Words(unittest.TestCase):
                 start = re.search(r"^ExecStart=\S+ -m (\S+) (.*)$", text, re.M)
                 found = taken[start[1]](shlex.split(start[2]))
                 self.assertTrue(found.log_json and found.status)
-                # a stop is for the host alone to hear: it lets its server answer, or ends it
+                # only the host is to hear a stop: it lets its server reply, or ends it
                 self.assertIn("\nKillMode=mixed\n", text)
                 self.assertIn("\nExecReload=/bin/kill -HUP $MAINPID\n", text)
                 # systemd gives up after five starts in ten seconds
@@ -2879,7 +2881,7 @@ class Words(unittest.TestCase):
             )
 
     def test_a_copy_of_a_part(self):
-        """Nothing is made of a folder without the log's head, or where nothing can be made."""
+        """Nothing is made of a folder without the log's head, or if nothing can be made."""
         with tempfile.TemporaryDirectory() as folder:
             source, to = f"{folder}/a", f"{folder}/b"
             copy = Copy(source)

@@ -64,8 +64,8 @@ CLOSED = f"tb_listen: user {os.geteuid()}: a connection is closed: "
 
 
 class Running:
-    """A listener as a process, before a server that keeps its ledger in a file where no other
-    command is given."""
+    """A listener as a process, before a server that keeps its ledger in a file if no other command
+    is given."""
 
     def __init__(self, *options, command=None, folder=None, fail=""):
         self.own = None if folder else tempfile.TemporaryDirectory()
@@ -196,7 +196,7 @@ def header(
 
 
 class FailsOnce:
-    """A connection of which one call, from 1, fails: before it is done, or behind."""
+    """A connection of which one call, from 1, fails: before it is done, or after it."""
 
     def __init__(self, at, is_done, error):
         self.left, self.is_done, self.error = at, is_done, error
@@ -419,7 +419,7 @@ class OverSockets(unittest.TestCase):
             self.assertGreater(struct.unpack_from("<Q", reply, 16)[0], 2)
 
     def test_who_is_told_busy_comes_later(self):
-        """A session pauses where it is told Busy, so that one of five attempts finds a place
+        """A session pauses if it gets Busy, so that one of five attempts finds a place
         that is free by then."""
         with Running("--connections", "1") as listener:
             first = listener.call()
@@ -546,7 +546,7 @@ class Ends(unittest.TestCase):
     """Servers that end, at each place and for each reason."""
 
     def sell(self, listener, count, begin=None):
-        """Moves 10 so many times, by the way that survives crashes of either side. Answers what
+        """Moves 10 a number of times, by the way that survives crashes of either side. Returns what
         was moved."""
         kept = os.path.join(listener.folder, "session.json")
         with Session.register(Socket(listener.address), 1) as session:
@@ -749,7 +749,7 @@ class Ends(unittest.TestCase):
                 self.assertEqual(said.read().splitlines()[-2], f"tb_listen: listens on {path}")
 
     def slow(self, folder, when, seconds=3):
-        """A server that takes some seconds more where a condition of the shell holds."""
+        """A server that takes some seconds more if a condition of the shell holds."""
         return ["sh", "-c", f'cd {folder}; {when} && sleep {seconds}; exec "$@"', "sh", *KEEPER]
 
     def starting(self, command, folder):
@@ -1039,7 +1039,7 @@ class Ends(unittest.TestCase):
                 )
 
     def test_a_server_that_writes_no_more_and_does_not_end(self):
-        """It is killed, also where it has closed its standard error too: it was waited for, and no
+        """It is killed, also if it has closed its standard error too: it was waited for, and no
         signal ended the listener."""
         for closed in (">&-", ">&- 2>&-"):
             command = ["sh", "-c", f"exec {closed}; sleep 60", "run"]
@@ -1112,7 +1112,7 @@ class Ends(unittest.TestCase):
                     self.assertTrue(os.path.exists(listener.path))
 
     def once_more(self, folder):
-        """A listener. The server of one that was killed just now may still have the file."""
+        """A listener. The server of one that was killed a moment ago may still have the file."""
         for _ in range(100):
             listener = Running(folder=folder)
             if "Locked" not in listener.said[0] and "in use" not in listener.said[0]:
@@ -1124,10 +1124,10 @@ class Ends(unittest.TestCase):
 
 
 class Example(unittest.TestCase):
-    """examples/sockets.py ends, and says why, where its work cannot go on."""
+    """examples/sockets.py ends, and says why, if its work cannot go on."""
 
     def waited(self, *clients, patience=20.0):
-        """What it says where these are its clients and nothing is done."""
+        """What it says if these are its clients and nothing is done."""
         started = [subprocess.Popen(words) for words in clients]
         with tempfile.TemporaryDirectory() as folder, Running(
             folder=folder
@@ -1313,7 +1313,7 @@ class Ahead(unittest.TestCase):
 
 
 class Frames(unittest.TestCase):
-    """Which frames are handed on: those at which the server would not end."""
+    """Which frames are passed on: those at which the server would not end."""
 
     def test_each_operation(self):
         for operation in range(256):
@@ -1634,7 +1634,7 @@ class Words(unittest.TestCase):
 
 class Clocks(unittest.TestCase):
     def moments(self, clocks, last=0):
-        """The moments that are given while the two clocks, in seconds, stand so."""
+        """The moments that are given while the two clocks, in seconds, are so."""
         wall, running = (iter(it) for it in zip(*clocks))
         moments = Moments(
             int(last * 10**9),
@@ -1764,7 +1764,7 @@ class Sockets(unittest.TestCase):
             server.join()
 
     def answered(self, *answers, timeout=0.5):
-        """What an exchange raises where the server answers so and closes."""
+        """What an exchange raises if the server replies so and closes."""
         with tempfile.TemporaryDirectory() as folder, socket.socket(
             socket.AF_UNIX, socket.SOCK_STREAM
         ) as place:

@@ -95,7 +95,7 @@ class Pipes(unittest.IsolatedAsyncioTestCase):
         it.close()
 
     async def test_a_write_beyond_the_limit_of_a_file(self):
-        """It fails, and the server tells why. A signal ended it, and it was started again."""
+        """It fails, and the server reports why. A signal ended it, and it was started again."""
         with test_listen.tempfile.NamedTemporaryFile() as file:
             script = f"ulimit -f 0; exec dd if=/dev/zero of={file.name} bs=4096 count=1"
             _, said, status = await process.finished(pipes.started(["sh", "-c", script]))
@@ -106,7 +106,7 @@ class Counting(unittest.IsolatedAsyncioTestCase):
     """The commits of a process that writes as tbd does: see test_access for tbd itself."""
 
     async def counted(self, script, file):
-        """What is counted of a script that tells when it is ready and then waits for a byte."""
+        """What is counted of a script that reports when it is ready and then waits for a byte."""
         begin = "import os, sys, time\nout = os.open(sys.argv[1], os.O_RDWR | os.O_CREAT)\n"
         words = [sys.executable, "-SEc", begin + script, file]
         it, counts = pipes.started(words), Commits(file)
@@ -149,7 +149,7 @@ class Counting(unittest.IsolatedAsyncioTestCase):
                 os.unlink(file)
 
     async def test_what_is_not_known(self):
-        """The number of commits is none where the file or the system's counts cannot be read."""
+        """The number of commits is None if the file or the system's counts cannot be read."""
         it = pipes.started(["sleep", "60"])
         self.assertIsNone(Commits(None).look())
         for counts in (Commits(None), Commits("/nowhere/at/all")):
@@ -166,7 +166,7 @@ class Counting(unittest.IsolatedAsyncioTestCase):
 
 class Loops(unittest.TestCase):
     def test_which_loop_is_taken(self):
-        """uvloop where it is there, and asyncio's where that is asked for."""
+        """uvloop if it is there, and asyncio's if that is asked for."""
         script = "import asyncio\nfrom tb_host.loops import run\nasync def tell():\n"
         script += "    print(type(asyncio.get_running_loop()).__module__)\nrun(tell())"
         words = [sys.executable, "-B", "-c", script]

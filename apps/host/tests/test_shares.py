@@ -66,7 +66,8 @@ class OfAPeer(unittest.TestCase):
         self.assertEqual(list(it.used["a"]), [1, 3])
 
     def test_requests(self):
-        """A second's requests at once, a second's more that wait, and so many in each second."""
+        """A second's requests at once, a second's more that wait, and a number of them in each
+        second."""
         it = self.shares(requests=10)
         for _ in range(11):
             self.assertAlmostEqual(it.wait("a", 100), 0)
@@ -84,7 +85,7 @@ class OfAPeer(unittest.TestCase):
         self.assertIn(taken, (9, 10, 11), "ten in a second")
 
     def test_calls(self):
-        """A connection takes turns, where requests do, and none where the peer has its number."""
+        """A connection takes turns, as requests do, and no turn if the peer has its number."""
         it = self.shares(connections=1, requests=8)
         for _ in range(5):
             it.call("a", 4)
@@ -109,7 +110,7 @@ class OfAPeer(unittest.TestCase):
         self.assertAlmostEqual(it.wait("a", 100), 0.28)
 
     def test_long_requests(self):
-        """One that counts as 65, also where a second has fewer."""
+        """One that counts as 65, also if a second has fewer."""
         it = Turns(10)
         self.assertEqual(it.wait(65, 1000.0), 0.0)
         with self.assertRaises(Told):
@@ -144,7 +145,7 @@ class OfAPeer(unittest.TestCase):
 
 
 class InAMoment(unittest.TestCase):
-    """Refusals that go the long way, short ones, and none until the moment is over."""
+    """Refusals that go the long way, short ones, and no refusals until the moment is over."""
 
     def test_refusals(self):
         clock = Clock()
@@ -238,7 +239,7 @@ class OverSockets(unittest.TestCase):
             self.assertIn(": a connection is closed: TooManyRequests", listener.tells())
 
     def test_a_session_pauses(self):
-        """Where it is told that its peer takes too much, as after Busy."""
+        """If it is told that its peer takes too much, as after Busy."""
         with Running("--tcp", "127.0.0.1:0", "--sessions-per-range", "1") as listener:
             Session.register(Socket(listener.address)).close()
             with self.assertRaises(tb.Busy) as found:

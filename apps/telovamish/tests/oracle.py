@@ -90,7 +90,7 @@ def compare(found: Found) -> None:
 
 
 def at_difference(wanted: Answer, got: Answer) -> str:
-    """Where two answers differ."""
+    """The place at which two answers differ."""
     name = next(it for it in Answer._fields if getattr(wanted, it) != getattr(got, it))
     a, b = str(getattr(wanted, name)), str(getattr(got, name))
     place = next((at for at, (x, y) in enumerate(zip(a, b)) if x != y), min(len(a), len(b)))

@@ -111,7 +111,7 @@ def copied(folder: str) -> pathlib.Path:
 
 
 def found_by(file: str, old: str, new: str, tests: str) -> str:
-    """The first test that fails with a bug; nothing if none does."""
+    """The first test that fails with a bug; nothing if no test does."""
     with tempfile.TemporaryDirectory() as folder:
         app = copied(folder)
         source = app / "src" / "telovamish" / f"{file}.py"

@@ -58,7 +58,7 @@ class Terminal:
         return cleaned(self.raw)
 
     def wait(self, text: str, seconds: float = 30) -> str:
-        """What is shown up to a text, since the last one that was waited for."""
+        """What is shown up to a text, after the last one that was waited for."""
         end = time.monotonic() + seconds
         while (at := self.shown.find(text, self.seen)) < 0:
             if time.monotonic() > end:

@@ -81,7 +81,7 @@ def test_addresses():
     assert places("[::1]:3999") == [("::1", 3999)]
     assert places("run/ledger.sock") == ["run/ledger.sock"]
     assert places("a/b:7") == ["a/b:7"]
-    assert places("ledger.sock") == [("ledger.sock", 3001)]  # a host alone
+    assert places("ledger.sock") == [("ledger.sock", 3001)]  # only a host
     for wrong in ("70000", "a:b:7"):
         with pytest.raises(Fault, match="^--connect: "):
             over(wrong, None)

@@ -1,4 +1,4 @@
-"""The reader of statements: what a text means, where it goes wrong, what may stand there."""
+"""The reader of statements: what a text means, where it goes wrong, what may come there."""
 from __future__ import annotations
 
 import os

@@ -39,8 +39,8 @@ class Answer(NamedTuple):
 
 
 def answer_of(path: str, question: str, words: Mapping[str, str], at: Sequence[float]) -> Answer:
-    """Answers a question, once the tables have a commit; `at` has it, and for how many seconds it
-    is waited for."""
+    """Gives a question's answer, once the tables have a commit; `at` has it, and for how many
+    seconds it is waited for."""
     try:
         wanted = filter_of(question, words)
     except ValueError as error:

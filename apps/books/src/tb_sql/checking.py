@@ -58,7 +58,7 @@ def check_tables(given: argparse.Namespace) -> int:
 
 
 def checked(connection: sqlite3.Connection, given: argparse.Namespace) -> str:
-    """What was compared; the first difference is raised, also where it is no number."""
+    """What was compared; the first difference is raised, also if it is not a number."""
     before = write_time(connection, given.file)
     tables = Tables(connection)
     try:
@@ -236,7 +236,7 @@ class Moment:
         )
 
     def account(self, id: Number) -> Optional[Sums]:
-        """What a lookup of an account answers then."""
+        """What a lookup of an account returns then."""
         row = self.connection.execute(
             "SELECT user_data_128, user_data_64, user_data_32, ledger, code, flags, timestamp"
             " FROM accounts WHERE id = ? AND timestamp <= ?",
@@ -306,7 +306,7 @@ class Server:
             raise Failed(f"{self.given.server}: {type(error).__name__}: {error}") from None
 
     def _reach(self, commit: int) -> None:
-        """Waits until the tables have an entry, and loads them where a ledger is given."""
+        """Waits until the tables have an entry, and loads them if a ledger is given."""
         deadline = time.monotonic() + self.given.wait
         while self._position() < commit:
             if self.given.ledger:

@@ -38,8 +38,8 @@ STATUSES = """Exit status: 0 done; 1 a file, a program or a database failed, or 
 difference; 2 the input or the words are wrong."""
 
 
-# Rows are freed without a search for cycles, of which they have none: it would take a quarter of a
-# load's time.
+# Rows are freed without a search for cycles, because they have no cycles: it would take a quarter
+# of a load's time.
 GARBAGE = 500_000
 
 

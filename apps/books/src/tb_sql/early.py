@@ -12,8 +12,8 @@ INTERRUPTED = 130
 
 
 def end_by(is_endless: bool, handler: Callable[..., Any]) -> None:
-    """Has SIGINT call this handler, where it is not ignored; and SIGTERM, of what is endless: what
-    ends by a signal alone."""
+    """Has SIGINT call this handler, if it is not ignored; and SIGTERM too for what is endless,
+    which only a signal ends."""
     for number in (signal.SIGINT, signal.SIGTERM) if is_endless else (signal.SIGINT,):
         if signal.getsignal(number) != signal.SIG_IGN:
             signal.signal(number, handler)

@@ -25,7 +25,7 @@ Values = List[Any]
 
 
 class Operation(NamedTuple):
-    """A question: the fields of its filter, their flags, and what answers it."""
+    """A question: the fields of its filter, their flags, and the function for it."""
 
     fields: Mapping[str, int]
     flags: Mapping[str, int]
@@ -39,7 +39,7 @@ def has_right_times(wanted: Mapping[str, int]) -> bool:
 
 
 def is_account_filter(wanted: Mapping[str, int]) -> bool:
-    """Whether TigerBeetle answers a filter by more than nothing."""
+    """Whether TigerBeetle returns anything for a filter."""
     sides = wanted["flags"] & 3
     is_known = wanted["flags"] <= sum(ACCOUNT_FLAGS.values())
     has_account = 0 < wanted["account_id"] < U128
@@ -74,7 +74,7 @@ def limit_of(wanted: Mapping[str, int]) -> int:
 
 def rows_of_account(reading: Reading, wanted: Mapping[str, int]) -> List[Row]:
     """The transfers of an account: those that moved money by its postings, and pending ones and
-    voids by indexes of their own. Each part has its limit, so that none reads more."""
+    voids by indexes of their own. Each part has its limit, so that no part reads more."""
     where, values = tests_of(wanted, [*USER_DATA, "code"])
     order, limit, id = order_of(wanted, 4), limit_of(wanted), held(wanted["account_id"])
     sides = [it for it in ("debit", "credit") if wanted["flags"] & ACCOUNT_FLAGS[f"{it}s"]]
@@ -127,7 +127,7 @@ def get_account_balances(reading: Reading, wanted: Mapping[str, int]) -> List[Sh
 
 
 def query(kind: str) -> Callable[[Reading, Mapping[str, int]], List[Shown]]:
-    """What answers query_accounts or query_transfers."""
+    """What query_accounts or query_transfers returns."""
     shown = account_shown if kind == "accounts" else transfer_shown
 
     def answer(reading: Reading, wanted: Mapping[str, int]) -> List[Shown]:

@@ -34,7 +34,7 @@ class Source:
         """What is done before more is awaited: nothing here."""
 
     def read(self, length: int) -> bytes:
-        """So many bytes; fewer where the stream ends."""
+        """The next bytes, as many as are asked for; fewer if the stream ends."""
         end = self._at + length
         if end > len(self._data):
             self._fill(length)

@@ -1,4 +1,4 @@
-"""Enters a history into a database, from where that is."""
+"""Enters a history into a database, from the position that the database has."""
 
 from __future__ import annotations
 
@@ -20,7 +20,7 @@ Store = Union[SqliteStore, PostgresStore]
 
 EVENTS_MAX = 40_000  # of a transaction, and those of the entry that reaches it
 STALE = 1.0  # seconds after which what is whole is written, though more comes
-RARELY = 20  # a write comes no sooner than after so many times the time that the last one took
+RARELY = 20  # a write comes no sooner than after this many times the time that the last one took
 
 
 def is_postgresql(name: str) -> bool:
@@ -71,7 +71,7 @@ class Loading:
         )
 
     def read(self, steps: Iterable[Step], tell: Callable[[], None] = lambda: None) -> None:
-        """Enters items to their end. What is whole is written, also where the input fails."""
+        """Enters items to their end. What is whole is written, also if the input fails."""
         written, took = time.monotonic(), 0.0
         try:
             for step in steps:
@@ -109,7 +109,7 @@ class Loading:
         )
 
     def write(self) -> None:
-        """Writes what was entered since the last time."""
+        """Writes what was entered after the last write."""
         position, before = self._position, self._before
         if position is None or self._rows is None:
             return

@@ -71,7 +71,7 @@ class Names:
                     yield field, f"{field}_written", written
 
     def for_table(self, records: Sequence[Shown], ledger: Optional[Number] = None) -> List[Shown]:
-        """Records with names, and with amounts as they are written before each exact integer. Where
+        """Records with names, and with amounts as they are written before each exact integer. If
         records name no ledger, they are of this one."""
         widths = {it: max(len(row[it]) for row in records) for it in AMOUNTS if it in records[0]}
         found: List[Shown] = []
@@ -97,7 +97,7 @@ class Names:
 
 
 def decimal(value: int, places: int) -> str:
-    """A number with commas, and so many digits after the point."""
+    """A number with commas, and a number of digits after the point."""
     digits = str(abs(value)).rjust(places + 1, "0")
     whole, part = (digits[:-places], "." + digits[-places:]) if places else (digits, "")
     return f"{'-' if value < 0 else ''}{int(whole):,}{part}"
@@ -164,7 +164,7 @@ def row_of(kind: str, number: str, value: Any) -> Row:
 
 
 def line_of(text: str, keys: Sequence[str]) -> int:
-    """The line where these keys are given, or the last one of them that is found."""
+    """The line at which these keys are given, or the last one of them that is found."""
     table: List[str] = []
     found, depth = 1, 0
     for number, line in enumerate(text.splitlines(), 1):

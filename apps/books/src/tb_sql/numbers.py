@@ -51,8 +51,8 @@ TIME = re.compile(
 
 
 def time_of(text: str, is_end: bool = False) -> int:
-    """The nanoseconds since 1970 of a date or a time in UTC. A date alone is its first moment, or
-    as an end the first moment of the next day."""
+    """The nanoseconds since 1970 of a date or a time in UTC. A date without a time is its first
+    moment, or as an end the first moment of the next day."""
     found = TIME.fullmatch(text.strip())
     if not found:
         raise ValueError(f"{text!r} is no date, such as 2026-11-26 or 2026-11-26T10:00:00Z")
@@ -65,7 +65,7 @@ def time_of(text: str, is_end: bool = False) -> int:
 
 
 def id_of(text: str) -> Number:
-    """An id that a person typed: decimal digits, or hexadecimal ones behind 0x."""
+    """An id that a person typed: decimal digits, or hexadecimal ones after 0x."""
     plain = text.strip().replace("_", "").replace(",", "")
     if re.fullmatch(r"0[xX][0-9a-fA-F]{1,32}", plain):
         return held(int(plain, 16))

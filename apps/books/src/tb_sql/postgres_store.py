@@ -26,7 +26,7 @@ def psycopg_module() -> Any:
 
 def error_text(error: Any) -> str:
     """What the database says, in one line: its message and the detail, without the place in a
-    statement. A connection that fails has words alone."""
+    statement. A connection that fails has only words."""
     found = [it for it in (error.diag.message_primary, error.diag.message_detail) if it]
     return " ".join((": ".join(found) or str(error)).split())
 
@@ -39,7 +39,7 @@ class PostgresStore:
         self.path = url.partition("?")[0].rpartition("@")[2]
         self.is_new = False
         try:
-            # of a database in SQL_ASCII, whose texts would else come as bytes
+            # of a database in SQL_ASCII, whose texts would otherwise come as bytes
             self._connection = self._psycopg.connect(url, autocommit=True, client_encoding="UTF8")
             try:
                 self._look()
@@ -70,7 +70,7 @@ class PostgresStore:
         self._connection.close()
 
     def _asked(self, text: str, *values: Any) -> Any:
-        """The rows that the database answers."""
+        """The rows that the database returns."""
         try:
             return self._connection.execute(text, values)
         except self._psycopg.Error as error:
@@ -80,7 +80,7 @@ class PostgresStore:
         return Failed(f"{self.path}: {error_text(error)}")
 
     def position(self) -> Optional[Position]:
-        """How far the tables are; nothing where there are none."""
+        """How far the tables are; nothing if there are no tables."""
         if self.is_new:
             return None
         row = self._asked(
@@ -100,7 +100,7 @@ class PostgresStore:
 
     def write(self, changes: Changes, position: Position, before: Optional[Position]) -> None:
         """Writes rows and the position that they lead to, in one transaction. Raises `ValueError`
-        where one of them cannot be there."""
+        if one of them cannot be there."""
         try:
             with self._connection.transaction():
                 cursor = self._connection.cursor()

@@ -90,6 +90,6 @@ class Split:
 
 
 def _end(pattern: "re.Pattern[bytes]", data: bytes) -> int:
-    """Where what matches at the beginning of some bytes ends."""
+    """The end of what matches at the beginning of some bytes."""
     found = pattern.match(data)
     return found.end() if found else 0

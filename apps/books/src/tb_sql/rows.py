@@ -20,7 +20,7 @@ from .errors import AGAIN, Refused
 from .numbers import HISTORY, INTEGER_END, PENDING, POST, VOID, Number, held
 
 Row = List[Any]
-Found = Optional[Sequence[Any]]  # a row that a database answers
+Found = Optional[Sequence[Any]]  # a row that a database returns
 
 TRANSFER_MADE = 14  # columns of a transfer that stay as they were made
 Facts = Iterable[Fact]

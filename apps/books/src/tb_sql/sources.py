@@ -1,4 +1,4 @@
-"""Where a history comes from: a dump on standard input, or a kept ledger's file by `tbd dump`.
+"""The source of a history: a dump on standard input, or a kept ledger's file by `tbd dump`.
 `tbs replay` gives the reply to each entry."""
 
 from __future__ import annotations
@@ -32,7 +32,7 @@ class Programs(NamedTuple):
 
 
 def end_with_parent() -> None:
-    """Has the system end this process when the one that started it has ended, where it can: a
+    """Has the system end this process when the one that started it has ended, if it can: a
     program that follows a file would wait for its next entry."""
     try:
         ctypes.CDLL(None).prctl(END_WITH_PARENT, signal.SIGTERM)

@@ -17,7 +17,7 @@ PATIENCE = 30.0  # seconds, for another process that writes
 
 
 def connect_read_only(path: str) -> sqlite3.Connection:
-    """A connection that cannot write. Where its folder cannot be written either, the file is read
+    """A connection that cannot write. If its folder cannot be written either, the file is read
     as one that nobody changes, if nobody does."""
     if not os.path.exists(path):
         raise Failed(f"there is no file {path}: tb-sql load makes it")
@@ -111,7 +111,7 @@ class SqliteStore:
         self._connection.close()
 
     def position(self) -> Optional[Position]:
-        """How far the tables are; nothing where there are none."""
+        """How far the tables are; nothing if there are no tables."""
         return None if self.is_new else Position.of(self.path, position_row(self._connection))
 
     def write_names(self, rows: Sequence[Sequence[Any]]) -> None:
@@ -123,7 +123,7 @@ class SqliteStore:
 
     def write(self, changes: Changes, position: Position, before: Optional[Position]) -> None:
         """Writes rows and the position that they lead to, in one transaction. Raises `ValueError`
-        where one of them cannot be there."""
+        if one of them cannot be there."""
         if self._file() != self._opened:
             raise Failed(f"{self.path} was deleted or replaced meanwhile: load again")
         try:

@@ -44,8 +44,8 @@ class Books:
         return Completer(known)
 
     def answered(self, parts: Iterator[bytes], printer: Printer, desk: Desk) -> Iterator[bytes]:
-        """The parts of a text without its questions. Each is answered when what comes before it was
-        served: the next part is asked for then. Without tables all parts are statements."""
+        """The parts of a text without its questions. Each is served after what comes before it: the
+        next part is asked for then. Without tables all parts are statements."""
         return parts if self.tables is None else self._answered(parts, printer, desk)
 
     def _answered(self, parts: Iterator[bytes], printer: Printer, desk: Desk) -> Iterator[bytes]:

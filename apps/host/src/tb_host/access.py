@@ -63,7 +63,7 @@ class Access:
         self.users, self.ranges = users, ranges
 
     def peer(self, transport: asyncio.BaseTransport) -> Peer:
-        """Who connected. Raises `Told` where they may not."""
+        """Who connected. Raises `Told` if they may not."""
         it: Any = transport.get_extra_info("socket")
         if it.family == socket.AF_UNIX:
             uid = _user_of(it)
@@ -84,7 +84,7 @@ class Access:
         return found
 
     def test(self, peer: Peer, client: int) -> None:
-        """Raises `Told` where a client id is not this peer's, who may be in the file no more."""
+        """Raises `Told` if a client id is not this peer's, who may be in the file no more."""
         if self.ranges is None:
             return
         if peer.key not in self.ranges:
@@ -128,7 +128,7 @@ def _common_name(certificate: Any) -> str:
 
 
 def access_of(given: argparse.Namespace) -> Access:
-    """What the options say. Raises `Ended` where the file of client ids is wrong."""
+    """What the options say. Raises `Ended` if the file of client ids is wrong."""
     users = frozenset([os.geteuid(), *(given.allow_uid or ())])
     return Access(users, _ranges_of(given.clients) if given.clients else None)
 
@@ -159,7 +159,7 @@ def _ranges_of(file: str) -> Dict[Tuple[str, object], int]:
 
 
 def _range_in(words: list[str]) -> Tuple[Tuple[str, object], int]:
-    """What a line says. Raises `ValueError` where it says nothing that is known."""
+    """What a line says. Raises `ValueError` if it says nothing that is known."""
     if len(words) != 3 or words[0] not in ("certificate", "user"):
         raise ValueError("a line is `certificate NAME NUMBER` or `user NAME NUMBER`")
     kind, name, number = words

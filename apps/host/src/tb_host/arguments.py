@@ -53,7 +53,7 @@ def ahead(text: str) -> float:
 
 
 def add_places(parser: argparse.ArgumentParser) -> None:
-    """Adds the options of where connections are taken, and how many."""
+    """Adds the options of the places at which connections are taken, and how many."""
     parser.add_argument(
         "--unix",
         metavar="PATH",
@@ -95,7 +95,7 @@ def add_times(parser: argparse.ArgumentParser) -> None:
 
 
 def settle_places(given: argparse.Namespace) -> None:
-    """Takes the usual place where none is given."""
+    """Takes the usual place if no place is given."""
     if not given.unix and not given.tcp:
         given.tcp = ("127.0.0.1", 3001)
 

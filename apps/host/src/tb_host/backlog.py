@@ -1,4 +1,4 @@
-"""What a replica keeps of the log where its server has the ledger in a file: the entries that the
+"""What a replica keeps of the log if its server has the ledger in a file: the entries that the
 server has not answered yet, in memory, and a checkpoint.
 
 The file `checkpoint` has a position that the server had answered, and so has in its file; with its
@@ -42,7 +42,7 @@ class Checkpoint:
 
     @classmethod
     def from_bytes(cls, data: bytes) -> Checkpoint:
-        """Raises `ValueError` where these bytes are none."""
+        """Raises `ValueError` if these bytes are not a checkpoint."""
         checksum, _, text = data.rstrip(b"\n").partition(b" ")
         if int(checksum, 16) != zlib.crc32(text):
             raise ValueError("its checksum is wrong")
@@ -50,7 +50,7 @@ class Checkpoint:
 
 
 def checkpoint_of(folder: str) -> Optional[bytes]:
-    """The checkpoint of a folder. None where there is none."""
+    """The checkpoint of a folder. None if there is no checkpoint."""
     with contextlib.suppress(FileNotFoundError):
         with open(os.path.join(folder, "checkpoint"), "rb") as file:
             return file.read()
@@ -71,8 +71,8 @@ def put_checkpoint(folder: str, data: bytes) -> None:
 
 
 def copied_checkpoint(source: str, folder: str) -> Optional[Tuple[int, int]]:
-    """Makes a checkpoint in an empty folder from another replica's. Answers its position and its
-    place; None where the other one has no checkpoint."""
+    """Makes a checkpoint in an empty folder from another replica's. Returns its position and its
+    place; None if the other one has no checkpoint."""
     data = checkpoint_of(source)
     if data is None:
         return None
@@ -103,7 +103,7 @@ class Held:
 
 
 class Backlog(Taken):
-    """The entries behind a checkpoint, in a folder that is one replica's alone."""
+    """The entries after a checkpoint, in a folder that belongs to only one replica."""
 
     def __init__(self, folder: str) -> None:
         super().__init__(folder)
@@ -117,7 +117,7 @@ class Backlog(Taken):
         self.file = opened_alone(folder, "lock")
 
     def scan(self) -> None:
-        """Goes on behind the checkpoint, where there is one."""
+        """Goes on after the checkpoint, if there is one."""
         data = checkpoint_of(self.folder)
         if data is not None:
             try:

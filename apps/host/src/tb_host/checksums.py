@@ -1,4 +1,4 @@
-"""CRC-32C, by the library of e2fsprogs where it is there."""
+"""CRC-32C, by the library of e2fsprogs if it is there."""
 from __future__ import annotations
 
 import ctypes

@@ -23,9 +23,9 @@ from .pipes import READ, Process
 from .process import ServerProcess, came, end_of, finished, first, kill, last_line, started
 
 EMPTY = 13  # bytes below which a journal's file has no entry
-PROGRESS = "--progress"  # the word that has `tbd run` tell when it serves
+PROGRESS = "--progress"  # the option that has `tbd run` report when it serves
 EXISTING = "--existing"  # the word that has it make no file
-# what it tells besides faults
+# what it reports besides faults
 READY = r"(ready)(?:: commit [0-9]+, time [0-9]+)?$"
 NEWS = re.compile(rf"[\w./-]+: (?:made |reading |copied |cut |{READY})")
 PATIENCE = 1.0  # seconds for which a request waits for a server that is started again
@@ -33,8 +33,8 @@ PATIENCE = 1.0  # seconds for which a request waits for a server that is started
 
 def journal_at(words: Sequence[str], form: str = "run") -> Optional[int]:
     """Which word of a command is the file that it keeps its ledger in: FILE of `run FILE
-    CLIENTS_MAX [PROFILE] [--existing] [--progress]` at its end, or of another form. None where
-    there is no such word, as in `tbs run CLIENTS_MAX [PROFILE]`."""
+    CLIENTS_MAX [PROFILE] [--existing] [--progress]` at its end, or of another form. None if there
+    is no such word, as in `tbs run CLIENTS_MAX [PROFILE]`."""
     for _ in range(2):
         words = words[:-1] if words[-1:] in ([PROGRESS], [EXISTING]) else words
     for at in (len(words) - 2, len(words) - 3):
@@ -49,13 +49,13 @@ def journal_at(words: Sequence[str], form: str = "run") -> Optional[int]:
 
 
 async def last_time(words: Sequence[str], at: int) -> int:
-    """The last time of a ledger, in nanoseconds, as `check FILE` tells it. 0 where no entry is
-    there."""
+    """The last time of a ledger, in nanoseconds, as `check FILE` reports it. 0 if there is no
+    entry."""
     try:
         if os.stat(words[at]).st_size < EMPTY:
             return 0
     except OSError:
-        return 0  # `run` makes the file, or tells why it cannot
+        return 0  # `run` makes the file, or reports why it cannot
     output, told, status = await finished(started([*words[: at - 1], "check", words[at]]))
     if status:
         raise Ended(last_line(told) or f"{words[0]} ended {end_of(status)}", max(status, 0) or 1)
@@ -107,8 +107,8 @@ class Command(ServerProcess):
         await super().run()
 
     async def _look(self) -> None:
-        """Takes moments that go on where the ledger is. Raises `Ended` where it lies ahead of the
-        clock, and more than was allowed."""
+        """Takes moments that go on where the ledger is. Raises `Ended` if it is ahead of the clock,
+        and more than was allowed."""
         last = 0 if self.file_at is None else await last_time(self.words, self.file_at)
         is_ahead = (last - time.time_ns()) / SECOND
         if is_ahead > self.ahead:
@@ -146,7 +146,7 @@ class Command(ServerProcess):
             self.ready.set()
 
     def committed(self) -> Optional[int]:
-        """How many commits were made, where that is known."""
+        """How many commits were made, if that is known."""
         return self.commits.look()
 
     def lost(self) -> None:
@@ -171,7 +171,7 @@ class Command(ServerProcess):
         if self.keeps:
             await self.ready.wait()
             if self.is_over:
-                await asyncio.Event().wait()  # its end is seen where it runs
+                await asyncio.Event().wait()  # its end is seen in the place that runs it
 
     async def read_replies(self, process: Process, stdout: asyncio.StreamReader) -> None:
         """Brings each reply to who asked for it, until there are no more."""
@@ -189,7 +189,7 @@ class Command(ServerProcess):
             raise Ended(f"{self.words[0]} wrote what is no reply to a request that it was given", 1)
 
     def _take(self, data: bytes) -> int:
-        """Takes the replies that are whole. Answers where they end: -1 where one is none to a
+        """Takes the replies that are whole. Returns where they end: -1 if one is not the reply to a
         request that waits."""
         at, waiting = 0, self.waiting
         while len(data) - at >= HEADER:
@@ -204,7 +204,7 @@ class Command(ServerProcess):
         return at
 
     def _tell(self, answered: Answered, reply: bytes, why: str) -> None:
-        """Answers one request, whose fault is no fault of others."""
+        """Serves one request, whose fault is no fault of others."""
         try:
             answered(reply, why)
         except Exception as error:
@@ -212,8 +212,9 @@ class Command(ServerProcess):
             self.loop.call_exception_handler({"message": said, "exception": error})
 
     def ask_soon(self, frame: bytes, answered: Answered) -> Abandon:
-        """Asks for the reply to a request. `answered` gets it, or why there is none: the command
-        ended before it came, or does not serve again soon. What the command was given goes on."""
+        """Asks for the reply to a request. `answered` gets it, or why there is no reply: the
+        command ended before it came, or does not serve again soon. What the command was given goes
+        on."""
         process = self.process
         if process is None or not self.ready.is_set() or not process.stdin.has_room.is_set():
             later = asyncio.ensure_future(self._ask_later(frame, answered))

@@ -19,7 +19,7 @@ LATCH = 4  # bytes of a latch
 
 
 def _bytes_written(process: int) -> Optional[int]:
-    """How many bytes a process has written, where the system tells it."""
+    """How many bytes a process has written, if the system reports it."""
     try:
         with open(f"/proc/{process}/io", "rb") as file:
             found = re.search(rb"^wchar: ([0-9]+)$", file.read(), re.M)
@@ -38,7 +38,7 @@ def is_asleep(process: int) -> bool:
 
 
 class Commits:
-    """The commits of a server since this host runs, over all its processes."""
+    """The commits of a server from this host's start on, over all its processes."""
 
     def __init__(self, file: Optional[str]) -> None:
         self.file = file
@@ -52,9 +52,9 @@ class Commits:
         """What the process has written beyond its pipes and the length of its file."""
         if self.file is None or self.process is None:
             return None
-        written = _bytes_written(self.process.pid)  # first: so no later byte is counted here alone
+        written = _bytes_written(self.process.pid)  # first: so no later byte is counted only here
         told = self.process.told.written()
-        if written is None or written < told:  # another process writes, as behind a shell
+        if written is None or written < told:  # another process writes, as under a shell
             return None
         try:
             length = os.stat(self.file).st_size
@@ -71,12 +71,12 @@ class Commits:
         self.first = first or 0
 
     def end(self) -> None:
-        """The process has ended. The system still tells what it wrote."""
+        """The process has ended. The system still reports what it wrote."""
         self.look()
         self.ended, self.now, self.process = self.ended + self.now, 0, None
 
     def look(self) -> Optional[int]:
-        """The number of commits, where it is known."""
+        """The number of commits, if it is known."""
         if self.process is not None and self.is_known:
             beyond = self._beyond()
             if beyond is not None:

@@ -22,7 +22,7 @@ from .process import came
 from .refusals import COST, Refusals
 from .shares import CALL, TLS_CALL, Shares
 
-READ_AHEAD = 1 << 16  # bytes that are read of a connection beyond the request that is answered
+READ_AHEAD = 1 << 16  # bytes that are read of a connection beyond the request that is being served
 PIECE = 1 << 12  # bytes, of which those that come in smaller pieces are put together
 # seconds for which a client that is told why may still send, so that it reads why and is not cut
 # off before
@@ -43,10 +43,10 @@ def nothing() -> None:
 
 
 class Asked(Protocol):
-    """What answers requests."""
+    """What serves requests."""
 
     def ask_soon(self, frame: bytes, answered: Answered) -> Abandon:
-        """Asks for the reply to a request. `answered` gets it, or why there is none. What is
+        """Asks for the reply to a request. `answered` gets it, or why there is no reply. What is
         returned has the request no longer wait for its turn: then it gets neither."""
 
 
@@ -66,7 +66,7 @@ class Connection(asyncio.Protocol):
         self.has_share = False  # it counts among those of its peer
         self.abandon: Abandon = nothing  # what is asked for
 
-    # what the loop tells
+    # what the loop reports
 
     def connection_made(self, transport: Any) -> None:
         self.transport = transport
@@ -153,7 +153,7 @@ class Connection(asyncio.Protocol):
             self._read_on()
 
     def _begin(self, data: bytes) -> None:
-        """Takes the header of a request. Raises `Told` where it has a fault or is not allowed."""
+        """Takes the header of a request. Raises `Told` if it has a fault or is not allowed."""
         listener = self.listener
         assert self.peer is not None
         fault = request_fault(data)
@@ -194,7 +194,7 @@ class Connection(asyncio.Protocol):
             self.abandon = abandon
 
     def answered(self, reply: bytes, fault: str) -> None:
-        """Passes the reply on, or tells why there is none."""
+        """Passes the reply on, or reports why there is no reply."""
         self.abandon = nothing
         if reply:
             now = time.monotonic()
@@ -244,8 +244,8 @@ class Connection(asyncio.Protocol):
         return "Short" if self.have else ""
 
     def close(self, why: str, peer: str = "") -> None:
-        """Tells why, where there is something to tell, and closes the connection. Behind a part of
-        a reply nothing can be told."""
+        """Tells the client why, if there is something to tell, and closes the connection. After a
+        part of a reply nothing can be told."""
         if self.phase >= LEAVING:
             return
         may_be_told = why and self.phase != WRITING and not self.transport.is_closing()

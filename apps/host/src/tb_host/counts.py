@@ -59,7 +59,7 @@ class Counts:
             return None
 
     def shown(self, lag: float) -> Dict[str, Any]:
-        """All of it, as `--status` tells it."""
+        """All of it, as `--status` prints it."""
         requests: Dict[str, Dict[str, int]] = {}
         commits = self.committed()
         for (operation, status), count in sorted(self.requests.items()):

@@ -1,5 +1,5 @@
 """The commands of hosts from their first moment on. Their modules take some tenths of a second to
-load, and their own handlers of signals come behind that. Until then nothing is begun: a signal ends
+load, and their own handlers of signals come after that. Until then nothing is begun: a signal ends
 the program at once, with the status that it has for that signal later."""
 from __future__ import annotations
 
@@ -20,14 +20,14 @@ PARTS = (
 
 
 def end_at(status: int, *numbers: int) -> None:
-    """Has each of these signals end the program at once, where it is not ignored."""
+    """Has each of these signals end the program at once, if it is not ignored."""
     for number in numbers:
         if signal.getsignal(number) != signal.SIG_IGN:
             signal.signal(number, lambda *_: os._exit(status))
 
 
 def raise_interrupts() -> None:
-    """Has SIGINT raise KeyboardInterrupt from now on, where it is not ignored."""
+    """Has SIGINT raise KeyboardInterrupt from now on, if it is not ignored."""
     if signal.getsignal(signal.SIGINT) != signal.SIG_IGN:
         signal.signal(signal.SIGINT, signal.default_int_handler)
 

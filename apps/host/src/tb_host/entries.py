@@ -6,8 +6,8 @@ log there; and the position up to which its server had answered, with the hash o
 So each reader finds within one entry that it and the writer do not have the same.
 
 An entry of format 2 has the SHA-256 of all that is after it: so a reader finds that a disk, or
-whatever it was read from, has changed it. One of format 1 has none. In one of format 3 the pairs
-are deflated, without a head (RFC 1951), where they are long: what an engine writes and sends takes
+whatever it was read from, has changed it. One of format 1 has no hash. In one of format 3 the pairs
+are deflated, without a head (RFC 1951), if they are long: what an engine writes and sends takes
 most of a long request's time.
 """
 from __future__ import annotations
@@ -25,7 +25,7 @@ SUM = 32  # bytes of the SHA-256 after the magic, from format 2 on
 REST = struct.Struct("<16sQQ32sQ32s")  # the head after these
 PAIRS_MAX = 1 << 20  # bytes of pairs in an entry: the longest request fits
 MOMENT = struct.Struct("<Q")
-PAIR = struct.Struct("<Q32xI12x")  # its moment, and how many bytes lie behind its header
+PAIR = struct.Struct("<Q32xI12x")  # its moment, and how many bytes follow its header
 MOMENT_MAX = 1 << 62  # nanoseconds since 1970: the year 2116; so that time remains for all
 SMALL = 4096  # bytes that are copied rather than hashed by two calls, and not deflated
 NOTHING = bytes(32)  # the hash of an empty log, and of no replies
@@ -74,8 +74,8 @@ class Entry(NamedTuple):
 
     @classmethod
     def from_bytes(cls, data: bytes) -> Entry:
-        """The entry of these bytes. Raises `ValueError` if they are none, or not what its writer
-        made."""
+        """The entry of these bytes. Raises `ValueError` if they are not an entry, or not what its
+        writer made."""
         magic, at = _begun(data)
         if at > len(magic):
             rest, pairs = data[at : at + REST.size], data[at + REST.size :]
@@ -94,7 +94,7 @@ class Entry(NamedTuple):
 
 
 def _begun(data: bytes) -> Tuple[bytes, int]:
-    """The magic of an entry, and where the head behind it and behind a SHA-256 begins."""
+    """The magic of an entry, and where the head after it and after a SHA-256 begins."""
     magic = data[: len(MAGIC_1)]
     at = len(magic) + (0 if magic == MAGIC_1 else SUM)
     if magic not in MAGICS or len(data) < at + REST.size:
@@ -132,8 +132,7 @@ def _sum(magic: bytes, rest: bytes, pairs: bytes) -> bytes:
 
 
 def cut(pairs: bytes) -> Iterator[Tuple[int, bytes]]:
-    """The moment and the header of each pair. Raises `ValueError` where the last one is not
-    whole."""
+    """The moment and the header of each pair. Raises `ValueError` if the last one is not whole."""
     at, end = 0, len(pairs)
     while at < end:
         if at + PAIR.size > end:

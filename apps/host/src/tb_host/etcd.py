@@ -36,10 +36,10 @@ OPTIONS = (
     ("grpc.max_receive_message_length", -1),
     ("grpc.max_send_message_length", -1),
     ("grpc.initial_reconnect_backoff_ms", 100),
-    # what a connection may take, too: within a second none is made on a busy machine
+    # what a connection may take, too: within a second no connection is made on a busy machine
     ("grpc.min_reconnect_backoff_ms", 3_000),
     ("grpc.max_reconnect_backoff_ms", 1000),
-    # a watch sends nothing: without these it sees no end where a machine or its link is lost
+    # a watch sends nothing: without these it sees no end if a machine or its link is lost
     ("grpc.keepalive_time_ms", 10_000),
     ("grpc.keepalive_timeout_ms", 5_000),
     ("grpc.http2.max_pings_without_data", 0),
@@ -48,7 +48,7 @@ OPTIONS = (
 # python3-etcd3 knows no `fragment` of a watch, field 8: a response is then cut at the size that a
 # request may have, so that a long log is not held in memory whole
 FRAGMENT = b"\x40\x01"
-ENTRY = re.compile(rb"log/([0-9a-f]+)/([0-9]{20})")  # what an entry's key has behind the log's name
+ENTRY = re.compile(rb"log/([0-9a-f]+)/([0-9]{20})")  # what an entry's key has after the log's name
 FULL = "database space exceeded"
 NO_TOKEN = (
     "invalid auth token",
@@ -80,7 +80,7 @@ class Address:
         self.care, self.auth = rpc.MaintenanceStub(channel), rpc.AuthStub(channel)
 
     def made(self) -> Any:
-        """A new channel. Raises `Ended` where a file of TLS is wrong."""
+        """A new channel. Raises `Ended` if a file of TLS is wrong."""
         access = self.access
         if access.authority is None:
             return grpc.aio.insecure_channel(self.place, options=OPTIONS)
@@ -94,7 +94,7 @@ class Address:
         )
 
     async def metadata(self) -> Sequence[Tuple[str, str]]:
-        """What goes with each call: a token, where there is a user; and that a member without a
+        """What goes with each call: a token, if there is a user; and that a member without a
         leader is to refuse."""
         if not self.given:
             given = [("hasleader", "true")]
@@ -112,7 +112,7 @@ class Address:
 
 
 def _test_files(access: Access, authority: str) -> None:
-    """Raises `Ended` where a file of TLS is not what it is to be: gRPC tells that the engine is
+    """Raises `Ended` if a file of TLS is not what it is to be: gRPC reports only that the engine is
     away."""
     context = ssl.SSLContext(ssl.PROTOCOL_TLS_CLIENT)
     load_authority(context, authority)
@@ -128,7 +128,7 @@ def _read(path: Optional[str]) -> Optional[bytes]:
 
 
 class Put:
-    """A transaction that puts a key where it is not there, and else answers it. It is made once,
+    """A transaction that puts a key if it is not there, and otherwise returns it. It is made once,
     and has another key and value each time: a part that is set in place is copied once."""
 
     def __init__(self) -> None:
@@ -162,7 +162,7 @@ class EtcdLog:
         self.cursor = self.place = 0
         self.is_moving = self.is_unread = False
         self.is_passed = False  # reads go on after another entry than the one that was read last
-        self.moved = ""  # why it is moving, where that is to be said
+        self.moved = ""  # why it is moving, if that is to be said
 
     # calls
 
@@ -196,7 +196,7 @@ class EtcdLog:
 
     async def head(self, wanted: Optional[bytes]) -> bytes:
         found = await self._get(self.prefix + b"head")
-        if found is not None:  # so that a replica starts where etcd is full
+        if found is not None:  # so that a replica starts if etcd is full
             return found
         if wanted is None:
             return b""
@@ -237,8 +237,8 @@ class EtcdLog:
             self.looking = asyncio.ensure_future(self._write_to_leader())
 
     async def _write_to_leader(self) -> None:
-        """Writes to the address of whom the one that is written to, or else the next, has for the
-        leader."""
+        """Writes to the leader's address, as the address that is written to says, or otherwise the
+        next."""
         leader, count = 0, len(self.addresses)
         for at in [(self.writing + it) % count for it in range(count)]:
             it = self.addresses[at]
@@ -252,7 +252,7 @@ class EtcdLog:
 
     def is_next(self, place: int) -> bool:
         """Each change is a revision more than the one before it. So nothing lies between an own
-        entry and what was read where its revision is the next one."""
+        entry and what was read, if its revision is the next one."""
         if place != self.cursor + 1:
             return False
         self.cursor = self.place = place
@@ -285,7 +285,7 @@ class EtcdLog:
             say_of("", f"NoLog: the log is not read at {at.place}: {why}")
 
     async def _some(self) -> AsyncIterator[Union[Written, Report]]:
-        """What is watched. Where that is gone, what is kept is listed."""
+        """What is watched. If that is gone, what is kept is listed."""
         try:
             async for it in self._watched():
                 yield it
@@ -329,11 +329,11 @@ class EtcdLog:
             raise NoLog("the watch ended")
         finally:
             self.watch.cancel()
-            self.watch = None  # there is none to move from
+            self.watch = None  # there is no watch to move from
 
     async def _ask_to_watch(self, asked: Any) -> None:
-        """Sends what is to be watched. gRPC waits without an end where a call is cancelled while it
-        connects. Where the call has ended, who reads from it learns why."""
+        """Sends what is to be watched. gRPC waits without an end if a call is cancelled while it
+        connects. If the call has ended, its reader learns why."""
         with contextlib.suppress(asyncio.InvalidStateError):
             try:
                 await asyncio.wait_for(self.watch.write(asked), TRY)
@@ -346,7 +346,7 @@ class EtcdLog:
             self.place = max(self.place, found.place)
 
     async def _listed(self, place: int) -> AsyncIterator[Written]:
-        """The entries behind a place, in order. They are there though their history is not, unless
+        """The entries after a place, in order. They are there though their history is not, unless
         the log was trimmed beyond the place."""
         revision, found = await self._keys_behind(place)
         position, trimmed = await self.trimmed()
@@ -357,8 +357,8 @@ class EtcdLog:
         self.cursor = max(self.cursor, revision)
 
     async def _keys_behind(self, place: int) -> Tuple[int, List[Tuple[int, bytes]]]:
-        """The revision of now, and each entry behind a place up to there, by its own and its
-        key. They are filtered here: for a filter etcd reads all values."""
+        """The revision of now, and each entry after a place up to there, by its own and its key.
+        They are filtered here: for a filter etcd reads all values."""
         revision, found, at = 0, [], self.prefix + b"log/"
         end = _end_of(at)
         while True:
@@ -470,8 +470,8 @@ class EtcdLog:
             raise wrong_trimmed(kept) from None
 
     async def trim(self, position: int, place: int) -> List[str]:
-        """No entry is removed before `trimmed` tells of it: who starts in between would take what
-        is left for the whole log."""
+        """No entry is removed before `trimmed` reports it: a replica that starts in between would
+        take what is left for the whole log."""
         said = []
         if not await self._put_trimmed(position, place):
             said += await self._make_room()
@@ -486,7 +486,7 @@ class EtcdLog:
         return said
 
     async def _make_room(self) -> List[str]:
-        """Gives the space of what was replaced since the last time back to the disks, and ends the
+        """Gives the space of what was replaced after the last time back to the disks, and ends the
         alarm. Replicas write again then."""
         await self._compact(await self.last())
         said = [await _defragmented(it) for it in self.addresses]
@@ -537,7 +537,7 @@ class EtcdLog:
             if entry is None:
                 continue
             writer, first = entry
-            at = writer + b"0"  # behind its last key
+            at = writer + b"0"  # after its last key
             end = first + await self._count_up_to(writer, first, place)
             for it in range(first, end, REMOVED):
                 last = min(it + REMOVED, end) - 1
@@ -560,7 +560,7 @@ class EtcdLog:
         return bool(found) and found[0].create_revision <= place
 
     async def _alarms(self) -> List[Any]:
-        """The alarms for want of space, of each member that raised one."""
+        """The alarms for a lack of space, of each member that raised one."""
         request = rpc.AlarmRequest(action=rpc.AlarmRequest.GET)
         said = await self._call("care", "Alarm", request)
         return [it for it in said.alarms if it.alarm == rpc.NOSPACE]
@@ -586,7 +586,7 @@ class EtcdLog:
     async def _close_later(
         self, channels: List[Any], before: Optional[asyncio.Future[None]]
     ) -> None:
-        """Closes channels once nothing is under way over them, behind those that were left
+        """Closes channels once nothing is under way over them, after those that were left
         before."""
         if before is not None:
             await before
@@ -619,7 +619,7 @@ def _written(pair: Any, node: str) -> Written:
 
 
 def _name_of(key: bytes) -> Optional[str]:
-    """A replica's name. None where it is none: who else writes there is passed over."""
+    """A replica's name. None if it is not one: what others write there is skipped."""
     try:
         return key.decode()
     except UnicodeError:
@@ -640,7 +640,7 @@ def _test(it: Address, error: Any) -> None:
 
 
 async def _defragmented(it: Address) -> str:
-    """Gives an address's free space back to its disk. It answers nobody meanwhile."""
+    """Gives an address's free space back to its disk. It serves nobody meanwhile."""
     try:
         given = await it.metadata()
         await it.care.Defragment(rpc.DefragmentRequest(), timeout=120, metadata=given)

@@ -19,9 +19,9 @@ def clients_max_of(words: Sequence[str]) -> Optional[int]:
 class Evictions:
     """Follows the table of sessions: each client with its last commit.
 
-    Where the ledger began before this host, clients that have sent nothing since are not known.
-    Their commits are the least, so they are the ones that go first, and an eviction is only told
-    where all places are taken by clients that are known."""
+    If the ledger began before this host, clients that have sent nothing since then are not known.
+    Their commits are the least, so they are the ones that go first, and an eviction is only
+    reported if all places are taken by clients that are known."""
 
     def __init__(self, clients_max: Optional[int]) -> None:
         self.clients_max = clients_max
@@ -29,7 +29,7 @@ class Evictions:
         self.count = 0
 
     def learn(self, client: int, is_register: bool, commit: int) -> Optional[int]:
-        """Takes a reply in. Answers the client that was evicted by it, where one was."""
+        """Takes a reply in. Returns the client that was evicted by it, if one was."""
         if self.clients_max is None or commit <= self.rows.get(client, 0):
             return None
         evicted = None

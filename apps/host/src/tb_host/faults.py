@@ -31,5 +31,5 @@ class Fault(Ended):
 
 
 def wrong_trimmed(kept: bytes) -> Fault:
-    """The fault of a log that does not tell up to where it was trimmed."""
+    """The fault of a log that does not report up to where it was trimmed."""
     return Fault("BadEntry", f"the log's `trimmed` has {kept[:60]!r}")

@@ -25,13 +25,13 @@ from .taken import KEPT, Item, Taken
 ENTRY, QUESTION = b"\1", b"\2"
 NUMBERS, REPLIED = struct.Struct("<QI"), struct.Struct("<QI")
 HASHES = struct.Struct("<Q32s32s")
-# of a reply: its session, status, zeros, length, commit, zeros; and its length alone
+# of a reply: its session, status, zeros, length, commit, zeros; and only its length
 SAID, LENGTH = struct.Struct("<Q5xBHIQI"), struct.Struct("<I")
-ASKER = 29  # bytes that a reply repeats of its request, but for a register's
-# what a server that keeps its ledger in a file tells at its start, besides faults
+ASKER = 29  # bytes that a reply repeats of its request, except a register's
+# what a server that keeps its ledger in a file reports at its start, besides faults
 STARTS = re.compile(r"[\w./-]+: (?:made |reading |copied |cut |ready$|has the log up to position )")
 NAMED = {6: "Damaged", 7: "OtherRules"}  # its statuses that are faults of a replica too
-LOCKED = 4  # its status where another process has the file: that of a replica that was killed ends
+LOCKED = 4  # its status if another process has the file: that of a replica that was killed ends
 
 
 def _dropped(data: bytes) -> None:
@@ -54,12 +54,12 @@ class Fed:
         self.told = 0
 
 
-NONE = Fed(0, [])  # where there is no entry
+NONE = Fed(0, [])  # if there is no entry
 
 
 class Follower(ServerProcess):
-    """The server process behind a copy. Pair k of the log gets reply k. Where the process was
-    killed a new one is given the copy from its beginning, and answers as the first one did."""
+    """The server process that follows a copy. Pair k of the log gets reply k. If the process was
+    killed, a new one is given the copy from its beginning, and replies as the first one did."""
 
     def __init__(
         self,
@@ -91,7 +91,7 @@ class Follower(ServerProcess):
 
     async def _feed(self, stdin: Outgoing) -> None:
         """Gives a process what was taken of the log, without an end."""
-        with contextlib.suppress(OSError):  # its end is seen where replies are read
+        with contextlib.suppress(OSError):  # its end is seen by the reader of replies
             await self.begin_to_feed(stdin)
             self.stdin = stdin
             while True:
@@ -110,7 +110,7 @@ class Follower(ServerProcess):
         self.pass_empty()
 
     def give(self, item: Item) -> bool:
-        """Gives the process the next entry at once, where it has all before it and has room. Says
+        """Gives the process the next entry at once, if it has all before it and has room. Returns
         whether it was given."""
         stdin = self.stdin
         if stdin is None or self.given != item.position - 1 or not stdin.has_room.is_set():
@@ -155,7 +155,7 @@ class Follower(ServerProcess):
             feeding.result()
 
     def _come(self, process: Process, data: bytes) -> None:
-        """Takes what the process wrote. It is killed where that is wrong."""
+        """Takes what the process wrote. It is killed if that is wrong."""
         data = self.rest + data if self.rest else data
         try:
             self.rest = data[self._take(data) :]
@@ -165,7 +165,7 @@ class Follower(ServerProcess):
             process.output.close()
 
     def _take(self, data: bytes) -> int:
-        """Takes what is whole of these bytes. Answers how many bytes it has."""
+        """Takes what is whole of these bytes. Returns how many bytes it has."""
         at = 0
         try:
             while (end := self.taken(data, at)) > at:
@@ -176,11 +176,11 @@ class Follower(ServerProcess):
         return at
 
     def taken(self, data: bytes, at: int) -> int:
-        """Takes what begins at this place. Answers where it ends: here, where it is not whole."""
+        """Takes what begins at this place. Returns where it ends: here, if it is not whole."""
         return self.take_reply(data, at) or at
 
     def take_reply(self, data: bytes, at: int) -> int:
-        """Takes the reply at this place. Answers where it ends, 0 where it is not whole."""
+        """Takes the reply at this place. Returns where it ends, 0 if it is not whole."""
         if len(data) - at < HEADER:
             return 0
         it = self.fed[0] if self.fed else NONE
@@ -196,7 +196,7 @@ class Follower(ServerProcess):
         return end
 
     def _is_reply(self, data: bytes, at: int, position: int, wanted: bytes) -> bool:
-        """Whether the header of a reply to a request, which had no fault, stands at this place."""
+        """Whether the header of a reply to a request, which had no fault, is at this place."""
         session, status, zeros, length, commit, more = SAID.unpack_from(data, at + 16)
         if (  # as nearly always: a reply without results to what is no register
             len(wanted) == ASKER
@@ -209,7 +209,7 @@ class Follower(ServerProcess):
         return asker(header) == wanted and (position <= self.known or not reply_fault(header))
 
     def _tell(self, it: Fed) -> None:
-        """Tells the replies that came since it was called last."""
+        """Passes on the replies that came after its last call."""
         if it.told < len(it.replies):
             told, it.told = it.told, len(it.replies)
             self.tell(it.position, told, it.replies[told:])
@@ -222,7 +222,7 @@ class Follower(ServerProcess):
             self.finish(it)
 
     def pass_on(self, it: Fed) -> None:
-        """Tells the replies to an entry, and then hashes them."""
+        """Passes on the replies to an entry, and then hashes them."""
         self._tell(it)
         self.last = chained_all(self.last, it.replies)
 
@@ -259,7 +259,7 @@ class Follower(ServerProcess):
 class PositionFollower(Follower):
     """A server process that takes entries with their positions, as `tbd follow-memory` does. It
     refuses a gap, a repeat and a damaged entry, writes each reply with its place in the log, and
-    answers with the hashes of the log and of the replies behind each entry."""
+    replies with the hashes of the log and of the replies after each entry."""
 
     def parts(self, position: int, pairs: bytes) -> Sequence[bytes]:
         numbers = NUMBERS.pack(position, len(pairs))
@@ -267,7 +267,7 @@ class PositionFollower(Follower):
         return ENTRY + numbers + checksum, pairs, QUESTION
 
     def pass_empty(self) -> None:
-        """An entry is finished with the answer to the question behind it."""
+        """An entry is finished with the reply to the question after it."""
 
     def taken(self, data: bytes, at: int) -> int:
         if data[at : at + 1] == QUESTION:
@@ -287,7 +287,7 @@ class PositionFollower(Follower):
         return at + 1 + HASHES.size
 
     def take_hashes(self, position: int, log: bytes, replies: bytes) -> None:
-        """Takes the hashes behind an entry."""
+        """Takes the hashes after an entry."""
         it = self.fed.popleft() if self.fed else NONE
         self.pass_on(it)
         if (it.position, len(it.replies)) != (position, len(it.wanted)):
@@ -298,9 +298,9 @@ class PositionFollower(Follower):
 
 
 class KeptFollower(PositionFollower):
-    """A server process that keeps its ledger in a file, with the position and the hashes behind
-    each entry, as `tbd follow` does. A new process is asked for its position first, and is given
-    what is behind it. Replies that a process wrote into its file and did not tell are `missed`."""
+    """A server process that keeps its ledger in a file, with the position and the hashes after each
+    entry, as `tbd follow` does. A new process is asked for its position first, and is given what
+    comes after it. Replies that a process wrote into its file and did not send are `missed`."""
 
     def __init__(
         self,
@@ -314,7 +314,7 @@ class KeptFollower(PositionFollower):
         self.missed = missed
         self.standing: Optional[asyncio.Future[Tuple[int, bytes, bytes]]] = None
         self.since = time.monotonic()  # when the last process that had the file ended
-        # a process has told what its file has; it is settled from where on the log is read
+        # a process has reported what its file has; it is settled from where on the log is read
         self.opened, self.is_settled = asyncio.Event(), asyncio.Event()
         self.has = 0  # up to which position the first process had the log
 

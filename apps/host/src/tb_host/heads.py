@@ -9,19 +9,19 @@ from .entries import WRITTEN
 from .faults import NO_SUCH_JSON
 
 FORMATS = (1, 2, 3)  # of entries that are read
-RULES = 1  # grows where a server answers a script otherwise than before
+RULES = 1  # grows if a server replies to a script otherwise than before
 
 
 def kept_at(words: List[str]) -> Optional[int]:
     """Which word of a server's command is the file that it keeps its ledger in: FILE of `follow
-    FILE CLIENTS_MAX [PROFILE]` at its end. None where there is no such word."""
+    FILE CLIENTS_MAX [PROFILE]` at its end. None if there is no such word."""
     return journal_at(words, "follow")
 
 
 def head_of(words: List[str], has_positions: bool = False) -> Dict[str, Any]:
     """What replicas of one log have in common, of a server's command, which ends in `run
-    CLIENTS_MAX [PROFILE]` or `follow FILE CLIENTS_MAX [PROFILE]`; where it takes entries with their
-    positions, in the two numbers alone. Raises `ValueError`."""
+    CLIENTS_MAX [PROFILE]` or `follow FILE CLIENTS_MAX [PROFILE]`; if it takes entries with their
+    positions, in only the two numbers. Raises `ValueError`."""
     lead, at = ([] if has_positions else ["run"]), kept_at(words)
     for count in (2, 1):
         numbers = words[-count:]
@@ -36,7 +36,7 @@ def head_of(words: List[str], has_positions: bool = False) -> Dict[str, Any]:
 
 
 def read_head(data: bytes) -> Dict[str, Any]:
-    """What a head says. Empty if it is none."""
+    """What a head says. Empty if it is not one."""
     try:
         return dict(json.loads(data))
     except NO_SUCH_JSON:

@@ -13,7 +13,7 @@ LINES = 4096  # bytes of what a command said last that are kept
 TOLD = "tb_listen: "  # what a line to a client begins with, of a listener and of a replica
 program = "tb_listen"  # what a line on standard error begins with
 as_json = False  # whether a line is an object of JSON
-REPEATS, MINUTE = 10, 60.0  # how often a line is said in so many seconds; more are counted
+REPEATS, MINUTE = 10, 60.0  # how often a line is said in this many seconds; more are counted
 said: Dict[Tuple[str, str], Tuple[float, int]] = {}  # since when a line is said, and how often
 
 
@@ -30,8 +30,8 @@ def speak_json() -> None:
 
 
 def say(text: str, level: str = "info", peer: str = "") -> None:
-    """Says a line on standard error, where that takes it at once. Who reads nothing there holds
-    up no client."""
+    """Says a line on standard error, if that takes it at once. A reader that reads nothing there
+    holds up no client."""
     with contextlib.suppress(OSError, ValueError):
         if sys.stderr is not None and _takes_a_line():
             line = f"{program}: {f'{peer}: ' if peer else ''}{text}"[: LINES // 4]
@@ -42,7 +42,7 @@ def say(text: str, level: str = "info", peer: str = "") -> None:
 
 def say_of(peer: str, text: str, level: str = "warning", kind: str = "") -> None:
     """Says a line about a peer, ten times in a minute at most, and as often others of its kind. The
-    first one after that tells how many were left out."""
+    first one after that says how many were left out."""
     now, key = time.monotonic(), (level, kind or text)
     began, count = said.get(key, (now, 0))
     left_out = 0
@@ -56,7 +56,7 @@ def say_of(peer: str, text: str, level: str = "warning", kind: str = "") -> None
 
 
 def left_out() -> int:
-    """How many lines were left out since the last one of their kind that was said."""
+    """How many lines were left out after the last one of their kind that was said."""
     return sum(max(0, count - REPEATS) for _, count in said.values())
 
 
@@ -68,7 +68,7 @@ def _as_object(text: str, level: str, peer: str) -> str:
 
 
 def _takes_a_line() -> bool:
-    """Whether there is room for a line on standard error: a pipe that tells so has room for 4096
+    """Whether there is room for a line on standard error: a pipe that reports it has room for 4096
     bytes."""
     try:
         number = sys.stderr.fileno()
@@ -80,7 +80,7 @@ def _takes_a_line() -> bool:
 
 
 class Told(Exception):
-    """Why a connection is closed: the name that its client is told, and who that is, where it is
+    """Why a connection is closed: the name that its client is told, and who that is, if it is
     known."""
 
     def __init__(self, name: str, peer: str = "") -> None:
@@ -97,5 +97,5 @@ class Ended(Exception):
 
 
 class Wanting(Ended):
-    """The command does not start for want of what there may be enough of later, as files or
-    memory."""
+    """The command does not start because something is missing that there may be enough of later,
+    such as files or memory."""

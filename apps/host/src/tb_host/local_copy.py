@@ -41,7 +41,7 @@ class Record:
 
 
 def _whole(data: bytes, at: int, start: int) -> Optional[Record]:
-    """The record that begins here. None where it is not whole in these bytes."""
+    """The record that begins here. None if it is not whole in these bytes."""
     if len(data) - at < HEAD:
         return None
     position, place, length = RECORD.unpack_from(data, at)
@@ -59,7 +59,7 @@ def _is_right(data: bytes, at: int, record: Record) -> bool:
 
 @contextlib.contextmanager
 def faults_of(path: str) -> Iterator[None]:
-    """Tells the file of a fault."""
+    """Says which file has a fault."""
     try:
         yield
     except OSError as error:
@@ -67,7 +67,7 @@ def faults_of(path: str) -> Iterator[None]:
 
 
 def make_folder(folder: str) -> None:
-    """Makes a folder where it is not there, and syncs the names of those that are made."""
+    """Makes a folder if it is not there, and syncs the names of those that are made."""
     holders, at = [], os.path.abspath(folder)
     while not os.path.exists(at):
         at = os.path.dirname(at)
@@ -78,7 +78,7 @@ def make_folder(folder: str) -> None:
 
 
 def opened_alone(folder: str, name: str) -> int:
-    """A file of a folder, which is made where it is not there, and is one replica's alone."""
+    """A file of a folder, which is made if it is not there, and belongs to only one replica."""
     path = os.path.join(folder, name)
     try:
         make_folder(folder)
@@ -91,7 +91,8 @@ def opened_alone(folder: str, name: str) -> int:
 
 
 def sync_folder(folder: str) -> None:
-    """Syncs the names of a folder's files: else a power loss may leave a new one without a name."""
+    """Syncs the names of a folder's files: otherwise a power loss may leave a new one without a
+    name."""
     at = os.open(folder, os.O_RDONLY)
     try:
         os.fsync(at)
@@ -100,7 +101,7 @@ def sync_folder(folder: str) -> None:
 
 
 class Copy(Taken):
-    """A copy in a folder. It is one replica's alone."""
+    """A copy in a folder. It belongs to only one replica."""
 
     def __init__(self, folder: str) -> None:
         super().__init__(folder)
@@ -113,7 +114,7 @@ class Copy(Taken):
     # what is there
 
     def scan(self) -> None:
-        """Reads what is there, cuts off what a crash left torn, and goes on behind it."""
+        """Reads what is there, cuts off what a crash left torn, and goes on after it."""
         with faults_of(self.path):
             length = os.fstat(self.file).st_size
             if length < len(MAGIC):
@@ -150,7 +151,7 @@ class Copy(Taken):
                 yield record
                 at = record.end - start
             if not at:
-                return  # what is there is no record, or none that is whole
+                return  # what is there is no record, or no whole one
             start += at
 
     def _take(self, record: Record) -> None:
@@ -265,8 +266,8 @@ def records_of(folder: str) -> Iterator[Record]:
 
 
 def all_records_of(folder: str) -> Iterator[Record]:
-    """The same. Raises `Damaged` behind them where a record comes that was synced and is not what
-    was written. A folder that was copied while it was in use may have less than was synced."""
+    """The same. Raises `Damaged` after them if a record comes that was synced and is not what was
+    written. A folder that was copied while it was in use may have less than was synced."""
     synced, end = synced_of(folder), len(MAGIC)
     for record in records_of(folder):
         yield record
@@ -277,8 +278,8 @@ def all_records_of(folder: str) -> Iterator[Record]:
 
 
 def copied(source: str, folder: str) -> Tuple[int, int]:
-    """Makes a copy in an empty folder from another replica's, which may be in use. Answers the
-    last position and its place. Leaves nothing where that fails."""
+    """Makes a copy in an empty folder from another replica's, which may be in use. Returns the last
+    position and its place. Leaves nothing if that fails."""
     if os.path.exists(os.path.join(folder, "log")):
         raise Ended(f"{folder} has a copy already", 1)
     records = all_records_of(source)
@@ -313,8 +314,8 @@ def head_in(folder: str) -> bytes:
 
 
 def kept(folder: str, name: str, made: bytes) -> bytes:
-    """What a file of the folder has; made where it is not there. Its name is synced too: a replica
-    that lost its own would be another one, and the old one would stay listed."""
+    """What a file of the folder has; it is made if it is not there. Its name is synced too: a
+    replica that lost its own would be another one, and the old one would stay listed."""
     path = os.path.join(folder, name)
     with faults_of(path):
         with contextlib.suppress(FileNotFoundError):

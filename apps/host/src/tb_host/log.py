@@ -71,32 +71,32 @@ class NoLog(Exception):
 
 
 class Log(Protocol):
-    """An agreed log. Each call tries every address of the engine; where none answers in time it
+    """An agreed log. Each call tries every address of the engine; if no address replies in time it
     raises `NoLog`."""
 
     async def head(self, wanted: Optional[bytes]) -> bytes:
-        """The log's head. It is this one if there was none before. Without one that is wanted it
-        is empty then."""
+        """The log's head. It is this one if there was no head before. If no head is wanted, it is
+        empty then."""
 
     async def change_head(self, before: bytes, after: bytes) -> bytes:
-        """Puts another head in the place of one. Answers the head that the log has then."""
+        """Puts another head in the place of one. Returns the head that the log has then."""
 
     async def clock(self) -> Optional[int]:
-        """The engine's own clock, in nanoseconds since 1970. None if it tells none."""
+        """The engine's own clock, in nanoseconds since 1970. None if it has no clock."""
 
     async def last(self) -> int:
-        """A place that no entry lies behind yet."""
+        """A place that no entry comes after yet."""
 
     async def append(self, writer: bytes, number: int, data: bytes) -> int:
-        """Appends an entry once, however often it is called with this writer and number. Answers
-        its place. Raises `LogFull`, or `NoLog` where the outcome is not known."""
+        """Appends an entry once, however often it is called with this writer and number. Returns
+        its place. Raises `LogFull`, or `NoLog` if the outcome is not known."""
 
     def is_next(self, place: int) -> bool:
-        """Whether the entry that an append had at this place is the next one behind all that was
+        """Whether the entry that an append had at this place is the next one after all that was
         read. It is then read, and comes no more."""
 
     def read(self, place: int) -> AsyncIterator[Union[Written, Report]]:
-        """What is written behind a place, in order, without an end. Raises `LogGone`."""
+        """What is written after a place, in order, without an end. Raises `LogGone`."""
 
     def look_elsewhere(self) -> None:
         """Reads go on at another address."""
@@ -121,20 +121,20 @@ class Log(Protocol):
         """Takes a replica off the list."""
 
     async def trimmed(self) -> Tuple[int, int]:
-        """The position and the place up to which the log was trimmed; 0 and 0 where it was not."""
+        """The position and the place up to which the log was trimmed; 0 and 0 if it was not."""
 
     async def trim(self, position: int, place: int) -> List[str]:
-        """Removes the entries up to this place. Answers what was done, line by line."""
+        """Removes the entries up to this place. Returns what was done, line by line."""
 
     async def has_removed(self, place: int) -> bool:
-        """Whether no entry up to this place is left, as one is where a trim was cut short."""
+        """Whether no entry up to this place is left, as one is if a trim was cut short."""
 
     def renew(self) -> None:
-        """Has new connections go by the files of TLS as they are now. Raises `Ended` where one is
+        """Has new connections go by the files of TLS as they are now. Raises `Ended` if one is
         wrong, and goes on by the old ones."""
 
     async def full(self) -> str:
-        """Why the engine takes no more. Empty where it does."""
+        """Why the engine takes no more. Empty if it does."""
 
     async def close(self) -> None:
         """Closes the connections."""
@@ -142,7 +142,7 @@ class Log(Protocol):
 
 def parts(url: str) -> Tuple[str, List[Tuple[str, int]], str]:
     """The kind of a log, its addresses, and its name: KIND://HOST[:PORT],../NAME. Raises
-    `ValueError` where that is none."""
+    `ValueError` if that is not a log's."""
     found = re.fullmatch(r"(etcd|postgresql)://([^/]+)/([A-Za-z0-9_./-]+)", url)
     if not found:
         raise ValueError(f"{url!r} is no etcd://HOST,../NAME or postgresql://HOST,../DATABASE/NAME")

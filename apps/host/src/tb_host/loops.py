@@ -1,5 +1,5 @@
-"""The loop that a host runs by: uvloop's where that is installed, since a request takes less CPU
-time then, else asyncio's."""
+"""The loop that a host runs by: uvloop's if that is installed, because a request takes less CPU
+time then, otherwise asyncio's."""
 from __future__ import annotations
 
 import asyncio
@@ -12,15 +12,15 @@ NAME = "TB_LOOP"  # the environment variable that says which: asyncio or uvloop
 
 
 def fill_standard_files() -> None:
-    """Opens the null device in place of standard files that are closed: else what is opened next
-    takes their numbers, and gets what is meant for them. uvloop aborts at that."""
+    """Opens the null device in place of standard files that are closed: otherwise what is opened
+    next takes their numbers, and gets what is meant for them. uvloop aborts at that."""
     while (file := os.open(os.devnull, os.O_RDWR)) <= 2:
         pass
     os.close(file)
 
 
 def run(serving: Coroutine[Any, Any, None]) -> None:
-    """Runs a host until it ends. Raises `Ended` where the loop that is asked for is not there."""
+    """Runs a host until it ends. Raises `Ended` if the loop that is asked for is not there."""
     wanted = os.environ.get(NAME)
     if wanted != "asyncio":
         try:

@@ -167,7 +167,7 @@ def add_log(parser: argparse.ArgumentParser) -> None:
 
 
 def _test_log(parser: argparse.ArgumentParser, given: argparse.Namespace) -> None:
-    """Ends the program where a file of TLS would be passed over: etcd is then spoken to without
+    """Ends the program if a file of TLS would be ignored: etcd is then spoken to without
     TLS, and told the password."""
     files = (given.log_certificate, given.log_key)
     if parts(given.log)[0] == "etcd" and any(files) and not (given.log_ca and all(files)):

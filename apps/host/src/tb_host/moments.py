@@ -12,14 +12,14 @@ LAG = 60  # seconds by which the clock may run away from the moments before that
 
 
 def running_ns() -> int:
-    """A clock that nobody sets: it counts while the computer sleeps too, where the system has
-    such a clock."""
+    """A clock that nobody sets: it counts while the computer sleeps too, if the system has such a
+    clock."""
     return time.clock_gettime_ns(getattr(time, "CLOCK_BOOTTIME", time.CLOCK_MONOTONIC))
 
 
 class Moments:
     """The moments of requests, in nanoseconds since 1970. They begin with the clock, or with `last`
-    where that is later. They never fall, and grow by no more than the time that goes by and a
+    if that is later. They never fall, and grow by no more than the time that goes by and a
     thousandth of it, measured by a clock that nobody sets: so a clock that is set far ahead does
     not take the ledger along."""
 
@@ -34,7 +34,7 @@ class Moments:
         self.is_said = False
 
     def lag(self) -> float:
-        """How many seconds the last moment lies behind the clock, where that was ahead."""
+        """How many seconds the last moment is behind the clock, if that was ahead."""
         return max(0.0, (self.clock() - self.last - (self.running() - self.at)) / SECOND)
 
     def next(self) -> int:

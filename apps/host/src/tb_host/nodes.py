@@ -1,7 +1,7 @@
 """The nodes of the engine, read one by one, when what was read does not fit.
 
 An entry that is not what its writer made is read again at each other node: a disk has changed it at
-one of them. Where a writer had read another log, the nodes say who has the right one.
+one of them. If a writer had read another log, the nodes say who has the right one.
 """
 from __future__ import annotations
 
@@ -140,7 +140,7 @@ async def _closing(
 
 
 def _pairs(data: bytes) -> bytes:
-    """The pairs of an entry. Other bytes if it is none."""
+    """The pairs of an entry. Other bytes if it is not an entry."""
     try:
         return Entry.from_bytes(data).pairs
     except ValueError:

@@ -17,7 +17,7 @@ HELD = 1 << 16  # bytes that are held for a pipe before who writes more has to w
 
 
 class End:
-    """An end of a pipe, which holds a long request whole where the system allows that."""
+    """An end of a pipe, which holds a long request whole if the system allows that."""
 
     def __init__(self, pipe: Optional[IO[bytes]]) -> None:
         assert pipe is not None
@@ -34,7 +34,7 @@ class End:
 
 class Incoming(End):
     """The reading end of a pipe. What comes is given to `stream`, which says when to wait, or to
-    `take` where that was set. The end is told to `stream`."""
+    `take` if that was set. The end is told to `stream`."""
 
     def __init__(self, pipe: Optional[IO[bytes]]) -> None:
         super().__init__(pipe)
@@ -170,7 +170,7 @@ class Outgoing(End):
 
 class Process:
     """A process with its pipes. `at_end` is called when it has ended, before its status is asked
-    for: until then the system tells what it did."""
+    for: until then the system reports what it did."""
 
     def __init__(self, popen: subprocess.Popen[bytes]) -> None:
         self.popen, self.pid = popen, popen.pid
@@ -202,7 +202,7 @@ class Process:
 
 
 def started(words: Sequence[str]) -> Process:
-    """A process of these words, in a session of its own. Raises `OSError` where it does not start.
+    """A process of these words, in a session of its own. Raises `OSError` if it does not start.
     SIGXFSZ and SIGPIPE are ignored in it, as in this one: a write beyond `ulimit -f`, or to a pipe
     that nobody reads, fails and does not end it."""
     pipe = subprocess.PIPE

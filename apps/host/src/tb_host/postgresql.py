@@ -1,9 +1,10 @@
 """The agreed log in PostgreSQL, by psycopg 3: a table whose primary key is the position.
 
-The tables NAME_log, NAME_keys and NAME_at are made where they are not there. What a primary shows
-may be lost with it: a row is visible whose standby has not written it yet, after a wait that was
-cancelled and after a restart. So what is read is taken only when so many standbys have flushed all
-that the primary had flushed by then. Which server is the primary is for a failover manager to say.
+The tables NAME_log, NAME_keys and NAME_at are made if they are not there. What a primary shows may
+be lost with it: a row is visible whose standby has not written it yet, after a wait that was
+cancelled and after a restart. So what is read is taken only when the wanted number of standbys has
+flushed all that the primary had flushed by then. Which server is the primary is for a failover
+manager to say.
 """
 from __future__ import annotations
 
@@ -138,11 +139,11 @@ class PostgresLog:
 
     async def _first_connected(self) -> Any:
         """A connection to the primary, from the last good address on. Each address is tried by
-        itself: libpq, given all of them, goes on from none that does not answer."""
+        itself: libpq, given all of them, never goes on from one that does not reply."""
         faults: List[str] = []
         count = len(self.addresses)
         for at in [(self.address + it) % count for it in range(count)]:
-            self.address = (at + 1) % count  # where this is waited for no longer
+            self.address = (at + 1) % count  # if this is waited for no longer
             host, port = self.addresses[at]
             words = self._words(host, port)
             try:
@@ -158,7 +159,7 @@ class PostgresLog:
         return sql.SQL(text).format(**self.names, page=sql.Literal(PAGE))
 
     async def _call(self, work: Callable[[Any], Awaitable[T]], seconds: float = ALL) -> T:
-        """What a piece of work answers, tried over new connections until it does."""
+        """What a piece of work returns, tried over new connections until it does."""
         loop = asyncio.get_running_loop()
         end = loop.time() + seconds
         while True:
@@ -189,7 +190,7 @@ class PostgresLog:
                 await asyncio.wait_for(it.close(), 1)
 
     async def _rows(self, it: Any, text: str, *given: Any) -> List[Any]:
-        """The rows of a query. Raises `Unknown` where the server warns: a wait for a standby was
+        """The rows of a query. Raises `Unknown` if the server warns: a wait for a standby was
         cancelled, and what was written may be lost with the primary."""
         self._said_over(it).clear()
         cursor = await it.execute(self._query(text), given)
@@ -198,8 +199,8 @@ class PostgresLog:
         return list(rows)
 
     def _said_over(self, it: Any) -> List[str]:
-        """What the server noticed over a connection. Raises `Unknown` where another call has left
-        it meanwhile: each of them uses the one that is written over."""
+        """What the server noticed over a connection. Raises `Unknown` if another call has left it
+        meanwhile: each of them uses the one that is written over."""
         if id(it) not in self.said:
             raise Unknown("the connection was left")
         return self.said[id(it)]
@@ -223,8 +224,8 @@ class PostgresLog:
         return await self._call(work)
 
     async def _make_tables(self, it: Any) -> None:
-        """Makes the tables where one is not there: to ask for that takes the right to make some,
-        also where all are there."""
+        """Makes the tables if one is not there: to ask for that takes the right to make some, also
+        if all are there."""
         try:
             await it.execute(self._query("SELECT FROM {log}, {keys}, {at} LIMIT 0"))
         except errors.UndefinedTable:
@@ -261,7 +262,7 @@ class PostgresLog:
                 if place:
                     return place
                 rows = await self._rows(it, there, writer, number)
-                if rows:  # else another writer took the position
+                if rows:  # otherwise another writer took the position
                     return int(rows[0][0])
 
         place = await self._call(work, TRY)
@@ -270,7 +271,7 @@ class PostgresLog:
         return place
 
     async def _appended(self, it: Any, writer: bytes, number: int, data: bytes) -> int:
-        """The place of an entry that is written now, 0 where it was not. It is asked along with
+        """The place of an entry that is written now, 0 if it was not. It is asked along with
         that whether the standbys have flushed all that the primary has by then."""
         if self.appending is not it:
             for text in (APPEND, ALL_FLUSHED):
@@ -342,7 +343,7 @@ class PostgresLog:
         return f"{info.host}:{info.port}" if info else ""
 
     async def _leave(self) -> None:
-        """Reads over another connection, to where was connected last."""
+        """Reads over another connection, to the address that was connected last."""
         self.is_moving = False
         await self._lose(self.reading)
         self.reading = None
@@ -397,7 +398,7 @@ class PostgresLog:
                 place = int(at)
 
     async def _asked(self, node: str, text: str, *given: Any) -> List[Any]:
-        """What one server answers, which may be a standby. Nothing if it does not in time."""
+        """What one server returns, which may be a standby. Nothing if it does not in time."""
         host, _, port = node.rpartition(":")
         with contextlib.suppress(psycopg.Error, OSError, asyncio.TimeoutError):
             words = self._words(host, int(port), "any")
@@ -436,7 +437,7 @@ class PostgresLog:
             raise wrong_trimmed(value) from None
 
     async def trim(self, position: int, place: int) -> List[str]:
-        """No entry is removed before `trimmed` tells of it. One that is cut short leaves some."""
+        """No entry is removed before `trimmed` reports it. One that is cut short leaves some."""
         await self._call(lambda it: self._rows(it, KEEP, "trimmed", str(place).encode()))
         least = await self._call(lambda it: self._rows(it, "SELECT min(position) FROM {log}"))
         for first in range(least[0][0] or place, place + 1, REMOVED):
@@ -471,7 +472,7 @@ def _tested(error: BaseException) -> str:
 
 
 def _why_unread(error: BaseException) -> str:
-    """Why nothing is read, which is tried again, also where a disk is full."""
+    """Why nothing is read, which is tried again, also if a disk is full."""
     try:
         return _tested(error)
     except LogFull as full:

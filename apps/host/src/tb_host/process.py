@@ -23,7 +23,7 @@ WANTS = (errno.EMFILE, errno.ENFILE, errno.EAGAIN, errno.ENOMEM)
 
 
 def started(words: Sequence[str]) -> Process:
-    """A process of these words. Raises `Ended` where it does not start."""
+    """A process of these words. Raises `Ended` if it does not start."""
     try:
         return pipes.started(words)
     except OSError as error:
@@ -32,7 +32,7 @@ def started(words: Sequence[str]) -> Process:
 
 
 def kill(process: Process) -> None:
-    """Ends a process, and what it started, at once. Raises `Ended` where that is another user's."""
+    """Ends a process, and what it started, at once. Raises `Ended` if that is another user's."""
     try:
         os.killpg(process.pid, signal.SIGKILL)
     except ProcessLookupError:
@@ -47,8 +47,8 @@ def last_line(told: bytes) -> str:
 
 
 def signal_of(status: int) -> int:
-    """The signal that ended a process, or what it started for that: a shell tells it by 128 and
-    its number. 0 where none did."""
+    """The signal that ended a process, or what it started for that: a shell reports it by 128 and
+    its number. 0 if no signal did."""
     return -status if status < 0 else status - 128 if 128 < status < 128 + signal.NSIG else 0
 
 
@@ -62,7 +62,7 @@ def end_of(status: int) -> str:
 
 
 def fault_name(line: str) -> str:
-    """The name in a program's last line, as Full in `tbd: Full`; else that it ended."""
+    """The name in a program's last line, as Full in `tbd: Full`; otherwise that it ended."""
     found = re.match(r"[\w./-]+: ([A-Z][A-Za-z]+)(?::|$)", line)
     return found[1] if found else "ProgramEnded"
 
@@ -94,8 +94,8 @@ async def finished(process: Process) -> Tuple[bytes, bytes, int]:
 
 
 class ServerProcess:
-    """A server as a process, which is started again where a signal ended it and it `keeps` its
-    ledger. What is written to it, and what its replies are for, is a subclass's."""
+    """A server as a process, which is started again if a signal ended it and it `keeps` its ledger.
+    What is written to it, and what its replies are for, is a subclass's."""
 
     def __init__(self, words: Sequence[str], patience: float, keeps: bool) -> None:
         self.words, self.patience, self.keeps = words, patience, keeps
@@ -128,8 +128,8 @@ class ServerProcess:
         raise NotImplementedError
 
     async def run(self) -> None:
-        """Runs the command until its input is closed, and again where a signal ended it and it
-        keeps its ledger. Raises `Ended` where it ends for another reason."""
+        """Runs the command until its input is closed, and again if a signal ended it and it keeps
+        its ledger. Raises `Ended` if it ends for another reason."""
         try:
             lives = quick = 0
             while True:
@@ -152,7 +152,7 @@ class ServerProcess:
             self.ready.set()
 
     def end_by_signal(self, status: int, line: str) -> str:
-        """How the command ended, where it may be started again. Raises `Ended` where it may not."""
+        """How the command ended, if it may be started again. Raises `Ended` if it may not."""
         number = signal_of(status)
         if line and not number:
             raise Ended(line, status or 1)
@@ -162,7 +162,7 @@ class ServerProcess:
         return ended
 
     async def _pause(self, ended: str, seconds: float) -> None:
-        """Waits before the command is started again. Raises `Ended` where the listener is to end
+        """Waits before the command is started again. Raises `Ended` if the listener is to end
         meanwhile."""
         say(f"{ended}, and is started again in {seconds:g} s", "warning")
         with contextlib.suppress(asyncio.TimeoutError):
@@ -170,7 +170,7 @@ class ServerProcess:
             raise Ended(f"{ended}, and is not started again", 1)
 
     async def _run_once(self) -> Tuple[int, str]:
-        """Runs the command once. Answers its status and its last line on standard error."""
+        """Runs the command once. Returns its status and its last line on standard error."""
         process = started(self.words)
         telling = asyncio.ensure_future(tail(process.stderr, self.is_news))
         reading = asyncio.ensure_future(self.read_replies(process, process.stdout))
@@ -206,7 +206,7 @@ class ServerProcess:
         pipes: List[asyncio.Task[Any]],
     ) -> None:
         """Waits until a process that gets no more requests has ended, and what it started. Ends
-        them where they do not."""
+        them if they do not."""
         await asyncio.wait([watching], timeout=self.patience)
         if watching.done():
             await asyncio.wait(pipes, timeout=LAST_WORDS)
@@ -218,7 +218,7 @@ class ServerProcess:
         await asyncio.wait([watching, *pipes])
 
     def close(self) -> None:
-        """Ends the script. The command then answers what it has, and ends. One that takes no
+        """Ends the script. The command then replies to what it has, and ends. One that takes no
         requests yet is killed."""
         self.is_closed = True
         self.stopping.set()

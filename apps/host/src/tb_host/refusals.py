@@ -46,7 +46,7 @@ class Refusals:
 
 
 def refuse(it: socket.socket, why: str) -> None:
-    """Tells a client why, where there is something to tell, and closes its connection."""
+    """Tells a client why, if there is something to tell, and closes its connection."""
     with contextlib.suppress(OSError):
         if why:
             it.send(f"{TOLD}{why}\n".encode("ascii"))

@@ -30,7 +30,7 @@ from .taken import KEPT, Item, Taken
 
 LOOK = 0.25  # seconds after which it is looked for requests that wait too long
 ELSEWHERE = 2.0  # seconds for which what was written may be read late
-REPORT = 10.0  # seconds after which a replica reports, where its position has changed
+REPORT = 10.0  # seconds after which a replica reports, if its position has changed
 REPORT_BYTES = 1 << 22  # bytes of its copy after which it reports before that
 SYNC = 1.0  # seconds after which the copy is synced
 PAUSE = 0.1  # seconds before an append is tried again
@@ -65,7 +65,7 @@ class Pair:
         self.is_done = True
 
     def tell(self, reply: bytes, why: str = "") -> None:
-        """Brings the reply to who asked, or why there is none. A fault there is no fault here."""
+        """Brings the client the reply, or why there is no reply. A fault there is no fault here."""
         if self.is_done:
             return
         self.is_done = True
@@ -164,8 +164,9 @@ class Replica:
     # requests
 
     def ask_soon(self, frame: bytes, answered: Answered) -> Abandon:
-        """Asks for the reply to a request. `answered` gets it, or why there is none: there is no
-        log for it, or the replica ended before it came. One that is abandoned is not appended."""
+        """Asks for the reply to a request. `answered` gets it, or why there is no reply: there is
+        no log for it, or the replica ended before it came. One that is abandoned is not
+        appended."""
         if self.follower.is_over:
             answered(b"", "ProgramEnded")
             return nothing
@@ -176,7 +177,7 @@ class Replica:
         return pair.abandon
 
     async def ask(self, frame: bytes) -> bytes:
-        """The reply to a request. Raises `Told` where there is none."""
+        """The reply to a request. Raises `Told` if there is no reply."""
         reply: asyncio.Future[bytes] = asyncio.get_running_loop().create_future()
 
         def answered(it: bytes, why: str) -> None:
@@ -187,8 +188,8 @@ class Replica:
         return await reply
 
     def ask_again(self, position: int) -> None:
-        """Asks again for own requests up to a position, of which the server's file has the replies
-        and the server does not tell them any more: who asks again gets the first reply."""
+        """Asks again for own requests up to a position, whose replies the server's file has and the
+        server does not send any more: a client that asks again gets the first reply."""
         missed = [it for at in sorted(self.own) if at <= position for it in self.own.pop(at)]
         for pair in reversed([it for it in missed if not it.is_done]):
             pair.since = time.monotonic()
@@ -248,8 +249,8 @@ class Replica:
     # the log
 
     def _next_entry(self) -> Optional[bytes]:
-        """The next entry, of the pairs that wait, with one moment for all. None where no one waits
-        any more."""
+        """The next entry, of the pairs that wait, with one moment for all. None if no one waits any
+        more."""
         moment = MOMENT.pack(self.moments.next())
         taken: List[Pair] = []
         pairs, length = [], 0
@@ -294,7 +295,7 @@ class Replica:
             await self._until_queued(count, COME)
 
     async def _until_queued(self, count: int, seconds: Optional[float] = None) -> None:
-        """Waits until so many requests wait for the next entry, or for so many seconds."""
+        """Waits until a number of requests wait for the next entry, or for a number of seconds."""
         if len(self.queue) < count:
             loop = asyncio.get_running_loop()
             self.expected, self.enough = count, loop.create_future()
@@ -335,14 +336,14 @@ class Replica:
             asyncio.get_running_loop().call_later(ELSEWHERE, self._look_elsewhere, number)
 
     def _test_place(self, last: int) -> None:
-        """Raises `Diverged` where the log ends before the copy does: the engine has lost what it
+        """Raises `Diverged` if the log ends before the copy does: the engine has lost what it
         acknowledged, or an old state of it was brought back."""
         if last < self.copy.place or last == self.copy.place and self.sent:
             said = f"the log ends at place {last}, and the copy at {self.copy.place}"
             raise Fault("Diverged", f"{said}; keep all files")
 
     def _look_elsewhere(self, number: int) -> None:
-        """Reads at another address where what was written is not read there."""
+        """Reads at another address if what was written is not read at this one."""
         if number in self.sent:
             loop = asyncio.get_running_loop()
             if loop.time() >= self.looked + ELSEWHERE:  # for all that wait: each place needs time
@@ -381,7 +382,8 @@ class Replica:
             self.take(written)
 
     async def _take_elsewhere(self, node: str, why: Misfit) -> None:
-        """Takes an entry as another node has it. Raises why it is none if no node has it so."""
+        """Takes an entry as another node has it. Raises why it is not an entry if no node has it
+        so."""
         position, others = self.copy.position + 1, {}
         async for it in self.nodes.next_after(self.copy.place):
             try:
@@ -399,7 +401,7 @@ class Replica:
 
     async def _settle(self, other: OtherLog) -> None:
         """Compares the log with that of the nodes. Raises `Rotten` if they have another one, or
-        else doubts the writer."""
+        otherwise doubts the writer."""
         await self._test_log(other.position)
         self.doubts.add(other.writer.hex())
         say(f"writer {other.writer.hex()} {other} up to position {other.position}", "error")
@@ -417,8 +419,8 @@ class Replica:
             await self._test_log(self.copy.position)
 
     def take(self, written: Written) -> None:
-        """Takes an entry of the log. Behind a fault none is taken: it would get the position of the
-        one that has the fault."""
+        """Takes an entry of the log. After a fault no entry is taken: it would get the position of
+        the one that has the fault."""
         if self.fault is not None:
             raise self.fault
         try:
@@ -449,7 +451,7 @@ class Replica:
         self._enter(position, written, entry, wanted)
 
     def _take_own(self, position: int, sent: Sent) -> None:
-        """Takes the pairs of an own entry. Raises `Diverged` where the server had an entry at its
+        """Takes the pairs of an own entry. Raises `Diverged` if the server had an entry at its
         position before it was written."""
         if position <= self.start:
             said = f"the log ends before position {position}, and the server has it up to "
@@ -501,7 +503,7 @@ class Replica:
         raise Fault("Diverged", text)
 
     async def _compare_later(self) -> None:
-        """Compares what writers had of replies with those that came since."""
+        """Compares what writers had of replies with those that came after them."""
         while True:
             if self.follower.answered >= self.start:
                 self.served.set()
@@ -517,7 +519,7 @@ class Replica:
     # reports
 
     def _hear(self, report: Report) -> None:
-        """Takes what another replica says: the clock that it has, where it was asked for that; that
+        """Takes what another replica says: the clock that it has, if it was asked for that; that
         it asks for this one's; or that it diverged from this one."""
         if report.name == self.name:
             self._test_name(report.data)
@@ -548,7 +550,7 @@ class Replica:
             self.answered[name] = asked
 
     def _test_name(self, data: bytes) -> None:
-        """Raises `Ended` where another replica reports by this one's name: what is trimmed goes by
+        """Raises `Ended` if another replica reports by this one's name: what is trimmed goes by
         the names."""
         is_mine = self.writer.hex().encode() in data
         if self.is_heard and not is_mine:
@@ -556,7 +558,7 @@ class Replica:
         self.is_heard = self.is_heard or is_mine
 
     def _test_clock(self) -> None:
-        """Raises `Ahead` where this clock is ahead of that of each replica that answered."""
+        """Raises `Ahead` if this clock is ahead of that of each replica that answered."""
         ahead = 0 if self.right is None else _beyond() - self.right
         if ahead > self.given.ahead * SECOND:
             said = f"{ahead // SECOND} s ahead of the others'"
@@ -627,8 +629,8 @@ class Replica:
         await self._until_right(self._test_last_moment)
 
     async def _until_right(self, test: Callable[[], Awaitable[None]]) -> None:
-        """Tests the clock until it is right: at a boot a wrong one may be set a moment later.
-        Raises `Ahead` where it is not."""
+        """Checks the clock until it is right: at a boot a wrong one may be set a moment later.
+        Raises `Ahead` if it is not."""
         end, is_said = time.monotonic() + CLOCK, False
         while True:
             try:
@@ -643,16 +645,16 @@ class Replica:
             await asyncio.sleep(CLOCK_AGAIN)
 
     def _test_trimmed(self, position: int, place: int, last: int) -> None:
-        """Raises `BadEntry` where no trim of this log has put what the log has for its beginning:
-        what lies behind the copy by its position lies behind it by its place, and in the log."""
+        """Raises `BadEntry` if no trim of this log has put what the log has for its beginning: what
+        comes after the copy by its position comes after it by its place, and in the log."""
         is_behind = position > self.copy.position
         if is_behind != (place > self.copy.place) or place > last or position < 0:
             said = f"the log's `trimmed` has position {position} at place {place}, and the copy "
             raise Fault("BadEntry", f"{said}{self.copy.position} at {self.copy.place}")
 
     async def _settle_head(self) -> None:
-        """Makes the log's head, or raises `OtherRules` where another one is there. The copy keeps
-        it, since the head has an id: so a copy goes on with its own log alone."""
+        """Makes the log's head, or raises `OtherRules` if another one is there. The copy keeps it,
+        because the head has an id: so a copy goes on only with its own log."""
         wanted = head_of(self.given.command, self.given.positions)
         found = await self.log.head(written_head({**wanted, "id": os.urandom(16).hex()}))
         said, head = f"the log has {found.decode(errors='replace')}, and", read_head(found)
@@ -674,7 +676,7 @@ class Replica:
                     say(f"entries are written in format {form} from now on")
 
     async def _test_last_moment(self) -> None:
-        """Raises `Ahead` where the log's last moment lies far ahead of the clock."""
+        """Raises `Ahead` if the log's last moment is far ahead of the clock."""
         last = self.copy.last_moment
         ahead = (last - time.time_ns()) / SECOND
         if ahead > self.given.ahead:
@@ -706,9 +708,9 @@ class Replica:
         return f"LogFull: {full}, so no other replica can answer" if full else UNCONFIRMED
 
     async def _ask_for_clocks(self) -> None:
-        """Compares the clock with those of replicas that answer in time, or else with the engine's.
-        Where none does, what was found before stays true, but for how far this clock was set
-        since."""
+        """Compares the clock with those of replicas that answer in time, or otherwise with the
+        engine's. If no replica answers, what was found before stays true, except for how far this
+        clock was set since then."""
         try:
             others = set(await self.log.reports()) - {self.name}
         except NoLog as none:
@@ -721,7 +723,7 @@ class Replica:
         elif self.right is None:
             await self._ask_the_engine()
         self._test_clock()
-        await self._test_last_moment()  # of what was read since the start
+        await self._test_last_moment()  # of what was read from the start on
 
     def _say_hello(self) -> None:
         """Asks with another hello. Earlier ones may still be answered: on a busy machine each
@@ -732,7 +734,7 @@ class Replica:
         self.hellos[self.hello] = now
 
     async def _answer_until(self, others: Set[str]) -> None:
-        """Waits for the clocks of others, and tells them this one: they may begin too. Once the own
+        """Waits for the clocks of others, and sends them this one: they may begin too. Once the own
         report was read, so was the log up to there."""
         end = time.monotonic() + ANSWERS
         self.reporting.set()
@@ -746,7 +748,7 @@ class Replica:
                 await asyncio.sleep(0.02)
 
     async def _ask_the_engine(self) -> None:
-        """Compares the clock with the engine's, if it tells one."""
+        """Compares the clock with the engine's, if it has one."""
         with contextlib.suppress(NoLog, LogFull):
             clock = await self.log.clock()
             if clock is not None:
@@ -783,7 +785,7 @@ class Replica:
         self._serve(tasks)
 
     def _serve(self, tasks: List[asyncio.Future[Any]]) -> List[asyncio.Future[Any]]:
-        """Begins the server's run, where it has not begun."""
+        """Begins the server's run, if it has not begun."""
         if self.serving is None:
             self.serving = asyncio.ensure_future(self.follower.run())
             tasks.append(self.serving)
@@ -818,7 +820,7 @@ class Replica:
         follower.is_settled.set()
 
     async def _end(self, tasks: List[asyncio.Future[Any]]) -> None:
-        """Ends with what the first task that ended tells."""
+        """Ends with what the first task that ended reports."""
         for it in tasks:
             fault = it.exception() if it.done() else None
             if fault is not None:

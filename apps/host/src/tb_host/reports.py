@@ -1,4 +1,5 @@
-"""Where a host's numbers are read: a Unix socket that answers JSON, and a page for Prometheus."""
+"""The places at which a host's numbers are read: a Unix socket that returns JSON, and a page for
+Prometheus."""
 from __future__ import annotations
 
 import argparse
@@ -25,7 +26,7 @@ WAIT = 2.0  # seconds that a page of metrics waits for the host's thread
 
 
 def add_reports(parser: argparse.ArgumentParser) -> None:
-    """Adds the options of where numbers are read."""
+    """Adds the options of the places at which numbers are read."""
     parser.add_argument(
         "--status",
         metavar="PATH",
@@ -67,7 +68,7 @@ async def reported(
         finally:
             server.close()
             with contextlib.suppress(OSError), folder_of(given.status):
-                if os.path.samestat(mine, os.lstat(given.status)):  # else another one is there
+                if os.path.samestat(mine, os.lstat(given.status)):  # otherwise another one is there
                     os.unlink(given.status)
 
 
@@ -116,8 +117,8 @@ class _Pages(socketserver.ThreadingMixIn, simple_server.WSGIServer):
         self.set_app(app)
 
     def get_request(self) -> Any:
-        """Where a connection cannot be taken, as for want of a file, it would be tried again and
-        again without a pause."""
+        """If a connection cannot be taken, for example because there is no file for it, it would be
+        tried again and again without a pause."""
         try:
             return super().get_request()
         except OSError:

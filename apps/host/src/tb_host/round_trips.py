@@ -1,5 +1,5 @@
-"""Prepared statements that PostgreSQL gets and answers together, by the pipeline mode of libpq. One
-call of psycopg for one statement takes more CPU time than such a round trip."""
+"""Prepared statements that PostgreSQL gets and replies to together, by the pipeline mode of libpq.
+One call of psycopg for one statement takes more CPU time than such a round trip."""
 from __future__ import annotations
 
 import asyncio
@@ -16,7 +16,7 @@ class RoundTrip:
 
     def __init__(self, connection: pq.abc.PGconn, statements: Sequence[Statement]) -> None:
         self.connection, self.left = connection, len(statements)
-        self.socket = connection.socket  # it has none any more once it was lost
+        self.socket = connection.socket  # a connection that was lost has no socket any more
         self.loop = asyncio.get_running_loop()
         self.done: asyncio.Future[None] = self.loop.create_future()
         self.results: List[pq.abc.PGresult] = []
@@ -78,7 +78,7 @@ class RoundTrip:
             self._leave()
         while self.left and not connection.is_busy():
             result = connection.get_result()
-            if result is None:  # behind the results of a statement, or it was closed by libpq
+            if result is None:  # after the results of a statement, or it was closed by libpq
                 if connection.status == pq.ConnStatus.BAD:
                     raise psycopg.OperationalError(pq.error_message(connection))
             elif result.status == pq.ExecStatus.PIPELINE_SYNC:
@@ -92,7 +92,7 @@ class RoundTrip:
 async def results_of(
     connection: psycopg.AsyncConnection[Any], statements: Sequence[Statement]
 ) -> List[List[bytes]]:
-    """The first row of each statement, of texts; empty where it has none. Raises what a statement
+    """The first row of each statement, of texts; empty if it has no row. Raises what a statement
     failed with. A connection that was left amid this is closed."""
     async with connection.lock:
         it = connection.pgconn

@@ -35,13 +35,13 @@ class Server(Asked, Protocol):
         """Whether it serves now: it may be started again."""
 
     def committed(self) -> Optional[int]:
-        """How many commits its ledger's file has had since it runs, where that is known."""
+        """How many commits its ledger's file has had from its start on, if that is known."""
 
     def renew(self) -> None:
-        """Reads its files of TLS again. Raises `Ended` where one is wrong."""
+        """Reads its files of TLS again. Raises `Ended` if one is wrong."""
 
     def lag(self) -> float:
-        """How many seconds its moments lie behind the clock."""
+        """How many seconds its moments are behind the clock."""
 
     def numbers(self) -> Dict[str, Any]:
         """Numbers that not every host has, for `--status` and `--metrics`."""
@@ -66,7 +66,7 @@ def stop_signals() -> asyncio.Future[Any]:
 
 
 async def until(awaited: asyncio.Future[Any], stopping: asyncio.Future[Any]) -> bool:
-    """Whether what is awaited came before the host is to stop. It is cancelled where not."""
+    """Whether what is awaited came before the host is to stop. It is cancelled if not."""
     await first(awaited, stopping)
     if not awaited.done():
         awaited.cancel()
@@ -84,9 +84,9 @@ async def listen_on(
     file: Optional[str] = None,
     clients_max: Optional[int] = None,
 ) -> None:
-    """Takes connections at these places and answers their requests, until a signal comes or the
-    command ends. `file` is the ledger's, where it has one, and `clients_max` how many sessions it
-    has at most, where all requests come through this host."""
+    """Takes connections at these places and serves their requests, until a signal comes or the
+    command ends. `file` is the ledger's, if it has one, and `clients_max` how many sessions it has
+    at most, if all requests come through this host."""
     counts = Counts(file, command.is_serving, command.committed, command.numbers)
     listener = Listener(command, given, access_of(given), counts, Evictions(clients_max))
     loop = asyncio.get_running_loop()
@@ -97,7 +97,7 @@ async def listen_on(
 
 
 def read_again(renew: Callable[[], None]) -> None:
-    """Reads files again at a SIGHUP, and says so. Where one is wrong all old ones stay."""
+    """Reads files again at a SIGHUP, and says so. If one is wrong, all old ones stay."""
     try:
         renew()
     except Ended as ended:
@@ -107,7 +107,7 @@ def read_again(renew: Callable[[], None]) -> None:
 
 
 def _renew(places: List[Place], command: Server, listener: Listener) -> None:
-    """Reads the files of TLS and of client ids again. Raises `Ended` where one is wrong."""
+    """Reads the files of TLS and of client ids again. Raises `Ended` if one is wrong."""
     given = listener.given
     tls, access = context_of(given, no_passphrase), access_of(given)
     command.renew()
@@ -153,7 +153,7 @@ async def _serve_until(
 
 
 async def _begin(places: List[Place], command: Server, listener: Listener) -> None:
-    """Says where it listens once it serves. Until then each request is told `Starting`."""
+    """Says where it listens once it serves. Until then each request gets `Starting`."""
     await command.begun()
     listener.counts.has_begun = True
     for place in places:
@@ -162,5 +162,5 @@ async def _begin(places: List[Place], command: Server, listener: Listener) -> No
 
 
 def _name_of(running: asyncio.Future[Any]) -> str:
-    """The name of the fault that the server ended with, where it told one."""
+    """The name of the fault that the server ended with, if it reported one."""
     return fault_name(str(running.exception() or ""))

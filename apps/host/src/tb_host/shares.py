@@ -1,7 +1,8 @@
 """What one peer may take of a host: connections, sessions, and requests in a second.
 
-A peer is a client range where the file of client ids names one, or else a certificate, a user of
-the Unix socket, or an address. Who takes more is refused by a name, and takes nothing of others'.
+A peer is a client range if the file of client ids names one, otherwise a certificate, a user of the
+Unix socket, or an address. A peer that takes more is refused by a name, and takes nothing of
+others'.
 """
 from __future__ import annotations
 
@@ -45,8 +46,8 @@ def add_shares(parser: argparse.ArgumentParser) -> None:
 
 
 class Turns:
-    """When the next request of a peer has its turn: so many in a second, and as many at once after
-    a second without any."""
+    """When the next request of a peer has its turn: a number of them in a second, and as many at
+    once after a second without any."""
 
     def __init__(self, rate: int) -> None:
         self.rate, self.due = rate, 0.0  # by when what was taken has had its time

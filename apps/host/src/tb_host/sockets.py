@@ -40,7 +40,7 @@ def folder_of(path: str) -> Iterator[None]:
 
 
 def _lock(folder: int) -> None:
-    """Locks a folder. It goes on without that where a file system has no such locks, or another
+    """Locks a folder. It goes on without that if a file system has no such locks, or another
     holds it for long: whoever may read the folder can."""
     end = time.monotonic() + HELD
     while time.monotonic() < end:
@@ -63,7 +63,7 @@ class Place:
 
 
 def unix_socket(path: str, is_shared: bool = False) -> socket.socket:
-    """A socket at this path, which its owner alone may use, or everyone where it is shared. One
+    """A socket at this path, which only its owner may use, or everyone if it is shared. One
     that nobody listens on any more gives way."""
     it = socket.socket(socket.AF_UNIX, socket.SOCK_STREAM)
     before = os.umask(0o111 if is_shared else 0o177)
@@ -120,8 +120,8 @@ def tcp_socket(host: str, port: int) -> socket.socket:
 
 @contextlib.contextmanager
 def bound(given: argparse.Namespace) -> Iterator[List[Place]]:
-    """The sockets that are listened on, and removed at the end: those that were passed, where some
-    were, else those of the options."""
+    """The sockets that are listened on, and removed at the end: those that were passed, if some
+    were, otherwise those of the options."""
     tls = context_of(given)
     passed = passed_sockets()
     with contextlib.ExitStack() as places:
@@ -149,7 +149,7 @@ def _passed(it: socket.socket, given: argparse.Namespace, tls: Optional[ssl.SSLC
 
 
 def _test_address(it: socket.socket, given: argparse.Namespace) -> None:
-    """Raises `Ended` where a socket's address is not loopback and was not allowed."""
+    """Raises `Ended` if a socket's address is not loopback and was not allowed."""
     host, port = it.getsockname()[:2]
     if not (given.client_ca or given.insecure or is_loopback(host)):
         raise Ended(f"{shown(host, port)} is no loopback address: give --client-ca FILE", 2)
@@ -157,7 +157,7 @@ def _test_address(it: socket.socket, given: argparse.Namespace) -> None:
 
 @contextlib.contextmanager
 def faults_of(place: str) -> Iterator[None]:
-    """Tells the place of a fault."""
+    """Says which place has a fault."""
     try:
         yield
     except UnicodeError:
@@ -176,7 +176,7 @@ def _bound_path(given: argparse.Namespace) -> Iterator[socket.socket]:
         yield place
     finally:
         with contextlib.suppress(OSError), folder_of(given.unix):
-            if os.path.samestat(mine, os.lstat(given.unix)):  # else another one is there by now
+            if os.path.samestat(mine, os.lstat(given.unix)):  # otherwise another is there by now
                 os.unlink(given.unix)
         place.close()
 
@@ -203,8 +203,8 @@ def make_room(given: argparse.Namespace) -> None:
 
 
 async def take_connections(at: Place, listener: Listener) -> None:
-    """Takes connections one after another. Where there is no file for one more, those that call
-    wait until there is."""
+    """Takes connections one after another. If there is no file for one more, those that call wait
+    until there is."""
     is_said, place = False, at.socket
     place.setblocking(False)
     while True:
@@ -235,7 +235,7 @@ async def take_connections(at: Place, listener: Listener) -> None:
 
 
 async def _called(place: socket.socket) -> None:
-    """Waits until someone calls. It takes no connection, so that none is lost where it is
+    """Waits until someone calls. It takes no connection, so that no connection is lost if it is
     cancelled."""
     loop, called = asyncio.get_running_loop(), asyncio.Event()
     loop.add_reader(place, called.set)
@@ -255,7 +255,8 @@ def _keep(task: asyncio.Task[None], peer: str) -> None:
 
 
 async def _drop_oldest(listener: Listener) -> None:
-    """Ends who agrees on TLS for longest: that takes a moment, but for those who stall."""
+    """Ends the peer that agrees on TLS for longest: that takes a moment, except for those that
+    stall."""
     task, peer = next(iter(agreeing.items()))
     del agreeing[task]  # so that another place drops another one meanwhile
     task.cancel()
@@ -271,7 +272,7 @@ def _say_no_tls(listener: Listener, peer: str, why: str) -> None:
 async def _begin(
     it: socket.socket, listener: Listener, tls: Optional[ssl.SSLContext] = None
 ) -> None:
-    """Lets a connection be served, once it has agreed on TLS where that is wanted."""
+    """Lets a connection be served, once it has agreed on TLS if that is wanted."""
     peer = ""
     if tls:
         agreeing_on.set(it)

@@ -29,7 +29,7 @@ LATER = ("reads", "writes", "moment")  # numbers that replicas of an older versi
 
 
 def tell(text: str) -> None:
-    """Prints a line. One that is lost is a fault, but for a reader that is gone. No more is written
+    """Prints a line. One that is lost is a fault, except if its reader is gone. No more is written
     then."""
     try:
         print(text, flush=True)
@@ -58,7 +58,7 @@ async def _reports(log: Log) -> Dict[str, Dict[str, Any]]:
 
 
 async def status(given: argparse.Namespace, log: Log) -> int:
-    """Prints a line for the log and one for each replica. Answers the status of a fault that they
+    """Prints a line for the log and one for each replica. Returns the status of a fault that they
     have, or 0."""
     position, place = await log.trimmed()
     reports, full = await _reports(log), await log.full()
@@ -81,7 +81,7 @@ async def status(given: argparse.Namespace, log: Log) -> int:
 
 
 def _compare(reports: Dict[str, Dict[str, Any]]) -> None:
-    """Raises `Diverged` where two replicas have other replies at one position."""
+    """Raises `Diverged` if two replicas have other replies at one position."""
     seen: Dict[int, Any] = {}
     for name, it in reports.items():
         other, digest = seen.setdefault(it["answered"], (name, it["replies"]))
@@ -203,15 +203,15 @@ async def _reply(process: Process, telling: asyncio.Task[bytes], wanted: bytes) 
         return header + await process.stdout.readexactly(reply_length(header) - HEADER)
     except asyncio.IncompleteReadError:
         await asyncio.wait([telling], timeout=LAST_WORDS)
-        telling.cancel()  # it answers what has come
+        telling.cancel()  # it serves what has come
         said = last_line(await telling) or "the command ended before it had answered all"
-        kill(process)  # it may have closed its output alone
+        kill(process)  # it may have closed only its output
         await exited(process)
         raise Ended(said, 1) from None
 
 
 async def _wrong(process: Process) -> Ended:
-    """Ends a process that wrote what is no reply. Answers what is told of it."""
+    """Ends a process that wrote what is no reply. Returns what is reported of it."""
     kill(process)
     await exited(process)
     return Ended("the command wrote what is no reply to the next pair", 1)

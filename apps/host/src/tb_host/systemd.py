@@ -1,4 +1,5 @@
-"""What systemd gives a host: sockets that it listens on already, and a place to tell its state."""
+"""What systemd gives a host: sockets that it listens on already, and a place to report its
+state."""
 from __future__ import annotations
 
 import contextlib
@@ -13,8 +14,8 @@ FAMILIES = (socket.AF_UNIX, socket.AF_INET, socket.AF_INET6)
 
 
 def passed_sockets() -> List[socket.socket]:
-    """The sockets that are passed to this process, where some are. Raises `Ended` where what is
-    passed is none that takes connections."""
+    """The sockets that are passed to this process, if some are. Raises `Ended` if one of them does
+    not take connections."""
     if os.environ.get("LISTEN_PID") != str(os.getpid()):
         return []
     count = os.environ.pop("LISTEN_FDS", "0")
@@ -35,7 +36,7 @@ def _socket(file: int) -> socket.socket:
 
 
 def notify(state: str) -> None:
-    """Tells a state, as `READY=1`, where systemd waits for it."""
+    """Reports a state, as `READY=1`, if systemd waits for it."""
     place = os.environ.get("NOTIFY_SOCKET", "")
     if not place:
         return

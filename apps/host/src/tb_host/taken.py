@@ -11,7 +11,7 @@ KEPT = 100_000  # positions of which the hashes are kept, to be compared with a 
 
 class Item(NamedTuple):
     """An entry as the server is given it: its pairs, and what the reply to each repeats. `end` is
-    where its bytes end, among those of all entries."""
+    the end of its bytes, among those of all entries."""
 
     position: int
     pairs: bytes
@@ -20,7 +20,7 @@ class Item(NamedTuple):
 
 
 class Taken:
-    """The log up to a position, in a replica's folder. Where its entries are is a subclass's."""
+    """The log up to a position, in a replica's folder. A subclass decides where its entries are."""
 
     def __init__(self, folder: str) -> None:
         self.folder = folder
@@ -37,7 +37,7 @@ class Taken:
         self.has_room.set()
 
     def scan(self) -> None:
-        """Reads what is there, and goes on behind it."""
+        """Reads what is there, and goes on after it."""
         raise NotImplementedError
 
     def append(
@@ -72,15 +72,15 @@ class Taken:
             await self.grown.wait()
 
     def end_of(self, data: bytes) -> int:
-        """Where the bytes of the next entry would end."""
+        """The place at which the bytes of the next entry would end."""
         raise NotImplementedError
 
     def behind(self, position: int) -> int:
-        """Where the bytes of the entry behind a position begin."""
+        """The place at which the bytes of the entry after a position begin."""
         raise NotImplementedError
 
     def items(self, start: int) -> Iterator[Item]:
-        """The entries whose bytes begin there, and those behind them."""
+        """The entries whose bytes begin there, and those after them."""
         raise NotImplementedError
 
     def settle(self, position: int) -> None:

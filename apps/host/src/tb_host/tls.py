@@ -14,7 +14,7 @@ from .lines import Ended
 
 
 def add_tls(parser: argparse.ArgumentParser) -> None:
-    """Adds the options of TLS, which is for TCP alone."""
+    """Adds the options of TLS, which is only for TCP."""
     parser.add_argument(
         "--certificate", metavar="FILE", type=path, help="the host's certificate: TCP is over TLS"
     )
@@ -33,7 +33,7 @@ def add_tls(parser: argparse.ArgumentParser) -> None:
 
 
 def test_tls(parser: argparse.ArgumentParser, given: argparse.Namespace) -> None:
-    """Ends the program where the options of TLS do not go together."""
+    """Ends the program if the options of TLS do not go together."""
     if bool(given.certificate) != bool(given.key):
         parser.error("--certificate and --key come together")
     if given.client_ca and not given.certificate:
@@ -48,8 +48,8 @@ def test_tls(parser: argparse.ArgumentParser, given: argparse.Namespace) -> None
 
 
 def is_loopback(host: str) -> bool:
-    """Whether all addresses of a host are this computer's own. A name that has none is left to the
-    socket, which tells it."""
+    """Whether all addresses of a host are this computer's own. A name that has no address is left
+    to the socket, which reports it."""
     try:
         found = socket.getaddrinfo(host, None, type=socket.SOCK_STREAM)
     except (OSError, UnicodeError):
@@ -69,7 +69,7 @@ agreeing_on: contextvars.ContextVar[socket.socket] = contextvars.ContextVar("agr
 
 
 class _Agreement(ssl.SSLObject):
-    """TLS of one connection. Where it is not agreed on, the alert that says why is sent: a loop of
+    """TLS of one connection. If it is not agreed on, the alert that says why is sent: a loop of
     asyncio closes the connection without it, and the client would take that for a lost one."""
 
     outgoing: ssl.MemoryBIO
@@ -102,8 +102,7 @@ def no_passphrase() -> str:
 def context_of(
     given: argparse.Namespace, passphrase: Optional[Callable[[], str]] = None
 ) -> Optional[ssl.SSLContext]:
-    """The context of the options. Raises `Ended` where a file is not there or not what it is to
-    be."""
+    """The context of the options. Raises `Ended` if a file is missing or not what it is to be."""
     if not given.certificate:
         return None
     context = _Context(ssl.PROTOCOL_TLS_SERVER)

@@ -23,7 +23,7 @@ PATIENCE = 600.0  # seconds for a reply
 
 
 class Differs(Fault):
-    """The model has something else than the proved program."""
+    """The model differs from the proved program."""
 
     status = 1
 

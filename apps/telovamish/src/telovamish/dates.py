@@ -10,7 +10,7 @@ from .words import SECOND, TIME_MAX
 DATE = re.compile(r"(\d{4})-(\d\d)-(\d\d)(?:T(\d\d):(\d\d)(?::(\d\d)(?:\.(\d{1,9}))?)?Z)?", re.A)
 EARLIEST = "0000-01-01T00:00:00."
 FRACTION = len(EARLIEST)
-ENDS = (10, 16, 19)  # where a day, a minute and a second end
+ENDS = (10, 16, 19)  # the ends of a day, a minute and a second
 EPOCH = datetime.datetime(1970, 1, 1)
 
 

@@ -1,4 +1,5 @@
-"""Where and why `tbs` stops in a script or a dump: by the number of its replies and its fault."""
+"""The place at which `tbs` stops in a script or a dump, and why: by the number of its replies and
+its fault."""
 from __future__ import annotations
 
 import contextlib

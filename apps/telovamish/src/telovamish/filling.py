@@ -34,7 +34,7 @@ class Known:
 
     def fill(self, given: Numbers, word: str) -> Numbers:
         """The fields that are left out before this word, which is an operation's or may be one;
-        none if they are not known."""
+        no fields if they are not known."""
         client = given.get("client", self.last)
         if client is None:
             return {}

@@ -71,7 +71,7 @@ def dump() -> None:
 
 @click.command()
 def pairs() -> None:
-    """A dump in, a script that makes its history out. A mark is left out: a script has none."""
+    """A dump in, a script that makes its history out. A mark is left out: a script has no marks."""
     from .streams import Entry, read_dump
 
     entries = (it for it in read("dump", "Head", read_dump) if isinstance(it, Entry))

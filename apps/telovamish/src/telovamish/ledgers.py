@@ -33,7 +33,7 @@ class Ledger(NamedTuple):
 
     @property
     def has_moments(self) -> bool:
-        """A request enters at the moment that it is sent with; else at the server's."""
+        """A request enters at the moment that it is sent with; otherwise at the server's."""
         return not isinstance(self.transport, Socket)
 
     @property
@@ -41,7 +41,8 @@ class Ledger(NamedTuple):
         return self.transport.connections if isinstance(self.transport, Socket) else 1
 
     def tls_fault(self, why: str) -> str:
-        """That one side of a new connection speaks TLS and the other does not; else nothing."""
+        """That one side of a new connection speaks TLS and the other does not; otherwise
+        nothing."""
         if not isinstance(self.transport, Socket):
             return ""
         if "WRONG_VERSION_NUMBER" in why:
@@ -147,7 +148,7 @@ def over(addresses: str, tls: Optional[ssl.SSLContext]) -> Ledger:
 
 
 def speaks_tls(place: Any) -> bool:
-    """Whether a server that closed a plain connection wants TLS."""
+    """Whether a server that closed a plain connection requires TLS."""
     try:
         return not isinstance(place, str) and bool(ssl.get_server_certificate(place, timeout=2))
     except OSError as why:  # an alert, if it refuses a client without a certificate

@@ -23,7 +23,7 @@ def found(name: str, option: Optional[str] = None) -> Optional[str]:
 
 
 def program(name: str, option: Optional[str] = None, flag: str = "--program") -> str:
-    """The path of a program. Raises Device with what to do if there is none."""
+    """The path of a program. Raises Device with what to do if there is no such program."""
     path = found(name, option)
     if path:
         return path

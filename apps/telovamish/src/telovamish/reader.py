@@ -254,7 +254,7 @@ class Scan:
 
 
 def _number(digits: str, maximum: int) -> Optional[int]:
-    """The number that these digits spell, if it is one up to the maximum."""
+    """The number of these digits, if it is one up to the maximum."""
     if _digits_right(digits, maximum) < len(digits) or digits == "0x":
         return None
     if digits.startswith("0x"):
@@ -294,7 +294,8 @@ def awaited(scan: Scan) -> Awaited:
 
 
 def scanned(before: str, fill: Fill) -> Optional[Scan]:
-    """The reader after these bytes of a statement and a line end; None if none begins so."""
+    """The reader after these bytes of a statement and a line end; None if no statement begins
+    so."""
     scan = Scan(fill)
     try:
         scan.read(before + "\n")

@@ -16,7 +16,7 @@ from .words import CLOSINGS, STATUSES, TIME_MAX
 TRIES = 8
 PAUSE_MAX = 5.0
 AGAIN = (tb.ReplyLost, tb.NoMemory, tb.CannotConnect)  # after these the bytes may be sent again
-# why a server closes a connection finally, however often it is asked: nothing was executed
+# why a server closes a connection each time, however often it is asked: nothing was executed
 FINAL = {"NotAllowed", "ClientNotAllowed", "ClientZero", "UnknownOperation", "Reserved"}
 FINAL |= {"RegisterNumbers", "RequestZero", "BadLength", "TooMany"}
 IN_DOUBT = """no reply is waited for: the statement may have been executed, or may be yet. Typed
@@ -137,7 +137,7 @@ class Desk:
         raise AssertionError("there is a last try")
 
     def _final(self, why: tb.ClientError) -> str:
-        """What waiting does not mend, in words; else nothing."""
+        """What waiting does not mend, in words; otherwise nothing."""
         closing = getattr(why, "told", "")
         if closing in FINAL:
             return f"{closing}: {CLOSINGS[closing]}"

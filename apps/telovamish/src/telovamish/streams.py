@@ -35,7 +35,7 @@ Item = Union[Head, Entry, Mark]
 
 
 def exactly(source: IO[bytes], length: int, may_end: bool = False) -> bytes:
-    """So many bytes of a buffered stream; none if it ends and may end here."""
+    """As many bytes of a buffered stream as are asked for; no bytes if it ends and may end here."""
     data = source.read(length)
     if len(data) < length and (data or not may_end):
         raise Fault("Short")

@@ -52,7 +52,8 @@ def aligned(head: Sequence[str], rows: Sequence[Sequence[str]]) -> list[str]:
 
 
 def records_shown(records: Sequence[Row], width: int, named: Any = None) -> Iterator[str]:
-    """A table if it fits, else a block of lines for each record. Names may be added to them."""
+    """A table if it fits, otherwise a block of lines for each record. Names may be added to
+    them."""
     columns = columns_of(records)
     records = named(records) if named else records
     rows = [[shown(it, record[it]) for it in columns] for record in records]

@@ -44,7 +44,8 @@ def axis(least: int, greatest: int) -> List[int]:
 
 
 def place(value: int, low: int, high: int, start: float, end: float) -> float:
-    """Where a value is drawn. The share is taken of whole numbers, which may have 128 bits."""
+    """The place at which a value is drawn. The share is taken of whole numbers, which may have 128
+    bits."""
     share = (value - low) * 1_000_000 // (high - low) / 1_000_000
     return start + (end - start) * share
 

@@ -16,7 +16,7 @@ from .queries import Tables
 from .site import Site
 
 CSV_ROWS = 2000  # that are written at a time
-# Each view's rows in an order, where the view has none.
+# Each view's rows in an order, if the view has no order.
 ORDERS = {
     "accounts": "timestamp",
     "transfers": "timestamp",
@@ -38,7 +38,7 @@ OF_ACCOUNT = ("statement", "postings", "named_statement", "balances", "account_t
 
 
 def table_csv(site: Site, name: str) -> Response:
-    """The rows of a table or view; of one account where that is asked for. With bom=1 it begins
+    """The rows of a table or view; of one account if that is asked for. With bom=1 it begins
     with a byte order mark, by which Excel sees that it is UTF-8."""
     if name not in TABLES and name not in VIEWS and name != "names":
         abort(404, f"There is no table {name}.")

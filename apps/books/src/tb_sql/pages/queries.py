@@ -1,5 +1,5 @@
 """What the pages ask the tables. Each question takes a bounded number of steps through an index,
-whatever the history's length, but for three: the trial balance looks at each account, the reasons
+whatever the history's length, except three: the trial balance looks at each account, the reasons
 at each refused event, and what is pending at each open transfer (of the account, on its page)."""
 
 from __future__ import annotations
@@ -27,7 +27,7 @@ class Range(NamedTuple):
 
 
 class Page(NamedTuple):
-    """Rows, the newest first, and where the pages next to it begin."""
+    """Rows, the newest first, and the first rows of the pages next to it."""
 
     rows: List[Row]
     newer: Optional[int]
@@ -44,7 +44,7 @@ class Bar(NamedTuple):
 
 
 class Summary(NamedTuple):
-    """An account's postings within a range: the sums before it, and behind it."""
+    """An account's postings within a range: the sums before it, and after it."""
 
     first: int
     last: int
@@ -176,7 +176,7 @@ class Tables:
         return self.one("SELECT * FROM entries WHERE commit_number = ?", commit)
 
     def refused_by_id(self, id: Number) -> List[Row]:
-        """The latest ones, and one more where there are more than a page has."""
+        """The latest ones, and one more if there are more than a page has."""
         return self.all(
             "SELECT r.*, e.time FROM refused AS r JOIN entries AS e USING (commit_number)"
             " WHERE r.id = ? ORDER BY commit_number DESC, place DESC LIMIT ?",
@@ -186,7 +186,7 @@ class Tables:
 
     def sessions_of(self, client: Number) -> List[Row]:
         """The sessions of a client, the latest first: before the first entry of each the last one
-        of the session before it. One more where there are more than a page has."""
+        of the session before it. One more if there are more than a page has."""
         found: List[Row] = []
         before = LAST
         while len(found) <= ROWS:
@@ -205,7 +205,7 @@ class Tables:
         return found
 
     def summary(self, id: Number, range: Range) -> Optional[Summary]:
-        """The account's postings within a range; nothing where there are none."""
+        """The account's postings within a range; nothing if there are no postings."""
         within = "FROM postings WHERE account_id = ? AND timestamp >= ? AND timestamp <= ?"
         first = self.one(f"SELECT * {within} ORDER BY timestamp LIMIT 1", id, *range)
         last = self.one(f"SELECT * {within} ORDER BY timestamp DESC LIMIT 1", id, *range)
@@ -294,7 +294,7 @@ class Tables:
         return rows[:ROWS], len(rows) > ROWS
 
     def ledgers(self) -> List[int]:
-        """The first ledgers, each found behind the one before it."""
+        """The first ledgers, each found after the one before it."""
         rows = self.all(
             "WITH RECURSIVE found(ledger) AS (SELECT min(ledger) FROM accounts UNION ALL"
             " SELECT (SELECT min(ledger) FROM accounts AS a WHERE a.ledger > f.ledger)"
@@ -334,7 +334,7 @@ class Tables:
         return Page(rows, newest if is_newer else None, oldest if is_older else None)
 
     def balances(self, id: Number, range: Range) -> Tuple[List[Tuple[int, int]], bool]:
-        """Points of an account's balance: each posting where there are few, else the last one
+        """Points of an account's balance: each posting if there are few, otherwise the last one
         before each of some moments. Says whether each posting is among them."""
         found = self.summary(id, range)
         if found is None:
@@ -367,8 +367,8 @@ class Tables:
         return points, False
 
     def pending_of(self, id: Number) -> List[Row]:
-        """The open pending transfers of an account, by expiry, and one more where there are more
-        than a page has."""
+        """The open pending transfers of an account, by expiry, and one more if there are more than
+        a page has."""
         of_account = "SELECT * FROM transfers WHERE state = 'pending' AND {}_account_id = ?"
         return self.all(
             f"SELECT * FROM ({of_account.format('debit')} UNION ALL {of_account.format('credit')})"

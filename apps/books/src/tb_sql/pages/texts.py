@@ -27,7 +27,7 @@ def names() -> Names:
 
 
 def shown_number(value: Number, ledger: Optional[Number] = None) -> Markup:
-    """An amount: with point and unit where the ledger has a name, and then the exact integer next
+    """An amount: with point and unit if the ledger has a name, and then the exact integer next
     to it; otherwise with commas."""
     written = names().amount(int(value), ledger) if ledger is not None else None
     number = broken(charts.grouped(int(value)) if written is None else written)
@@ -44,7 +44,7 @@ def broken(text: str) -> Markup:
 
 
 def plain_amount(value: Number, ledger: Number) -> str:
-    """An amount alone, in a sentence."""
+    """Only an amount, in a sentence."""
     return names().amount(int(value), ledger) or charts.grouped(int(value))
 
 
