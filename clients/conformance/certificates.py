@@ -9,7 +9,7 @@ OTHER = "subjectAltName=DNS:ledger.example"
 
 
 def made(folder):
-    """The paths of certificates and keys by name, or nothing where there is no openssl."""
+    """The paths of certificates and keys by name, or nothing if there is no openssl."""
     if not shutil.which("openssl"):
         return {}
     paths = {}

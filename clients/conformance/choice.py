@@ -19,8 +19,8 @@ def add_words(parser):
 
 
 def chosen(wrong, given):
-    """Those that were asked for, by number and name. Ends the script where there is none, or where
-    they were only to be listed."""
+    """Those that were asked for, by number and name. Ends the script if there is none, or if they
+    were only to be listed."""
     named = {
         number: name for number, name in enumerate(wrong, 1) if fnmatch.fnmatch(name, given.only)
     }

@@ -38,7 +38,7 @@ from runner import Ended, Runner  # noqa: E402
 
 HEADER = 48
 CALL = 120.0  # seconds that the calls of a round may take
-LONG = 60.0  # seconds that one sending may take where nothing fails
+LONG = 60.0  # seconds that one sending may take if nothing fails
 SIZES = {frames.ACCOUNTS: 128, frames.TRANSFERS: 128}
 USUAL = {
     "loses": 2,
@@ -267,7 +267,7 @@ class Crowd:
         return {"operation": frames.NAMES[operation], "items": items}
 
     def loads(self, call):
-        """What was saved amid other calls is a session, and none of a later time."""
+        """What was saved amid other calls is a session, and not one of a later time."""
         path, name = call["path"], call["session"]
         it = self.call("load", session="x", transport=self.transport, path=path)
         now = self.call("saved", session=name)["ok"]
@@ -322,7 +322,7 @@ class Crowd:
 
 
 def is_doubtful(call, answer):
-    """Whether a request may be in doubt behind a call, or was while others were answered."""
+    """Whether a request may be in doubt after a call, or was while others were answered."""
     return answer.get("error", {}).get("sent") or call["do"] == "prepare" and "ok" in answer
 
 

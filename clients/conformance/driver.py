@@ -23,7 +23,7 @@ class Skipped(Exception):
 
 
 def slower(value, factor):
-    """The same steps with all times so many times as long."""
+    """The same steps with all times longer by a factor."""
     if isinstance(value, dict):
         return {
             key: it * factor if key in TIMES and is_time(it) else slower(it, factor)
@@ -191,7 +191,7 @@ class Run:
         return set(answer) == {"ok"} and matches(wants["ok"], answer["ok"])
 
     def are_later(self, wants, got):
-        """Whether these are ids, and where `after` says so above all earlier ones of the run."""
+        """Whether these are ids, and if `after` says so, above all earlier ones of the run."""
         if not are_ids(wants, got):
             return False
         numbers = [int(it) for it in got]
@@ -281,7 +281,7 @@ def matches(wanted, got):
 
 
 def rises(wanted, got):
-    """Whether these are so many records, each as the first one, with ids that rise by one."""
+    """Whether these are this many records, each as the first one, with ids that rise by one."""
     first = wanted["first"]
     start = int(first["id"])
     return len(got) == wanted["count"] and all(
@@ -307,7 +307,7 @@ def is_error(wants, got):
 
 
 def are_ids(wants, got):
-    """Whether these are so many ids: all different, each of about now, and rising where they were
+    """Whether these are this many ids: all different, each of about now, and rising if they were
     made by one thread."""
     if (
         not isinstance(got, list)

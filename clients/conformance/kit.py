@@ -43,7 +43,7 @@ HERE = os.path.dirname(os.path.abspath(__file__))
 SHORTENING = 60.0  # seconds
 STEPS = r"none|\d+(,\d+)*"
 FACTORS = (1, 10, 40)  # how many times as long the times of a timed scenario are at each try
-STARVED = 0.1  # seconds, so many times as long, without a processor after which a try says nothing
+STARVED = 0.1  # seconds without a CPU, times the factor, after which a try says nothing
 TRIES = 9
 sys.path.insert(0, HERE)
 

@@ -86,7 +86,7 @@ class Listening:
             self.process.stderr.close()
 
     def kill_server(self):
-        """Kills the listener's child, if it has one just now."""
+        """Kills the listener's child, if it has one at the moment."""
         with contextlib.suppress(OSError):
             with open(f"/proc/{self.process.pid}/task/{self.process.pid}/children") as it:
                 for number in it.read().split():
@@ -136,7 +136,7 @@ class Money:
         self.call({"do": "save", "session": "s", "path": self.path})
 
     def resumed(self):
-        """The client again, from what it saved. The request that was in doubt is answered."""
+        """The client again, from what it saved. The request that was in doubt has its reply."""
         self.begin()
         line = {"do": "load", "session": "s", "transport": "t", "path": self.path, "attempts": 100}
         if self.call(line)["pending"]:
@@ -153,8 +153,8 @@ class Money:
     # Transfers
 
     def transfer(self, kind):
-        """One transfer, and a kill of this kind somewhere in its steps, or none. It is made in the
-        end, once."""
+        """One transfer, and a kill of this kind somewhere in its steps, or no kill. It is made in
+        the end, once."""
         number = self.made + 1
         sale = {"id": str(1000 + number), "debit_account_id": "1", "credit_account_id": "2"}
         sale = {**sale, "amount": str(number), "ledger": "700", "code": "10"}

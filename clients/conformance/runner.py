@@ -27,7 +27,7 @@ class Patience:
         self.at, self.before = time.monotonic(), None
 
     def is_over(self):
-        """Counts the time since the last look."""
+        """Counts the time from the last look on."""
         now, total = time.monotonic(), self.waited()
         starved = 0 if self.before is None else max(total - self.before, 0)
         self.left -= max(min(now - self.at, LOOK) - starved, 0)

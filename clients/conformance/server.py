@@ -20,8 +20,8 @@ class Failed(Exception):
 
 class Server:
     """One listening socket, at a Unix path or at a port of the loopback interface. The port is its
-    own until `close`, also while it does not listen: else another scenario's server may get it, and
-    this one's client calls that."""
+    own until `close`, also while it does not listen: otherwise another scenario's server may get
+    it, and this one's client calls that."""
 
     def __init__(self, name, folder, over, context=None):
         self.name, self.over, self.context = name, over, context
@@ -57,8 +57,8 @@ class Server:
             self.socket = None
 
     def accept(self, patience=None):
-        """The next connection, or None where none comes in time. Without patience it has to be
-        there."""
+        """The next connection, or None if no connection comes in time. Without patience it has to
+        be there."""
         while self.socket is not None:
             if readable(self.socket, patience.look() if patience else 0):
                 return self.socket.accept()[0]
@@ -167,7 +167,7 @@ class Connections:
             getattr(self, f"do_{verb}")(action[verb], action)
 
     def bytes_of(self, text):
-        """Bytes by the name of a frame, or as hex, or as text behind `text:`. A frame of many items
+        """Bytes by the name of a frame, or as hex, or as text after `text:`. A frame of many items
         has the first of them, and their number: ids rise by one."""
         frame = self.frames.get(text, text)
         if isinstance(frame, dict):
@@ -218,7 +218,7 @@ class Connections:
             self.open[name] = it
 
     def agreed(self, it, server, wanted):
-        """The connection under TLS, or None where that was to fail, and failed."""
+        """The connection under TLS, or None if that was to fail, and failed."""
         try:
             if wanted == "in flights":
                 it = InFlights(it, server.context)
@@ -278,7 +278,7 @@ class Connections:
             raise Failed(f"the client sends {shown(data)}, not {shown(wanted)}")
 
     def do_hello(self, name, _):
-        """Reads the first bytes of TLS, and nothing else."""
+        """Reads only the first bytes of TLS."""
         data = self.taken(self.open[name], 3)
         if data[:2] != b"\x16\x03":
             raise Failed(f"the client sends {shown(data)}, which is no TLS")
@@ -292,8 +292,8 @@ class Connections:
     # Bytes
 
     def do_read(self, text, action):
-        """Reads just these bytes. `any` has the places that may hold anything; `first` so many
-        only."""
+        """Reads exactly these bytes. `any` has the places that may hold anything; `first` only a
+        number of them."""
         wanted = self.bytes_of(text)[: action.get("first")]
         got = self.received(self.connection(action), len(wanted), action)
         compared = bytearray(got)
@@ -325,8 +325,8 @@ class Connections:
         return data
 
     def do_send(self, text, action):
-        """Sends bytes: in pieces where `cuts` has places, after the client of the last request
-        where `client` says so."""
+        """Sends bytes: in pieces if `cuts` has places, after the client of the last request if
+        `client` says so."""
         data, it = self.bytes_of(text), self.connection(action)
         self.sent_at = time.monotonic()
         if action.get("client"):
@@ -342,8 +342,8 @@ class Connections:
         time.sleep(seconds)
 
     def do_answer(self, count, action):
-        """Reads so many requests, and answers each by its own numbers, with an empty body. Numbers
-        of a client have to rise by one."""
+        """Reads a number of requests, and replies to each by its own numbers, with an empty body.
+        Numbers of a client have to rise by one."""
         name, numbers = action.get("on", "c"), {}
         for commit in range(100, 100 + count):
             header = self.received(self.open[name], HEADER, action)
@@ -363,7 +363,7 @@ class Connections:
 
     def do_asked(self, wanted, action):
         """Reads a request of these lists, in any order: its session, number and operation are
-        wanted. A register has a new client id, and where it is sent `again` the same bytes."""
+        wanted. A register has a new client id, and if it is sent `again`, the same bytes."""
         name, (session, number, operation) = action["on"], wanted
         lists = list(map(list_of, action["lists"]))
         body = b"".join(lists)
@@ -419,8 +419,8 @@ class Connections:
     # Ends
 
     def nothing_left(self):
-        """Raises where the client sent what no action has read, or made a connection that none has
-        taken."""
+        """Raises if the client sent what no action has read, or made a connection that no action
+        has taken."""
         for name, it in self.open.items():
             it.settimeout(0)
             try:
@@ -460,7 +460,7 @@ def list_of(given):
 
 
 def order_of(lists, body):
-    """The order in which a body has some lists, each whole, or None where it does not."""
+    """The order in which a body has some lists, each whole, or None if it does not."""
     left, order = dict(enumerate(lists)), []
     while left:
         found = [at for at, it in left.items() if body.startswith(it)]

@@ -268,7 +268,7 @@ class Kit(unittest.TestCase):
         self.assertEqual([it for it in kit.scenarios()[0] if it["name"] == "reply-late"], [shown])
 
     def test_no_runner_at_once(self):
-        """No scenario would run, and none would fail."""
+        """No scenario would run, and no scenario would fail."""
         for jobs in ("0", "-1"):
             status, said, faults = ran("kit.py", "--jobs", jobs, "--first", *RUNNER)
             self.assertEqual((status, said), (2, ""))

@@ -26,7 +26,7 @@ from choice import add_words, all_caught, chosen, first_failure  # noqa: E402
 
 SECONDS = 1800  # that the kit may take for one wrong client
 
-# Each: what is wrong, the file, the text that stands there once, and the text in its place.
+# Each: what is wrong, the file, the text that is there once, and the text in its place.
 WRONG = {
     "shared: results are not by a list's own indexes": (
         "joined.py",

@@ -1,7 +1,7 @@
 """Wrong clients by what a session sends, takes for a reply, and keeps: edits of
 clients/python/src/tb_client, as in wrong_clients.py."""
 
-# Where the session, number, client and operation of a reply are compared.
+# The places at which the session, number, client and operation of a reply are compared.
 ASKER = "    return header[:16] + header[24:29] if header[28] == REGISTER else header[:29]\n"
 TAKEN = """\
         if (reply.client, reply.number, reply.operation) != (
@@ -102,7 +102,7 @@ WRONG = {
     ),
 }
 
-# Of the other wrong clients those that drawn scenarios have to catch without the stored ones.
+# Those of the other wrong clients that drawn scenarios have to catch without the stored ones.
 OTHERS = (
     "a new number for each retry",
     "a new id of the record for each retry",

@@ -349,12 +349,12 @@ uint32_t tb_embed_open(tb_server *server, uint32_t profile, uint32_t clients_max
 
 /* Serves the frame of one request that comes at a moment, in nanoseconds, and writes the frame of
  * its reply to the beginning of the room. written is the number of bytes at DONE, those needed at
- * TOO_SMALL, and else 0. At TOO_SMALL the whole room is overwritten, with the first bytes of the
- * reply. DONE, CLOSED, NO_MEMORY, MALFORMED, TIME_EXHAUSTED, TOO_SMALL. */
+ * TOO_SMALL, and otherwise 0. At TOO_SMALL the whole room is overwritten, with the first bytes of
+ * the reply. DONE, CLOSED, NO_MEMORY, MALFORMED, TIME_EXHAUSTED, TOO_SMALL. */
 uint32_t tb_embed_serve(tb_server *server, uint64_t moment, const uint8_t *request,
     size_t request_length, uint8_t *reply, size_t reply_room, size_t *written);
 
-/* Writes the 128 bytes of an account as it stands after the last request: a tb_account. DONE,
+/* Writes the 128 bytes of an account as it is after the last request: a tb_account. DONE,
  * CLOSED, ABSENT, TOO_SMALL. */
 uint32_t tb_embed_account(
     tb_server *server, uint64_t id_low, uint64_t id_high, uint8_t *account, size_t room);
@@ -394,7 +394,7 @@ enum tb_heard {
     TB_HEARD_OTHER = 3     /* for no request that waits */
 };
 
-/* What a call over a client's session answers. After any but DONE the client is as it was. */
+/* What a call over a client's session returns. After any except DONE the client is as it was. */
 enum tb_caller_status {
     TB_CALLER_DONE = 0,
     TB_CALLER_NOT_REGISTERED = 1, /* a client registers before any other call */
@@ -416,12 +416,12 @@ enum tb_caller_status {
 
 /* Makes the next request, the register first, and writes its frame, which is kept from then on:
  * store it with the client before it is sent. What is asked for is the body of the frame `request`,
- * whose client, session and number do not count (but none is 0 where a frame may not have 0).
- * written is the number of bytes at DONE, those needed at TOO_SMALL, and else 0. */
+ * whose client, session and number are ignored (but none is 0 if a frame may not have 0).
+ * written is the number of bytes at DONE, those needed at TOO_SMALL, and otherwise 0. */
 uint32_t tb_caller_call(tb_caller *caller, const uint8_t *request, size_t request_length,
     uint8_t *frame, size_t frame_room, size_t *written);
 
-/* Takes the reply that the bytes begin with, where frame is the one that is kept. heard says what
+/* Takes the reply that the bytes begin with, if frame is the one that is kept. heard says what
  * it is for this request, and read how many bytes it has. At any status but DONE heard is
  * TB_HEARD_OTHER, and read is 0. */
 uint32_t tb_caller_received(tb_caller *caller, const uint8_t *frame, size_t frame_length,
@@ -464,10 +464,10 @@ static inline tb_uint128 tb_u128_value(tb_u128 halves) {
 }
 #endif
 
-/* Requests. Each function writes a frame to the beginning of a room, and answers its length. It
- * answers 0, and leaves the room as it is, where the client is 0, the request's number is 0, there
- * are more than 8190 items, or the room is too small. The items are outside of the room; their
- * pointer may be null where there are none. To send a request again, send the same bytes. */
+/* Requests. Each function writes a frame to the beginning of a room, and returns its length. It
+ * returns 0, and leaves the room as it is, if the client is 0, the request's number is 0, there are
+ * more than 8190 items, or the room is too small. The items are outside of the room; their pointer
+ * may be null if there are none. To send a request again, send the same bytes. */
 
 /* What the five have in common. */
 static inline size_t tb_write_frame(uint8_t *frame, size_t room, tb_u128 client, uint64_t session,
@@ -531,7 +531,7 @@ static inline int tb_is_operation(uint8_t operation) {
         (operation >= TB_OPERATION_CREATE_ACCOUNTS && operation <= TB_OPERATION_LOOKUP_TRANSFERS);
 }
 
-/* The bytes of an item in a request: a record, or an id. A register has none. */
+/* The bytes of an item in a request: a record, or an id. A register has no items. */
 static inline size_t tb_request_item_size(uint8_t operation) {
     return operation == TB_OPERATION_CREATE_ACCOUNTS || operation == TB_OPERATION_CREATE_TRANSFERS
         ? TB_RECORD_SIZE
@@ -564,9 +564,9 @@ static inline uint32_t tb_request_header_fault(const tb_request_header *header) 
     return TB_FAULT_NONE;
 }
 
-/* Reads the request whose frame is at the beginning of the bytes, and answers TB_FAULT_NONE. It has
- * TB_HEADER_SIZE + header.length bytes; more may follow, but tb_embed_serve takes just these. Else
- * it answers the fault, and the request is all 0. No byte behind the length is read. */
+/* Reads the request whose frame is at the beginning of the bytes, and returns TB_FAULT_NONE. It has
+ * TB_HEADER_SIZE + header.length bytes; more may follow, but tb_embed_serve takes exactly these.
+ * Otherwise it returns the fault, and the request is all 0. No byte after the length is read. */
 static inline uint32_t tb_read_request(const uint8_t *bytes, size_t length, tb_request *request) {
     tb_request_header header;
     uint32_t fault;
@@ -582,7 +582,7 @@ static inline uint32_t tb_read_request(const uint8_t *bytes, size_t length, tb_r
     return TB_FAULT_NONE;
 }
 
-/* What the functions for items have in common: the item at a place from 0 on, where there is one.
+/* What the functions for items have in common: the item at a place from 0 on, if there is one.
  */
 static inline int tb_item(
     const uint8_t *body, size_t count, size_t place, void *item, size_t item_size) {
@@ -591,23 +591,23 @@ static inline int tb_item(
     return 1;
 }
 
-/* The item of a request at a place from 0 on: 1, or 0 where the request has no such item, or items
+/* The item of a request at a place from 0 on: 1, or 0 if the request has no such item, or items
  * of another kind. */
 
-/* Of create_accounts. */
+/* An item of create_accounts. */
 static inline int tb_request_account(const tb_request *request, size_t place, tb_account *account) {
     if (request->header.operation != TB_OPERATION_CREATE_ACCOUNTS) return 0;
     return tb_item(request->body, request->count, place, account, TB_RECORD_SIZE);
 }
 
-/* Of create_transfers. */
+/* An item of create_transfers. */
 static inline int tb_request_transfer(
     const tb_request *request, size_t place, tb_transfer *transfer) {
     if (request->header.operation != TB_OPERATION_CREATE_TRANSFERS) return 0;
     return tb_item(request->body, request->count, place, transfer, TB_RECORD_SIZE);
 }
 
-/* Of lookup_accounts or lookup_transfers. */
+/* An item of lookup_accounts or lookup_transfers. */
 static inline int tb_request_id(const tb_request *request, size_t place, tb_u128 *id) {
     uint8_t operation = request->header.operation;
     if (operation != TB_OPERATION_LOOKUP_ACCOUNTS && operation != TB_OPERATION_LOOKUP_TRANSFERS)
@@ -658,9 +658,9 @@ static inline uint32_t tb_reply_header_fault(const tb_reply_header *header) {
     return TB_FAULT_NONE;
 }
 
-/* Reads the reply whose frame is at the beginning of the bytes, and answers TB_FAULT_NONE. It has
- * TB_HEADER_SIZE + header.length bytes; more may follow. Else it answers the fault, and the reply
- * is all 0. No byte behind the length is read. */
+/* Reads the reply whose frame is at the beginning of the bytes, and returns TB_FAULT_NONE. It has
+ * TB_HEADER_SIZE + header.length bytes; more may follow. Otherwise it returns the fault, and the
+ * reply is all 0. No byte after the length is read. */
 static inline uint32_t tb_read_reply(const uint8_t *bytes, size_t length, tb_reply *reply) {
     tb_reply_header header;
     uint32_t fault;
@@ -676,10 +676,11 @@ static inline uint32_t tb_read_reply(const uint8_t *bytes, size_t length, tb_rep
     return TB_FAULT_NONE;
 }
 
-/* The item of a reply at a place from 0 on: 1, or 0 where the reply has no such item, or items of
+/* The item of a reply at a place from 0 on: 1, or 0 if the reply has no such item, or items of
  * another kind. */
 
-/* Of the reply to create_accounts or create_transfers. The codes are those of the operation. */
+/* An item of the reply to create_accounts or create_transfers. The codes are those of the
+ * operation. */
 static inline int tb_reply_result(const tb_reply *reply, size_t place, tb_event_result *result) {
     uint8_t operation = reply->header.operation;
     if (operation != TB_OPERATION_CREATE_ACCOUNTS && operation != TB_OPERATION_CREATE_TRANSFERS)
@@ -687,13 +688,13 @@ static inline int tb_reply_result(const tb_reply *reply, size_t place, tb_event_
     return tb_item(reply->body, reply->count, place, result, TB_RESULT_SIZE);
 }
 
-/* Of the reply to lookup_accounts. */
+/* An item of the reply to lookup_accounts. */
 static inline int tb_reply_account(const tb_reply *reply, size_t place, tb_account *account) {
     if (reply->header.operation != TB_OPERATION_LOOKUP_ACCOUNTS) return 0;
     return tb_item(reply->body, reply->count, place, account, TB_RECORD_SIZE);
 }
 
-/* Of the reply to lookup_transfers. */
+/* An item of the reply to lookup_transfers. */
 static inline int tb_reply_transfer(const tb_reply *reply, size_t place, tb_transfer *transfer) {
     if (reply->header.operation != TB_OPERATION_LOOKUP_TRANSFERS) return 0;
     return tb_item(reply->body, reply->count, place, transfer, TB_RECORD_SIZE);

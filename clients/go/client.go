@@ -8,15 +8,15 @@ import (
 )
 
 const (
-	defaultHost = "127.0.0.1" // of a port alone
-	defaultPort = 3001        // of a host alone, as TigerBeetle's clients have it
+	defaultHost = "127.0.0.1" // if only a port is given
+	defaultPort = 3001        // if only a host is given, as TigerBeetle's clients have it
 )
 
 // ClientOption changes how a [Client] works.
 type ClientOption func(*Client) error
 
 // WithSessions sets how many requests a client may have in flight, each in a session of its own: 1
-// where it is not given, which executes requests in the order of the calls. A server has places for
+// if it is not given, which executes requests in the order of the calls. A server has places for
 // ClientsMax sessions of all its clients.
 func WithSessions(sessions int) ClientOption {
 	return func(c *Client) error {
@@ -56,8 +56,8 @@ func WithClientRange(upper uint64) ClientOption {
 // wait while a request is in flight go out as the next request, and each call gets its own results.
 //
 // A call waits until its reply is there, whatever is lost and whoever ends meanwhile, or until its
-// context ends. One call that ends leaves the others alone. A session that was evicted is replaced,
-// and what was in doubt then is settled.
+// context ends. One call that ends does not disturb the others. A session that was evicted is
+// replaced, and what was in doubt then is settled.
 //
 // Nothing outlives the process: for requests that have to survive it, use a [Session] and Save.
 type Client struct {
@@ -71,8 +71,8 @@ type Client struct {
 
 // NewClient is a client of the server at these addresses: a port ("3000"), a host with or without a
 // port ("10.0.0.1:3000"), or the path of a Unix socket, which has a slash. Several addresses have to
-// serve one ledger. It connects nothing yet. The cluster's id may be any: a server has none, and it
-// is not sent.
+// serve one ledger. It connects nothing yet. The cluster's id may be any: a server has no such id,
+// and it is not sent.
 func NewClient(clusterID Uint128, addresses []string, options ...ClientOption) (*Client, error) {
 	c := &Client{clusterID: clusterID, sessions: 1, newID: ID, queue: newQueue()}
 	places, err := parseAddresses(addresses)
@@ -179,7 +179,7 @@ func (c *Client) ask(ctx context.Context, request Request) (Answer, error) {
 	}
 }
 
-// grow starts one more worker where there may be one. The queue is locked.
+// grow starts one more worker if there may be one. The queue is locked.
 func (c *Client) grow() error {
 	if len(c.queue.workers) >= c.sessions {
 		return nil

@@ -1,4 +1,4 @@
-// Package tbclient is a client of the ledger server, over the standard library alone.
+// Package tbclient is a client of the ledger server, over only the standard library.
 //
 // A [Session] is a client that is registered. It numbers its requests, has one in flight at a time,
 // and sends the same bytes again until it has the reply: so a retry moves no money twice. It works
@@ -19,7 +19,7 @@
 //
 // After a crash, wherever it came, [Load] reads the session, and Retry sends the same bytes first.
 //
-// A lookup takes a number too. Where the file has an older number than the session had, the next
+// A lookup takes a number too. If the file has an older number than the session had, the next
 // request gets the reply to an old one, or is refused. So a session that is saved makes its lookups
 // the same way, or leaves them to another session.
 //
@@ -27,7 +27,7 @@
 //
 // Each error of a call is one of the Err values by errors.Is. ErrNotSent says that the call sent
 // nothing. Every other error of a call that sends leaves the request in doubt: it may have been
-// executed, and Retry sends the same bytes again. Errors with more to tell are found by errors.As:
+// executed, and Retry sends the same bytes again. Errors with more to say are found by errors.As:
 // [InvalidError], [LostError], [RefusedError], [EventsFailedError] and [CancelledError].
 //
 // # Concurrency

@@ -41,8 +41,8 @@ var (
 	// ErrBusy is an ErrReplyLost: the server has too many connections, or this peer has its share,
 	// and the server did not take the request.
 	ErrBusy error = &kind{"the server is busy", ErrReplyLost}
-	// ErrBadReply says that what came is no reply to the request that was sent: the server is none,
-	// or broken. What the request did is unknown.
+	// ErrBadReply says that what came is no reply to the request that was sent: the server is not a
+	// ledger server, or broken. What the request did is unknown.
 	ErrBadReply error = &kind{text: "bad reply"}
 	// ErrRefused says that the server refused the request now. See [RefusedError].
 	ErrRefused error = &kind{text: "refused"}
@@ -53,7 +53,7 @@ var (
 	ErrEventsFailed error = &kind{text: "events failed"}
 )
 
-// InvalidError is a value that may not be where it is. It is an ErrInvalid.
+// InvalidError is a value that is not allowed in its place. It is an ErrInvalid.
 type InvalidError struct {
 	Field   string // what holds it, as "transfers" or "saved.number"
 	Problem string
@@ -77,7 +77,7 @@ type LostError struct {
 func (l *LostError) Error() string { return fmt.Sprintf("%v: %v", l.Unwrap(), l.Err) }
 
 // Unwrap is the kind. The cause is no part of the chain: one that says that nothing was sent is of
-// the last sending alone.
+// only the last sending.
 func (l *LostError) Unwrap() error {
 	if toldLater[l.Told] {
 		return ErrBusy
@@ -86,7 +86,7 @@ func (l *LostError) Unwrap() error {
 }
 
 // RefusedError is a request that the server refused, and an ErrRefused. Nothing was changed now; the
-// request may have been executed by an earlier sending, so it stays in doubt. Where the session has
+// request may have been executed by an earlier sending, so it stays in doubt. If the session has
 // ended (NoSession, SessionTooLow) it is an ErrEvicted too.
 type RefusedError struct {
 	Status  Status
@@ -110,7 +110,7 @@ func isEviction(status Status) bool {
 }
 
 // CancelledError is a call that the caller's context ended. It is an ErrCancelled, what the context
-// says (context.Canceled or context.DeadlineExceeded), and an ErrNotSent where Sent is false. Where
+// says (context.Canceled or context.DeadlineExceeded), and an ErrNotSent if Sent is false. If
 // Sent is true the request is in doubt.
 type CancelledError struct {
 	Sent  bool  // whether this call may have sent the request

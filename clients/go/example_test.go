@@ -115,7 +115,7 @@ func ExampleSession_InDoubt() {
 	defer socket.Close()
 	ctx := context.Background()
 	session := twoAccounts(ctx, socket)
-	server.evict() // as where many others registered
+	server.evict() // for example because many others registered
 
 	_, err := session.CreateTransfers(ctx, []tb.Transfer{sale(100)})
 	if errors.Is(err, tb.ErrEvicted) {

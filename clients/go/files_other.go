@@ -9,7 +9,7 @@ import (
 	"path/filepath"
 )
 
-// openRegular opens a file to be read, and nothing else.
+// openRegular opens a regular file to be read, and nothing else.
 func openRegular(path string) (*os.File, error) {
 	if err := testRegular(os.Stat(path)); err != nil {
 		return nil, err
@@ -17,8 +17,8 @@ func openRegular(path string) (*os.File, error) {
 	return os.Open(path)
 }
 
-// writeWhole puts a file at this path, or where a link there leads, with these bytes, by a rename.
-// It syncs no folder: Windows has no call for that.
+// writeWhole puts a file at this path, or at the target of a link there, with these bytes, by a
+// rename. It syncs no folder: Windows has no call for that.
 func writeWhole(path string, data []byte) error {
 	path = linked(path)
 	if err := testRegular(os.Stat(path)); err != nil && !errors.Is(err, fs.ErrNotExist) {

@@ -24,8 +24,9 @@ func openRegular(path string) (*os.File, error) {
 	return file, nil
 }
 
-// writeWhole puts a file at this path, or where a link there leads, with these bytes, and with the
-// old one's permissions, or 0600. Where that fails the old file is left, and nothing next to it.
+// writeWhole puts a file at this path, or at the target of a link there, with these bytes, and with
+// the old one's permissions, or 0600. If that fails, the old file is left, and nothing next to
+// it.
 func writeWhole(path string, data []byte) error {
 	path = linked(path)
 	old, err := os.Stat(path)

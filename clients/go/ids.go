@@ -26,11 +26,11 @@ func NewIDs(now func() time.Time, random io.Reader) *IDs {
 var systemIDs = NewIDs(time.Now, rand.Reader)
 
 // ID is a new id of 128 bits, as TigerBeetle's clients make them: 48 bits of milliseconds since
-// 1970, then 80 random ones. It is above each earlier one of this process, also where the clock was
+// 1970, then 80 random ones. It is above each earlier one of this process, also if the clock was
 // set back, and it is neither 0 nor 2^128 - 1. Choose an id before the first sending and keep it: a
 // retry uses the same one.
 //
-// ID panics where the system has no random bytes.
+// ID panics if the system has no random bytes.
 func ID() Uint128 {
 	return systemIDs.Next()
 }
@@ -41,7 +41,7 @@ const (
 )
 
 // Next is a new id, above all earlier ones of this maker. A later millisecond draws random bits; any
-// other time adds 1 to the last id. Next panics where no random bytes can be read.
+// other time adds 1 to the last id. Next panics if no random bytes can be read.
 func (i *IDs) Next() Uint128 {
 	i.mu.Lock()
 	defer i.mu.Unlock()

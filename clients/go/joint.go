@@ -80,7 +80,7 @@ func isLinked(body []byte, event int) bool {
 }
 
 // settled is the answer to a create that may have been executed before. A chain that was is refused
-// now, since its first event exists; where all its events are there as they were asked for, each of
+// now, because its first event exists; if all its events are there as they were asked for, each of
 // them exists.
 func (j joint) settled(answer Answer, find func(joint) (Answer, error)) (Answer, error) {
 	body := make([]byte, j.count()*requestItemSize[j.operation])
@@ -188,7 +188,7 @@ func existing[C Code](results Results[C], doubtful []chain, exists C, isAsAsked 
 }
 
 // isAccountAsAsked reports whether an account is what became of the one that was asked for. Its sums
-// have grown since, and it may have been closed or opened.
+// have grown since then, and it may have been closed or opened.
 func isAccountAsAsked(asked, found Account) bool {
 	asked.DebitsPending, asked.DebitsPosted = found.DebitsPending, found.DebitsPosted
 	asked.CreditsPending, asked.CreditsPosted = found.CreditsPending, found.CreditsPosted

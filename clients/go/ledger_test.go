@@ -21,8 +21,8 @@ type ledger struct {
 	accounts  map[string][]byte
 	transfers map[string][]byte
 	frames    [][]byte      // each request that came
-	lose      int           // so many replies are lost from now on
-	hold      chan struct{} // where it is there, replies wait until it is closed
+	lose      int           // how many replies are lost from now on
+	hold      chan struct{} // if it is there, replies wait until it is closed
 	held      byte          // the operation whose replies wait
 	listener  net.Listener
 }
@@ -68,14 +68,14 @@ func beginLedger(path string) *ledger {
 
 func (l *ledger) end() { l.listener.Close() }
 
-// loses makes the ledger lose so many replies, after it executed their requests.
+// loses makes the ledger lose a number of replies, after it executed their requests.
 func (l *ledger) loses(count int) {
 	l.mu.Lock()
 	defer l.mu.Unlock()
 	l.lose = count
 }
 
-// holds makes the replies to an operation wait. What it returns lets them go.
+// holds makes the replies to an operation wait. What it returns releases them.
 func (l *ledger) holds(operation byte) (release func()) {
 	l.mu.Lock()
 	defer l.mu.Unlock()

@@ -7,7 +7,7 @@ import (
 	"syscall"
 )
 
-// lock takes the lock of a file, here against other processes alone: these systems have no flock. A
+// lock takes the lock of a file, here only against other processes: these systems have no flock. A
 // file system without such locks does without.
 func lock(file *os.File) {
 	whole := syscall.Flock_t{Type: syscall.F_WRLCK}

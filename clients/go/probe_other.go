@@ -9,7 +9,7 @@ import (
 	"time"
 )
 
-// probe reads what came already, or within a millisecond: errNothingYet where that is nothing.
+// probe reads what came already, or within a millisecond: errNothingYet if that is nothing.
 func probe(conn net.Conn, data []byte) (int, error) {
 	conn.SetReadDeadline(time.Now().Add(time.Millisecond))
 	defer conn.SetReadDeadline(time.Time{})

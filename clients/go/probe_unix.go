@@ -8,7 +8,7 @@ import (
 	"syscall"
 )
 
-// probe reads what came already, without waiting: errNothingYet where that is nothing.
+// probe reads what came already, without waiting: errNothingYet if that is nothing.
 func probe(conn net.Conn, data []byte) (count int, err error) {
 	raw, err := conn.(syscall.Conn).SyscallConn()
 	if err != nil {

@@ -54,7 +54,7 @@ func newQueue() *queue {
 	return q
 }
 
-// add puts a call at the end. Where no worker is free, grow may start one.
+// add puts a call at the end. If no worker is free, grow may start one.
 func (q *queue) add(made *call, grow func() error) error {
 	q.mu.Lock()
 	defer q.mu.Unlock()
@@ -76,7 +76,7 @@ func (q *queue) leave(made *call, why error) (Answer, error) {
 	q.mu.Lock()
 	defer q.mu.Unlock()
 	select {
-	case <-made.done: // just then
+	case <-made.done: // at that moment
 		return made.answer, made.err
 	default:
 	}
@@ -119,8 +119,8 @@ func (q *queue) wait() bool {
 	return !q.isEnded
 }
 
-// take is the next calls that one request can hold. A list is never cut, and none is joined to one
-// that ends in an open chain.
+// take is the next calls that one request can hold. A list is never cut, and no call is joined to
+// one that ends in an open chain.
 func (q *queue) take() []*call {
 	q.mu.Lock()
 	defer q.mu.Unlock()
@@ -140,7 +140,7 @@ func (q *queue) take() []*call {
 	return batch
 }
 
-// mayJoin reports whether a call may follow another in a request that has so many items.
+// mayJoin reports whether a call may follow another in a request that has this many items.
 func mayJoin(last, next *call, count int) bool {
 	return next.operation == last.operation && count+next.count <= ItemsMax && !last.isOpen()
 }

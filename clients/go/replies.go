@@ -41,7 +41,7 @@ func (r Results[C]) Except(code C) Results[C] {
 	return rest
 }
 
-// Err is an [EventsFailedError] where there are any results, and nil otherwise.
+// Err is an [EventsFailedError] if there are any results, and nil otherwise.
 func (r Results[C]) Err() error {
 	if len(r) == 0 {
 		return nil
@@ -63,7 +63,7 @@ type Answer struct {
 	Transfers       []Transfer      // of LookupTransfers: those that exist, in the order of the ids
 }
 
-// Err is an [EventsFailedError] where events were not accepted, and nil otherwise.
+// Err is an [EventsFailedError] if events were not accepted, and nil otherwise.
 func (a Answer) Err() error {
 	if err := a.AccountResults.Err(); err != nil {
 		return err
@@ -82,7 +82,7 @@ type replyHeader struct {
 	commit    uint64
 }
 
-// decodeReplyHeader reads the header of a reply, before its body is there. What is none is an
+// decodeReplyHeader reads the header of a reply, before its body is there. What is not one is an
 // ErrBadReply with the fault's name.
 func decodeReplyHeader(data []byte) (replyHeader, error) {
 	if len(data) < headerSize {

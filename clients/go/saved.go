@@ -14,8 +14,8 @@ import (
 )
 
 // Saved is what outlives a client: its id, its session, the number of its last request that was
-// answered, and the bytes of the request in doubt, or none. In JSON it is what the clients in other
-// languages write and read too.
+// answered, and the bytes of the request in doubt, or no bytes. In JSON it is what the clients in
+// other languages write and read too.
 type Saved struct {
 	Client  Uint128
 	Session uint64
@@ -35,8 +35,9 @@ func (s Saved) MarshalJSON() ([]byte, error) {
 	return []byte(text), nil
 }
 
-// UnmarshalJSON reads what MarshalJSON wrote. What is none is an [InvalidError] that names what is
-// wrong. It does not test that the bytes in doubt are a request of this session: [Resume] does.
+// UnmarshalJSON reads what MarshalJSON wrote. What is not a session is an [InvalidError] that names
+// what is wrong. It does not test that the bytes in doubt are a request of this session: [Resume]
+// does.
 func (s *Saved) UnmarshalJSON(data []byte) error {
 	if !json.Valid(data) {
 		return invalid("saved", "is no JSON")
@@ -91,9 +92,9 @@ func fieldsOf(data []byte) (map[string]json.RawMessage, error) {
 	return fields, nil
 }
 
-const digitsMax = 60 // no number has so many
+const digitsMax = 60 // no number has this many
 
-// numberOf is the integer in a field, of so many bits at most.
+// numberOf is the integer in a field, of this many bits at most.
 func numberOf(fields map[string]json.RawMessage, name string, bits int) (Uint128, error) {
 	field := "saved." + name
 	text, isThere := fields[name]
@@ -174,7 +175,7 @@ func testRegular(info fs.FileInfo, err error) error {
 
 const linksMax = 40 // that the system follows
 
-// linked is where the symbolic links at a path lead, whether a file is there or not.
+// linked is the path that the symbolic links at a path lead to, whether a file is there or not.
 func linked(path string) string {
 	for left := linksMax; left > 0; left-- {
 		to, err := os.Readlink(path)
@@ -183,7 +184,7 @@ func linked(path string) string {
 		}
 		if !filepath.IsAbs(to) {
 			folder, _ := filepath.Split(path)
-			to = folder + to // as it is: ".." behind a link is not the name before it
+			to = folder + to // as it is: ".." after a link is not the name before it
 		}
 		path = to
 	}

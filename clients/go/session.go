@@ -9,9 +9,9 @@ import (
 )
 
 const (
-	// DefaultAttempts is how often a call sends its request, where no reply comes.
+	// DefaultAttempts is how often a call sends its request, if no reply comes.
 	DefaultAttempts = 5
-	// DefaultPause is how long a session waits where the server said to come later.
+	// DefaultPause is how long a session waits if the server said to come later.
 	DefaultPause = 50 * time.Millisecond
 
 	attemptsMax = 1<<31 - 1
@@ -36,7 +36,7 @@ func WithClient(id Uint128) SessionOption {
 	}
 }
 
-// WithAttempts sets how often a call sends its request, where no reply comes: DefaultAttempts where
+// WithAttempts sets how often a call sends its request, if no reply comes: DefaultAttempts if
 // it is not given.
 func WithAttempts(attempts int) SessionOption {
 	return func(s *Session) error {
@@ -48,9 +48,9 @@ func WithAttempts(attempts int) SessionOption {
 	}
 }
 
-// WithPause sets how long a session waits before it sends again where the server said to come later
-// (Busy, NotYet). Each further pause of a call is twice as long, up to a second, or to this one where
-// that is longer. It is DefaultPause where it is not given, and 0 is no pause.
+// WithPause sets how long a session waits before it sends again if the server said to come later
+// (Busy, NotYet). Each further pause of a call is twice as long, up to a second, or to this one if
+// that is longer. It is DefaultPause if it is not given, and 0 is no pause.
 func WithPause(pause time.Duration) SessionOption {
 	return func(s *Session) error {
 		if pause < 0 {
@@ -102,7 +102,7 @@ func Register(ctx context.Context, transport Transport, options ...SessionOption
 	return s, nil
 }
 
-// Resume is the session as it was when Saved was taken. Where a request was in doubt, Retry it first.
+// Resume is the session as it was when Saved was taken. If a request was in doubt, Retry it first.
 func Resume(transport Transport, saved Saved, options ...SessionOption) (*Session, error) {
 	if err := saved.test(); err != nil {
 		return nil, err
@@ -110,7 +110,7 @@ func Resume(transport Transport, saved Saved, options ...SessionOption) (*Sessio
 	return newSession(transport, saved, options)
 }
 
-// Load is the session that Save kept in a file. Where a request was in doubt, Retry it first. A file
+// Load is the session that Save kept in a file. If a request was in doubt, Retry it first. A file
 // that has no session is an [InvalidError]; one that is not there, or may not be read, is what the
 // package os says.
 func Load(transport Transport, path string, options ...SessionOption) (*Session, error) {
@@ -133,7 +133,7 @@ func newSession(transport Transport, saved Saved, options []SessionOption) (*Ses
 		turn:      make(chan struct{}, 1),
 		session:   saved.Session,
 		number:    saved.Number,
-		pending:   append([]byte(nil), saved.Pending...), // nil where there are none
+		pending:   append([]byte(nil), saved.Pending...), // nil if there are none
 	}
 	for _, option := range options {
 		if err := option(s); err != nil {
@@ -163,7 +163,7 @@ func (s *Session) Saved() Saved {
 }
 
 // Save keeps Saved in a file, whole: after a crash the file has it as it is now or as it was before.
-// Where Save fails the file is as it was before, or as it is now where only its folder could not be
+// If Save fails, the file is as it was before, or as it is now if only its folder could not be
 // synced.
 func (s *Session) Save(path string) error {
 	if err := s.testMade(); err != nil {
@@ -182,8 +182,8 @@ func (s *Session) Save(path string) error {
 }
 
 // InDoubt is the request that has no reply yet, and whether there is one. It is kept over refusals,
-// since it may have been executed before: after an eviction create its records again, with the same
-// ids, in a new session.
+// because it may have been executed before: after an eviction create its records again, with the
+// same ids, in a new session.
 func (s *Session) InDoubt() (Asked, bool) {
 	s.mu.Lock()
 	pending := s.pending
@@ -196,34 +196,34 @@ func (s *Session) InDoubt() (Asked, bool) {
 }
 
 // CreateAccounts creates accounts, and returns those that were not created. It is Prepare and Retry
-// in one call: where the ids are kept nowhere else, use those and Save.
+// in one call: if the ids are kept nowhere else, use those and Save.
 func (s *Session) CreateAccounts(ctx context.Context, accounts []Account) (AccountResults, error) {
 	answer, err := s.ask(ctx, CreateAccounts(accounts))
 	return answer.AccountResults, err
 }
 
 // CreateTransfers makes transfers, and returns those that were not made. It is Prepare and Retry in
-// one call: where the ids are kept nowhere else, use those and Save.
+// one call: if the ids are kept nowhere else, use those and Save.
 func (s *Session) CreateTransfers(ctx context.Context, transfers []Transfer) (TransferResults, error) {
 	answer, err := s.ask(ctx, CreateTransfers(transfers))
 	return answer.TransferResults, err
 }
 
 // LookupAccounts returns the accounts with these ids that exist, in the order of the ids. It takes a
-// number: where the session is kept in a file, use Prepare, Save, Retry and Save.
+// number: if the session is kept in a file, use Prepare, Save, Retry and Save.
 func (s *Session) LookupAccounts(ctx context.Context, ids []Uint128) ([]Account, error) {
 	answer, err := s.ask(ctx, LookupAccounts(ids))
 	return answer.Accounts, err
 }
 
 // LookupTransfers returns the transfers with these ids that exist, in the order of the ids. It takes
-// a number: where the session is kept in a file, use Prepare, Save, Retry and Save.
+// a number: if the session is kept in a file, use Prepare, Save, Retry and Save.
 func (s *Session) LookupTransfers(ctx context.Context, ids []Uint128) ([]Transfer, error) {
 	answer, err := s.ask(ctx, LookupTransfers(ids))
 	return answer.Transfers, err
 }
 
-// ask prepares a request and sends it. Where nothing was sent it is as if it had not been called.
+// ask prepares a request and sends it. If nothing was sent, it is as if it had not been called.
 func (s *Session) ask(ctx context.Context, request Request) (Answer, error) {
 	if err := s.begin(ctx); err != nil {
 		return Answer{}, err
@@ -385,7 +385,7 @@ func (s *Session) exchange(ctx context.Context, frame []byte) (Answer, error) {
 }
 
 // take takes the reply to the request in doubt, which is in doubt no longer. A refusal leaves it in
-// doubt, since it may have been executed before.
+// doubt, because it may have been executed before.
 func (s *Session) take(header replyHeader, answer Answer) (Answer, error) {
 	s.mu.Lock()
 	defer s.mu.Unlock()

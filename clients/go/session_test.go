@@ -254,7 +254,8 @@ func TestCannotConnectTellsWhy(t *testing.T) {
 	}
 }
 
-// telling is a socket to a server that tells this to the first who connects, and is silent then.
+// telling is a socket to a server that sends this to the first client that connects, and is silent
+// then.
 func telling(t *testing.T, text string, options ...tb.SocketOption) *tb.Socket {
 	path := filepath.Join(t.TempDir(), "ledger.sock")
 	listener, err := net.Listen("unix", path)
@@ -370,7 +371,7 @@ func socketOf(address tb.Address, options ...tb.SocketOption) error {
 	return err
 }
 
-// scripted is a Transport that answers with what it has.
+// scripted is a Transport that replies with what it has.
 type scripted func(frame []byte) ([]byte, error)
 
 func (s scripted) Exchange(_ context.Context, frame []byte) ([]byte, error) { return s(frame) }

@@ -26,7 +26,7 @@ type Transport interface {
 	Close() error
 }
 
-// Address is where a server listens: see [Unix] and [TCP].
+// Address is the place at which a server listens: see [Unix] and [TCP].
 type Address struct {
 	network, name, host string
 }
@@ -98,7 +98,7 @@ var toldMark = []byte("tb_listen: ")
 type SocketOption func(*Socket) error
 
 // WithTimeout sets how long one sending may take, from the connecting to the reply's last byte. It
-// is DefaultTimeout where it is not given. A call of a session may send several times: its context
+// is DefaultTimeout if it is not given. A call of a session may send several times: its context
 // is the limit of the whole call.
 func WithTimeout(timeout time.Duration) SocketOption {
 	return func(s *Socket) error {
@@ -110,7 +110,7 @@ func WithTimeout(timeout time.Duration) SocketOption {
 	}
 }
 
-// WithTLS makes each connection go over TLS. Where the configuration has no ServerName, the
+// WithTLS makes each connection go over TLS. If the configuration has no ServerName, the
 // certificate has to be of the host of the address. All addresses have to be of TCP.
 func WithTLS(config *tls.Config) SocketOption {
 	return func(s *Socket) error {
@@ -126,7 +126,7 @@ func WithTLS(config *tls.Config) SocketOption {
 //
 // It connects when a request is to be sent, and keeps the connection. An exchange that does not end
 // in its reply closes it, so that a late reply is never taken for another one. The next exchange
-// then connects to the next address, where there are several, behind the last to the first.
+// then connects to the next address, if there are several, after the last to the first.
 //
 // Goroutines and sessions may share a Socket: their exchanges go one after another.
 type Socket struct {
@@ -139,7 +139,7 @@ type Socket struct {
 	cause error         // why no reply came to this exchange so far
 
 	closed chan struct{} // is closed with the Socket
-	ending chan struct{} // is closed where no connection is to be made any more
+	ending chan struct{} // is closed if no connection is to be made any more
 	mu     sync.Mutex    // of what follows
 	conn   *connection
 	done   bool
@@ -203,7 +203,7 @@ func (s *Socket) Exchange(ctx context.Context, frame []byte) ([]byte, error) {
 		return nil, err
 	}
 	select {
-	case <-s.closed: // first, since select takes any of those that are ready
+	case <-s.closed: // first, because select takes any of those that are ready
 		return nil, ErrClosed
 	default:
 	}
@@ -342,7 +342,7 @@ func (s *Socket) connectNoMore() {
 	}
 }
 
-// connected is the connection: a new one where there is none, or where the server left it.
+// connected is the connection: a new one if there is none, or if the server left it.
 func (s *Socket) connected(ctx context.Context) (*connection, error) {
 	s.mu.Lock()
 	conn := s.conn
@@ -374,7 +374,7 @@ func (s *Socket) connected(ctx context.Context) (*connection, error) {
 	return conn, s.keep(conn)
 }
 
-// keep makes this the connection, or closes it where the Socket was closed.
+// keep makes this the connection, or closes it if the Socket was closed.
 func (s *Socket) keep(conn *connection) error {
 	s.mu.Lock()
 	defer s.mu.Unlock()
@@ -387,7 +387,7 @@ func (s *Socket) keep(conn *connection) error {
 }
 
 // callEach calls the addresses in turn, from the present one on, until one answers. Each gets a
-// share of the time that is left. Where none answers it reports whether at each one side does not
+// share of the time that is left. If none replies, it reports whether at each one side does not
 // trust the other.
 func (s *Socket) callEach(ctx context.Context) (conn *connection, areDistrust bool) {
 	areDistrust = true
@@ -432,8 +432,8 @@ func isCertificate(err error) bool {
 }
 
 // isRefusal reports whether the server refuses this client by an alert of TLS: it does not take its
-// certificate, or wants one. In TLS 1.3 the alert comes when the client has agreed, and may have sent
-// a request, which the server does not read. The package tls names alerts by their text alone.
+// certificate, or requires one. In TLS 1.3 the alert comes when the client has agreed, and may have sent
+// a request, which the server does not read. The package tls names alerts only by their text.
 func isRefusal(err error) bool {
 	var remote *net.OpError
 	if !errors.As(err, &remote) || remote.Op != "remote error" {
@@ -441,7 +441,7 @@ func isRefusal(err error) bool {
 	}
 	alert := remote.Err.Error()
 	return strings.Contains(alert, "certificate") || strings.HasSuffix(alert, "access denied") ||
-		strings.HasSuffix(alert, "handshake failure") // in TLS 1.2 where it wants a certificate
+		strings.HasSuffix(alert, "handshake failure") // in TLS 1.2 if it requires a certificate
 }
 
 func doubled(pause, most time.Duration) time.Duration {
@@ -537,7 +537,7 @@ func (c *connection) exchange(ctx context.Context, frame []byte, asked requestHe
 	return whole, err
 }
 
-// until ends reads and writes where the context ends. What it returns is called behind the last of
+// until ends reads and writes if the context ends. What it returns is called after the last of
 // them.
 func (c *connection) until(ctx context.Context) func() {
 	c.plain.SetDeadline(time.Time{})
@@ -557,7 +557,7 @@ func (c *connection) until(ctx context.Context) func() {
 }
 
 // told is a LostError with the name that the server told before it closed the connection, or the
-// other error where it told none.
+// other error if it reported none.
 func told(said []byte, err error) error {
 	if !bytes.HasPrefix(said, toldMark) {
 		return err

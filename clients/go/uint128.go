@@ -109,7 +109,7 @@ func (u Uint128) Format(state fmt.State, verb rune) {
 	u.BigInt().Format(signless{state}, verb)
 }
 
-// signless passes over the flag of %+v, which asks for the names of fields and for no sign.
+// signless ignores the flag of %+v, which asks for the names of fields and for no sign.
 type signless struct{ fmt.State }
 
 func (s signless) Flag(flag int) bool { return flag != '+' && s.State.Flag(flag) }
@@ -119,7 +119,7 @@ func (u Uint128) IsZero() bool {
 	return u == Uint128{}
 }
 
-// Cmp is -1, 0 or 1 where the number is below the other one, equal to it, or above it.
+// Cmp is -1, 0 or 1 if the number is below the other one, equal to it, or above it.
 func (u Uint128) Cmp(other Uint128) int {
 	switch {
 	case u == other:
@@ -130,7 +130,7 @@ func (u Uint128) Cmp(other Uint128) int {
 	return 1
 }
 
-// Add is the sum of two numbers, and whether it fits into 128 bits. Where it does not, the sum is
+// Add is the sum of two numbers, and whether it fits into 128 bits. If it does not, the sum is
 // without its 129th bit.
 func (u Uint128) Add(other Uint128) (sum Uint128, fits bool) {
 	lo, carry := bits.Add64(u.Lo, other.Lo, 0)
@@ -138,7 +138,7 @@ func (u Uint128) Add(other Uint128) (sum Uint128, fits bool) {
 	return Uint128{Hi: hi, Lo: lo}, carry == 0
 }
 
-// Sub is the number less the other one, and whether that is 0 at least. Where it is not, 2^128 is
+// Sub is the number less the other one, and whether that is 0 at least. If it is not, 2^128 is
 // added.
 func (u Uint128) Sub(other Uint128) (rest Uint128, fits bool) {
 	lo, borrow := bits.Sub64(u.Lo, other.Lo, 0)
@@ -146,7 +146,8 @@ func (u Uint128) Sub(other Uint128) (rest Uint128, fits bool) {
 	return Uint128{Hi: hi, Lo: lo}, borrow == 0
 }
 
-// MarshalText is the number in decimal digits: in JSON a string, since many readers round numbers.
+// MarshalText is the number in decimal digits: in JSON a string, because many readers round
+// numbers.
 func (u Uint128) MarshalText() ([]byte, error) {
 	return []byte(u.String()), nil
 }

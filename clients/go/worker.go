@@ -7,7 +7,7 @@ import (
 	"time"
 )
 
-// worker answers calls over a session of its own, which it registers when it needs one.
+// worker serves calls over a session of its own, which it registers when it needs one.
 type worker struct {
 	queue   *queue
 	socket  *Socket
@@ -53,7 +53,7 @@ func (w *worker) run() {
 	}
 }
 
-// serve answers some calls by one request.
+// serve gives some calls their answers by one request.
 func (w *worker) serve(batch []*call) {
 	if len(batch) == 0 {
 		return // another worker took them
@@ -124,7 +124,7 @@ func (w *worker) ask(asked joint, isDoubtful bool) (Answer, bool, error) {
 	}
 }
 
-// once sends a request once, or again where it is in doubt.
+// once sends a request once, or again if it is in doubt.
 func (w *worker) once(asked joint) (Answer, error) {
 	session, err := w.registered()
 	if err != nil {

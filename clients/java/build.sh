@@ -1,5 +1,5 @@
 #!/bin/sh
-# Builds the client by javac alone, where each warning is an error.
+# Builds the client only by javac; each warning is an error.
 #
 #     build.sh             makes out/classes, and the runner in out/test-classes
 #     build.sh test        does that, and runs the unit tests, over Debian's JUnit

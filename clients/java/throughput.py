@@ -2,7 +2,7 @@
 """Measures transfers a second of this client: a session with records, and a client that is shared
 with batches.
 
-    sh build.sh && throughput.py [SERVER [WORD ..]]     (tbd where it is built, else its stand-in)
+    sh build.sh && throughput.py [SERVER [WORD ..]]     (tbd if it is built, otherwise its stand-in)
 
 Over the listener before that server, and over one in Go that accepts all and keeps nothing, which
 shows what the client itself takes (`go build -o out/ ./...` in clients/go makes it). Prints a row

@@ -357,8 +357,8 @@ WRONG = {
 
 
 def compiled(folder, edit):
-    """The class path of a client with a text in place of another: the edited class alone is
-    compiled, and stands before those that build.sh made."""
+    """The class path of a client with a text in place of another: only the edited class is
+    compiled, and comes before those that build.sh made."""
     if not edit:
         return BUILT
     name, *texts = edit

@@ -1,5 +1,5 @@
 """What goes wrong on the way: replies that are lost, late, twice or wrong, connections that break,
-and what a server tells."""
+and what a server reports."""
 from .frames import (
     TABLE,
     ACCOUNTS,
@@ -287,7 +287,7 @@ def bad_replies():
     )
 
 
-# the names of the table but those whose scenarios stand apart, and two that no client knows yet
+# the names of the table except those with scenarios of their own, and two that no client knows yet
 NAMED = [row["name"] for row in TABLE["told"] if row["name"] not in (*LATER, "Starting")]
 NAMED += ["Full", "NewerThanThisClient"]
 

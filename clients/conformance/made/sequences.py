@@ -107,7 +107,7 @@ class Ledger:
 
     @staticmethod
     def _status(row, asked, session):
-        """None of a new request, 0 of a repeat, else the refusal's."""
+        """None for a new request, 0 for a repeat, otherwise the refusal's."""
         if asked.operation == REGISTER:
             return None if row is None else 0 if row.number == 0 else 4
         if row is None:
@@ -282,7 +282,7 @@ class Drawn:
         return self.lines[self.on[name]]
 
     def open_line(self):
-        """A transport that is not closed, made where there is none."""
+        """A transport that is not closed, made if there is none."""
         found = [name for name, it in self.lines.items() if not it.is_closed]
         if not found or self.draw.random() < 0.1:
             name = f"t{next(self.names)}"
@@ -359,7 +359,8 @@ class Drawn:
         return [str(it) for it in ids]
 
     def make(self, name, operation, items):
-        """Makes the next request of a session. None, or what a client says if there is none."""
+        """Makes the next request of a session. None, or what a client says if there is no
+        request."""
         if operation == REGISTER:
             return self.held[name].call(items, registers())
         return self.held[name].call(items, request(1, operation, BODIES[operation](items)))
@@ -549,8 +550,8 @@ class Drawn:
             self.tests(name)
 
     def outcome(self, line, held, attempts):
-        """What a call answers that sends its request up to so many times, and whether it may have
-        sent it."""
+        """What a call returns that sends its request up to a number of times, and whether it may
+        have sent it."""
         if line.is_closed:
             return error("Closed", sent=False), False
         was_sent = False
@@ -597,8 +598,7 @@ class Drawn:
         line.at = (line.at + 1) % len(line.servers)
 
     def sending(self, line, held):
-        """Whether the call goes on, and what it answers where it does not; None where nobody
-        listens."""
+        """Whether the call goes on, and what it returns if it does not; None if nobody listens."""
         if not self.can_connect(line):
             self.drop_left(line)
             return False, None
@@ -772,8 +772,8 @@ class Drawn:
         return held.hears(wrong)
 
     def answers_wrongly(self, line, held):
-        """A header that is right, and a body that no reply to this request has: such a frame the
-        client takes for none, as docs/use/CLIENTS.md says."""
+        """A header that is right, and a body that no reply to this request has: the client takes
+        such a frame for no reply, as docs/use/CLIENTS.md says."""
         asked = held.asked
         if asked.operation == REGISTER:
             return self.answers_another(line, held)

@@ -24,7 +24,7 @@ from .frames import (
     whole_transfer,
 )
 
-TURN = 0.05  # seconds within which a call that was begun waits behind the others
+TURN = 0.05  # seconds within which a call that was begun waits after the others
 SOON = 15.0  # seconds that a call takes at most; it makes a scenario one that may be tried again
 STATUSES = {"NewerSession": 3, "Older": 4, "Collision": 5, "NewerRequest": 6}
 CLOSE = {"close": "c"}
@@ -54,7 +54,7 @@ def ask(operation, items, server=(), wants=None, **more):
 
 
 def begin(name, operation, items, server=None, **more):
-    """Begins a call. Without `server` it waits behind others, and sends nothing."""
+    """Begins a call. Without `server` it waits after others, and sends nothing."""
     call = {"do": "begin", "call": name, "shared": "s", "operation": NAMES[operation]}
     server = [{"wait": TURN}] if server is None else list(server)
     return {"call": {**call, "items": items, **more}, "server": server, "at_most": SOON}

@@ -36,7 +36,7 @@ static tb_transfer transfer(uint64_t id, uint64_t from, uint64_t to, uint64_t am
     return it;
 }
 
-/* Sends so many bytes of the request, and reads the reply: 1 where the request was executed, now or
+/* Sends this many bytes of the request, and reads the reply: 1 if the request was executed, now or
  * before. */
 static int executed(size_t length, tb_reply *reply) {
     uint64_t moment = 10; /* in nanoseconds: a true program asks its clock */

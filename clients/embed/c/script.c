@@ -17,7 +17,7 @@ static uint32_t number(const char *word) {
                                                                                 : 0;
 }
 
-/* Reads a pair: 1, or 0 at the end of the script, or -1 where it is cut or too long, or cannot be
+/* Reads a pair: 1, or 0 at the end of the script, or -1 if it is cut or too long, or cannot be
  * read. */
 static int read_pair(uint64_t *moment, size_t *length) {
     tb_request_header header;

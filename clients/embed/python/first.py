@@ -7,7 +7,7 @@ other. It never sees that reply, and sends the same bytes again: the money moves
 import os
 import sys
 
-# The client's package, where it is not installed.
+# The client's package, if it is not installed.
 sys.path.append(
     os.path.join(os.path.dirname(os.path.abspath(__file__)), "..", "..", "python", "src")
 )

@@ -9,7 +9,7 @@ import re
 import struct
 import sys
 
-# The client's package, where it is not installed.
+# The client's package, if it is not installed.
 sys.path.append(
     os.path.join(os.path.dirname(os.path.abspath(__file__)), "..", "..", "python", "src")
 )

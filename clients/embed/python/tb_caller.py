@@ -88,7 +88,7 @@ assert ctypes.sizeof(_Numbers) == 32
 
 
 class Library:
-    """The shared object. OSError and AttributeError say that it is none."""
+    """The shared object. OSError and AttributeError say that it is not one."""
 
     def __init__(self, path: Union[str, os.PathLike[str]]) -> None:
         loaded = ctypes.CDLL(os.path.abspath(path))

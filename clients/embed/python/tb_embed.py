@@ -5,7 +5,7 @@
     reply = server.serve(moment, request)           # frames, as bytes: docs/use/FORMATS.md
 
 With clients/python, whose package it needs next to it: `Session.register(Direct(server.serve))`.
-Errors of both stand below `tb_client.ClientError`.
+Errors of both are subclasses of `tb_client.ClientError`.
 """
 from __future__ import annotations
 
@@ -97,7 +97,7 @@ assert ctypes.sizeof(_Handle) == 16
 
 def _library(path: str) -> Any:
     try:
-        # a name without a slash would be looked for in the loader's own folders alone
+        # a name without a slash would be looked for only in the loader's own folders
         library = ctypes.CDLL(os.path.abspath(path) if os.path.exists(path) else path)
         for name in _CALLS:
             getattr(library, name)
@@ -142,10 +142,10 @@ def _library(path: str) -> Any:
 
 
 class Server(Closing):
-    """A server by profile 1 or 2, where 1 to CLIENTS_MAX clients can have a session at one time.
-    Threads may share it: it takes one call at a time. One that is not closed is freed with its
-    object. In a forked child it is closed: what it did there would be in no history but the
-    child's."""
+    """A server by profile 1 or 2, with 1 to CLIENTS_MAX clients that can have a session at one
+    time. Threads may share it: it takes one call at a time. One that is not closed is freed with
+    its object. In a forked child it is closed: what it did there would be only in the child's
+    history."""
 
     def __init__(
         self,

@@ -33,7 +33,7 @@ NO_NUMBERS = [1.5, 1.0, fractions.Fraction(1), "1", b"1", None, True, [1], objec
 
 
 class Library:
-    """Answers the statuses in turn, then 0 with the reply."""
+    """Returns the statuses in turn, then 0 with the reply."""
 
     def __init__(self):
         self.statuses, self.calls, self.inside, self.most = [], [], 0, 0
@@ -262,7 +262,7 @@ class OverCtypes(unittest.TestCase):
             self.fork(path)
 
     def count_freed(self, path, closed):
-        """Each server is freed once: with its object, where nobody closed it."""
+        """Each server is freed once: with its object, if nobody closed it."""
         freed = ctypes.c_int.in_dll(ctypes.CDLL(str(path)), "freed")
         self.assertEqual(freed.value, 1)
         closed.close()
@@ -294,7 +294,7 @@ class OverCtypes(unittest.TestCase):
 
 
 class Examples(unittest.TestCase):
-    """What the examples say where they are called wrongly. tests/embedding/test_embedded.py runs
+    """What the examples say if they are called wrongly. tests/embedding/test_embedded.py runs
     them over the true library."""
 
     def test_words(self):

@@ -2,7 +2,7 @@
 //! (docs/use/FORMATS.md).
 //!
 //! A `Server` owns its handle and closes it. It may go to another thread, and serves one call at a time; several threads
-//! share one under a mutex. `Server::ask` takes a `Request` and answers its `Reply`; `Server::serve` does so with bytes.
+//! share one under a mutex. `Server::ask` takes a `Request` and returns its `Reply`; `Server::serve` does so with bytes.
 use std::fmt;
 use std::ops::BitOr;
 
@@ -31,7 +31,7 @@ pub const AMOUNT_MAX: u128 = 340282366920938463463374607431768211455;
 
 // Names
 
-/// An enum of numbers that have names. A number that has none is kept.
+/// An enum of numbers that have names. A number that has no name is kept.
 macro_rules! numbered {
     ($(#[$about:meta])* $kind:ident { $($(#[$note:meta])* $variant:ident = $number:literal $name:literal,)* }) => {
         $(#[$about])*
@@ -225,7 +225,7 @@ macro_rules! flags {
             }
         }
 
-        /// The names, and the bits that have none as a number: `linked | history | 0x8000`.
+        /// The names, and the bits that have no name as a number: `linked | history | 0x8000`.
         impl fmt::Display for $kind {
             fn fmt(&self, f: &mut fmt::Formatter<'_>) -> fmt::Result {
                 write_flags(f, self.0, &[$(($bit, $name)),*])
@@ -568,7 +568,7 @@ impl Request {
         Ok(frame)
     }
 
-    /// The request whose frame is at the beginning of the bytes, and how many bytes its frame has. `Server::serve` takes just these.
+    /// The request whose frame is at the beginning of the bytes, and how many bytes its frame has. `Server::serve` takes exactly these.
     pub fn from_bytes(bytes: &[u8]) -> Result<(Request, usize), Fault> {
         let (first, rest) = bytes.split_first_chunk().ok_or(Fault::Short)?;
         let header = RequestHeader::from_bytes(first);
@@ -601,7 +601,7 @@ impl Request {
     }
 }
 
-/// The bytes of an item in a request of an operation: a record, or an id. A register has none.
+/// The bytes of an item in a request of an operation: a record, or an id. A register has no items.
 fn request_item_size(operation: Operation) -> usize {
     match operation {
         Operation::CreateAccounts | Operation::CreateTransfers => RECORD_SIZE,
@@ -885,7 +885,7 @@ pub enum Refusal {
     Malformed,
     /// The request is new, and no time is left for it; nothing changed.
     TimeExhausted,
-    /// The reply needs so many bytes, of which the whole room has the first. The request was served: sent again, it gets this reply.
+    /// The reply needs this many bytes, of which the whole room has the first. The request was served: sent again, it gets this reply.
     TooSmall(usize),
     /// The call answered a status that it does not have: another library is linked.
     Unknown(u32),
@@ -947,11 +947,12 @@ pub struct Server {
     handle: Handle,
 }
 
-// A handle names memory that it owns alone, and the library keeps nothing of a thread.
+// A handle names memory that only it owns, and the library keeps nothing of a thread.
 unsafe impl Send for Server {}
 
 impl Server {
-    /// A server by profile 1 or 2, where 1 to `CLIENTS_MAX` clients can have a session at one time.
+    /// A server by profile 1 or 2, with 1 to `CLIENTS_MAX` clients that can have a session at one
+    /// time.
     pub fn open(profile: u32, clients_max: u32) -> Result<Server, Refusal> {
         let mut server = Server {
             handle: Handle {
@@ -963,7 +964,7 @@ impl Server {
         answered(status, 0).map(|_| server)
     }
 
-    /// Serves a request that comes at a moment, in nanoseconds. It was executed, now or before, where its reply is answered.
+    /// Serves a request that comes at a moment, in nanoseconds. It was executed, now or before, if its reply is returned.
     pub fn ask(&mut self, moment: u64, request: &Request) -> Result<Reply, Error> {
         let frame = request.to_bytes().map_err(Error::Request)?;
         let mut room = vec![0; request.reply_max()];
@@ -997,7 +998,7 @@ impl Server {
         answered(status, written).map(|length| &room[..length])
     }
 
-    /// The 128 bytes of an account as it stands after the last request: `Account::from_bytes` reads them.
+    /// The 128 bytes of an account as it is after the last request: `Account::from_bytes` reads them.
     pub fn account(&mut self, id: u128) -> Option<[u8; 128]> {
         let mut record = [0; 128];
         let status = unsafe {
@@ -1046,7 +1047,7 @@ pub struct Numbers {
     pub session: u64,
     /// The number of the last request that was made, 0 before.
     pub last: u32,
-    /// 0 not registered, 1 a request waits, 2 none waits, 3 the session is over.
+    /// 0 not registered, 1 a request waits, 2 no request waits, 3 the session is over.
     pub phase: u32,
 }
 

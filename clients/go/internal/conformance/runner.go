@@ -127,7 +127,7 @@ func (r *runner) keep(line object, session *tbclient.Session) {
 	r.sessions[text(line["session"])] = session
 }
 
-// within is the context of a call: the caller's own limit where it has one.
+// within is the context of a call: the caller's own limit if it has one.
 func within(ctx context.Context, line object) (context.Context, context.CancelFunc, error) {
 	if line["within"] == nil {
 		return ctx, func() {}, nil
@@ -596,7 +596,7 @@ func (r *runner) parallel(line object) (any, error) {
 	return answers, nil
 }
 
-// together runs so many goroutines, and waits for all.
+// together runs a number of goroutines, and waits for all.
 func together(count int, one func(at int)) {
 	var all sync.WaitGroup
 	for at := 0; at < count; at++ {

@@ -37,8 +37,8 @@ func (u unsupported) Error() string { return string(u) }
 
 // What the kit gives
 
-// integerOf is an integer within the range of a type of so many bits. No other value may stand where
-// Go wants such a type.
+// integerOf is an integer within the range of a type of this many bits. No other value
+// may come where Go requires such a type.
 func integerOf(given any, bits int) (*big.Int, error) {
 	text, isText := given.(string)
 	if !isText {
@@ -127,7 +127,7 @@ func setField(field reflect.Value, given any, flag func(uint16) string) error {
 	return err
 }
 
-// listOf is the list that is meant: of these items, or of so many with ids that rise.
+// listOf is the list that is meant: of these items, or of a number of them with ids that rise.
 func listOf(given any) ([]any, error) {
 	switch value := given.(type) {
 	case []any:
@@ -335,7 +335,7 @@ func shownAsked(asked tbclient.Asked) any {
 
 // Errors
 
-// shownError is an error of the client by the kit's names, or nil where it is none.
+// shownError is an error of the client by the kit's names, or nil if it is not one.
 func shownError(err error) object {
 	shown := object{"sent": !errors.Is(err, tbclient.ErrNotSent)}
 	var (

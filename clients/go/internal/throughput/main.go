@@ -1,6 +1,6 @@
 // Throughput measures this client, for throughput.py.
 //
-//	throughput measure PATH CONNECTIONS ITEMS SECONDS    requests of so many transfers: prints how many a second
+//	throughput measure PATH CONNECTIONS ITEMS SECONDS    requests of ITEMS transfers: prints how many a second
 //	throughput serve PATH                                a server that accepts all and keeps nothing
 package main
 
@@ -47,7 +47,7 @@ func run(words []string) error {
 	return errors.New("throughput measure PATH CONNECTIONS ITEMS SECONDS, or throughput serve PATH")
 }
 
-// measure sends requests on so many connections at once, each with a session of its own.
+// measure sends requests on a number of connections at once, each with a session of its own.
 func measure(path string, connections, items int, span time.Duration) error {
 	var (
 		ctx   = context.Background()
@@ -140,7 +140,7 @@ func serve(path string) error {
 	}
 }
 
-// answer answers each request of a connection with an empty body.
+// answer replies to each request of a connection with an empty body.
 func answer(conn net.Conn, commit *atomic.Uint64) {
 	defer conn.Close()
 	var header [headerSize]byte

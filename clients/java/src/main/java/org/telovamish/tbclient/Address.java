@@ -14,11 +14,11 @@ import java.util.Objects;
 import java.util.regex.Matcher;
 import java.util.regex.Pattern;
 
-/** Where a server listens: a Unix socket's path, or a host and a port. */
+/** The place at which a server listens: a Unix socket's path, or a host and a port. */
 public final class Address {
     private static final int PORT_MAX = 65535;
-    private static final int PORT = 3001; // of a host alone
-    private static final String HOST = "127.0.0.1"; // of a port alone
+    private static final int PORT = 3001; // if only a host is given
+    private static final String HOST = "127.0.0.1"; // if only a port is given
     private static final Pattern TEXT =
             Pattern.compile("(?<alone>\\d+)|(\\[(?<number>[^\\]]+)\\]|(?<host>[^:\\[\\]]+|(?=:)))"
                     + "(:(?<port>\\d+))?");
@@ -38,7 +38,7 @@ public final class Address {
      *
      * @param path its path
      * @return the address
-     * @throws InvalidValueException where it is no path
+     * @throws InvalidValueException if it is no path
      */
     public static Address unix(String path) {
         try {
@@ -53,7 +53,7 @@ public final class Address {
      *
      * @param path its path
      * @return the address
-     * @throws InvalidValueException where the path is empty, or of no file system of the computer's
+     * @throws InvalidValueException if the path is empty, or of no file system of the computer's
      */
     public static Address unix(Path path) {
         if (Values.given("address", path).toString().isEmpty()) {
@@ -71,7 +71,7 @@ public final class Address {
      * @param host the host's name or number. Names are looked up at each connecting
      * @param port the port, 1 to 65535
      * @return the address
-     * @throws InvalidValueException where the host is empty, or there is no such port
+     * @throws InvalidValueException if the host is empty, or there is no such port
      */
     public static Address tcp(String host, int port) {
         if (Values.given("address", host).isBlank()) {

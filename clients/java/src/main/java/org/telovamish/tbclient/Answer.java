@@ -6,21 +6,21 @@ import java.util.List;
 /** What a reply says. */
 public sealed interface Answer {
     /**
-     * The test that no event failed. What else a reply says is passed over.
+     * The test that no event failed. Everything else in a reply is ignored.
      *
-     * @throws EventsFailedException where an event was not accepted
+     * @throws EventsFailedException if an event was not accepted
      */
     default void requireOk() {}
 
     /**
-     * Of a register.
+     * The answer to a register.
      *
      * @param session the new session
      */
     record Registered(BigInteger session) implements Answer {}
 
     /**
-     * Of create_accounts.
+     * The answer to create_accounts.
      *
      * @param results those of the accounts that were not created, by rising index
      */
@@ -32,7 +32,7 @@ public sealed interface Answer {
     }
 
     /**
-     * Of create_transfers.
+     * The answer to create_transfers.
      *
      * @param results those of the transfers that were not made, by rising index
      */
@@ -44,14 +44,14 @@ public sealed interface Answer {
     }
 
     /**
-     * Of lookup_accounts.
+     * The answer to lookup_accounts.
      *
      * @param accounts those that are there, in the order of the ids
      */
     record Accounts(List<Account> accounts) implements Answer {}
 
     /**
-     * Of lookup_transfers.
+     * The answer to lookup_transfers.
      *
      * @param transfers those that are there, in the order of the ids
      */

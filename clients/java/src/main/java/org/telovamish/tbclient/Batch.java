@@ -54,7 +54,7 @@ public abstract class Batch {
         return count;
     }
 
-    /** Where the item is that this is at. */
+    /** The offset of the item that this is at. */
     final int place() {
         if (at < 0 || at >= count) {
             throw new IllegalStateException("the batch is at no item: call next or add");

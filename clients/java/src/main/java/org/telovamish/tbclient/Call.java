@@ -22,7 +22,7 @@ final class Call {
         return Joint.isCreate(operation) && count > 0 && Joint.isLinked(body, count - 1);
     }
 
-    /** Whether a call may follow this one in a request that has so many items. */
+    /** Whether a call may follow this one in a request that has this many items. */
     boolean mayJoin(Call next, int items) {
         boolean fits = items + next.count <= Layout.ITEMS_MAX;
         return fits && next.operation == operation && !isOpen();

@@ -1,7 +1,7 @@
 package org.telovamish.tbclient;
 
 /**
- * The caller's own limit on a call went by, or its thread was interrupted. Where the call may have
+ * The caller's own limit on a call went by, or its thread was interrupted. If the call may have
  * sent its request, that is in doubt.
  */
 public final class CancelledException extends ClientException {

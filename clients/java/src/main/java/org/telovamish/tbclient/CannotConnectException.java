@@ -11,7 +11,7 @@ public final class CannotConnectException extends NotSentException {
      * For a {@link Transport}.
      *
      * @param message why nothing could be sent
-     * @param cause what was behind it, or null
+     * @param cause its cause, or null
      */
     public CannotConnectException(String message, Throwable cause) {
         this(message, cause, false);

@@ -17,8 +17,8 @@ import java.util.function.Supplier;
  * <p>A call waits until its reply is there, whatever is lost and whoever ends meanwhile. One with a
  * {@code within} ends then as {@link CancelledException}, and so does one whose thread is
  * interrupted. An {@code Async} call ends when its future is cancelled or times out. One call that
- * ends leaves the others alone. A session that was evicted is replaced, and what was in doubt then
- * is settled.
+ * ends does not disturb the others. A session that was evicted is replaced, and what was in doubt
+ * then is settled.
  *
  * <p>Nothing outlives the process: for requests that have to survive it, use a {@link Session} and
  * {@link Session#save}.
@@ -32,7 +32,7 @@ public final class Client implements AutoCloseable {
     /**
      * A client. It connects nothing yet.
      *
-     * @param clusterId 16 bytes of any number: a server has none, and it is not sent
+     * @param clusterId 16 bytes of any number: a server has no such id, and it is not sent
      * @param replicaAddresses ports ("3000"), hosts with or without a port ("10.0.0.1:3000"), or
      *     paths of Unix sockets, which have a slash. All have to serve one ledger
      */
@@ -43,7 +43,7 @@ public final class Client implements AutoCloseable {
     /**
      * A client with options. It connects nothing yet.
      *
-     * @param clusterId 16 bytes of any number: a server has none, and it is not sent
+     * @param clusterId 16 bytes of any number: a server has no such id, and it is not sent
      * @param replicaAddresses as without options
      * @param options how it works
      */
@@ -230,7 +230,7 @@ public final class Client implements AutoCloseable {
         }
     }
 
-    /** The answer that came just then, or what became of a call whose caller leaves. */
+    /** The answer that came at that moment, or what became of a call whose caller leaves. */
     private Answer late(Call call, String why) {
         boolean isSent = pool.leave(call);
         if (call.future.isDone() && !call.future.isCompletedExceptionally()) {

@@ -4,7 +4,7 @@ package org.telovamish.tbclient;
  * The base of all that this client throws.
  *
  * <p>{@link #mayHaveSent} is what a caller has to know of any of them: whether the call may have
- * brought its request to the server. Where it may, the request is in doubt, and {@link
+ * brought its request to the server. If it may, the request is in doubt, and {@link
  * Session#retry} sends the same bytes again.
  */
 public abstract class ClientException extends RuntimeException {
@@ -21,7 +21,7 @@ public abstract class ClientException extends RuntimeException {
     /**
      * Whether the call may have sent its request.
      *
-     * @return false where nothing was sent
+     * @return false if nothing was sent
      */
     public boolean mayHaveSent() {
         return true;

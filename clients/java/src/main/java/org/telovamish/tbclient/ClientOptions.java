@@ -9,7 +9,7 @@ import javax.net.ssl.SSLContext;
  * @param sessions how many requests may be in flight, each in a session of its own, 1 to 64: with 1
  *     requests are executed in the order of the calls
  * @param timeout the time for one sending. A call goes on until its caller's own limit
- * @param tls how TLS is spoken with a host and a port, or null for none
+ * @param tls how TLS is spoken with a host and a port, or null for no TLS
  * @param clientRange the upper 64 bits of the ids of the client's sessions, or null for random ones
  */
 public record ClientOptions(int sessions, Duration timeout, SSLContext tls, Long clientRange) {
@@ -22,9 +22,9 @@ public record ClientOptions(int sessions, Duration timeout, SSLContext tls, Long
      *
      * @param sessions how many requests may be in flight, 1 to 64
      * @param timeout the time for one sending, a millisecond or more
-     * @param tls how TLS is spoken, or null for none
+     * @param tls how TLS is spoken, or null for no TLS
      * @param clientRange the upper 64 bits of the ids of the client's sessions, or null
-     * @throws InvalidValueException where one is out of its range
+     * @throws InvalidValueException if one is out of its range
      */
     public ClientOptions {
         Values.within("sessions", sessions, 1, Layout.CLIENTS_MAX);

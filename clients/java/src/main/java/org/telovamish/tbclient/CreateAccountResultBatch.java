@@ -11,7 +11,7 @@ public final class CreateAccountResultBatch extends ResultBatch<CreateAccountRes
     /**
      * The results without those of a code.
      *
-     * @param code as {@link CreateAccountResult#EXISTS}, where the same accounts are created again
+     * @param code as {@link CreateAccountResult#EXISTS}, if the same accounts are created again
      * @return the others, before the first of them
      */
     public CreateAccountResultBatch except(CreateAccountResult code) {

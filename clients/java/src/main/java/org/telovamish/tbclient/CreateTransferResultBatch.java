@@ -11,7 +11,7 @@ public final class CreateTransferResultBatch extends ResultBatch<CreateTransferR
     /**
      * The results without those of a code.
      *
-     * @param code as {@link CreateTransferResult#EXISTS}, where the same transfers are created
+     * @param code as {@link CreateTransferResult#EXISTS}, if the same transfers are created
      *         again
      * @return the others, before the first of them
      */

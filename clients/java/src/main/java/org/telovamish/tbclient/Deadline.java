@@ -19,7 +19,7 @@ final class Deadline {
         this.at = at;
     }
 
-    /** So far from now, or never where that is null. */
+    /** This long from now, or never if that is null. */
     static Deadline in(Duration time) {
         if (time == null) {
             return new Deadline(false, 0);
@@ -34,7 +34,7 @@ final class Deadline {
         return left() <= nanoseconds ? this : new Deadline(true, System.nanoTime() + nanoseconds);
     }
 
-    /** The nanoseconds that are left: 0 or less where it went by. */
+    /** The nanoseconds that are left: 0 or less if it went by. */
     long left() {
         return is ? at - System.nanoTime() : NEVER;
     }
@@ -43,7 +43,7 @@ final class Deadline {
         return left() <= 0;
     }
 
-    /** Throws where the thread was interrupted, or this went by. */
+    /** Throws if the thread was interrupted, or this went by. */
     void test() throws InterruptedIOException {
         if (Thread.currentThread().isInterrupted()) {
             throw new InterruptedIOException("the thread was interrupted");
@@ -53,12 +53,12 @@ final class Deadline {
         }
     }
 
-    /** What is left as a time, or null where it never is. */
+    /** What is left as a time, or null if it has no end. */
     Duration time() {
         return is ? Duration.ofNanos(Math.max(left(), 0)) : null;
     }
 
-    /** Takes a lock before this. Where that fails nothing was sent, and the call is cancelled. */
+    /** Takes a lock before this. If that fails, nothing was sent, and the call is cancelled. */
     void take(Lock lock) {
         try {
             if (!isOver() && lock.tryLock(left(), TimeUnit.NANOSECONDS)) {
@@ -70,7 +70,7 @@ final class Deadline {
         throw late(false);
     }
 
-    /** Waits so long, or until this. Answers whether there is time left. */
+    /** Waits this long, or until this. Returns whether there is time left. */
     boolean sleep(long nanoseconds) throws InterruptedException {
         long left = left();
         TimeUnit.NANOSECONDS.sleep(Math.min(nanoseconds, left));

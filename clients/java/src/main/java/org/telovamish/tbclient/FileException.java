@@ -1,6 +1,6 @@
 package org.telovamish.tbclient;
 
-/** The system refused a file: none is there, there is no such folder, or no permission. */
+/** The system refused a file: it is missing, there is no such folder, or no permission. */
 public final class FileException extends NotSentException {
     private static final long serialVersionUID = 1L;
 

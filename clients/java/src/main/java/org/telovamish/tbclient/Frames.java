@@ -73,7 +73,7 @@ final class Frames {
         }
     }
 
-    /** Puts an id into a body, where the item is one. */
+    /** Puts an id into a body, if the item is one. */
     private static boolean putId(byte[] body, int place, String field, Object item) {
         if (item instanceof BigInteger it) {
             Values.u128(body, place, field, it);
@@ -123,7 +123,7 @@ final class Frames {
         return fault == null && !isWhole ? "Short" : fault;
     }
 
-    /** What is wrong with the length of a body of items of this size; of none where it is 0. */
+    /** What is wrong with the length of a body of items of this size; of no items if it is 0. */
     private static String lengthFault(long length, int size) {
         if (size == 0) {
             return length == 0 ? null : "BadLength";
@@ -245,7 +245,7 @@ final class Frames {
         }
     }
 
-    /** The first line of what came, where it is text: a server that speaks something else. */
+    /** The first line of what came, if it is text: a server that speaks something else. */
     private static String text(byte[] data) {
         String line = new String(data, StandardCharsets.ISO_8859_1).lines().findFirst().orElse("");
         boolean isText = line.length() >= 8 && line.chars().allMatch(it -> it >= ' ' && it < 127);
@@ -282,7 +282,7 @@ final class Frames {
         testAsked(frame, reply);
     }
 
-    /** What a reply to a request says, where it is one that such a request can have. */
+    /** What a reply to a request says, if it is one that such a request can have. */
     static Answer said(byte[] frame, byte[] reply) {
         switch (operation(frame)) {
             case REGISTER:

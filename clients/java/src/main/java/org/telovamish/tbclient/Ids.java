@@ -7,7 +7,7 @@ import java.util.function.Supplier;
 
 /**
  * Makes ids for accounts, transfers and clients, as TigerBeetle's clients make them: 48 bits of
- * milliseconds since 1970, and 80 random ones. They rise, also where the clock is set back.
+ * milliseconds since 1970, and 80 random ones. They rise, also if the clock is set back.
  */
 public final class Ids {
     private static final int RANDOM_BYTES = 10;

@@ -81,7 +81,7 @@ final class Joint {
         return answers;
     }
 
-    /** Records come in the order of the ids, and an id that is not there has none. */
+    /** Records come in the order of the ids, and an id that is not there has no record. */
     private static <T> List<Answer> records(List<byte[]> bodies, List<T> all,
             Function<T, byte[]> data, Function<List<T>, Answer> make) {
         List<Answer> answers = new ArrayList<>();
@@ -128,7 +128,7 @@ final class Joint {
 
     /**
      * The answer to a create that may have been executed before. A chain that was is refused now,
-     * since its first event exists; where all its events are there as they were asked for, each of
+     * because its first event exists; if all its events are there as they were asked for, each of
      * them exists.
      */
     static Answer settled(byte[] body, Answer said, BiFunction<Operation, byte[], Answer> lookUp) {
@@ -202,7 +202,7 @@ final class Joint {
                            : isTransferAsAsked(asked, found);
     }
 
-    /** An account's sums have grown since, and it may have been closed or opened. */
+    /** An account's sums have grown since then, and it may have been closed or opened. */
     private static boolean isAccountAsAsked(byte[] asked, byte[] found) {
         int sums = Layout.ACCOUNT_DEBITS_PENDING;
         System.arraycopy(found, sums, asked, sums, Layout.ACCOUNT_USER_DATA_128 - sums);

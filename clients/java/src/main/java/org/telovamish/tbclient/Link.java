@@ -9,7 +9,7 @@ import java.nio.ByteBuffer;
  */
 interface Link {
     /**
-     * Whether the server closed it, or said something while it was not asked. So it is where that
+     * Whether the server closed it, or said something while it was not asked. So it is if that
      * is not known by the deadline.
      */
     boolean isLeft(Deadline until);
@@ -17,7 +17,7 @@ interface Link {
     /** Writes all of it. */
     void write(ByteBuffer data, Deadline until) throws IOException;
 
-    /** Reads at least a byte, or answers false where the server closed it. */
+    /** Reads at least a byte, or returns false if the server closed it. */
     boolean read(ByteBuffer into, Deadline until) throws IOException;
 
     /** Closes it, whatever comes of that. */

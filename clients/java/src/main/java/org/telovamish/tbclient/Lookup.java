@@ -22,7 +22,7 @@ final class Lookup {
     static final Lookup SYSTEM = new Lookup(InetAddress::getAllByName);
 
     private static final String BYTE = "(25[0-5]|2[0-4]\\d|1\\d\\d|[1-9]?\\d)";
-    // of IPv4, or what has a colon, in which Java sees a number of IPv6 or none at all
+    // of IPv4, or what has a colon, in which Java sees a number of IPv6 or no number at all
     private static final Pattern NUMBER =
             Pattern.compile("(" + BYTE + "\\.){3}" + BYTE + "|[\\da-fA-F:].*:.*");
 

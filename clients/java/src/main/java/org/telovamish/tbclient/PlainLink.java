@@ -15,7 +15,7 @@ import java.util.concurrent.TimeUnit;
 /** A connection over a channel that does not block, so that each wait has its deadline. */
 final class PlainLink implements Link {
     private static final long WAIT_MAX = TimeUnit.HOURS.toMillis(1);
-    private static final int PIECE = 1 << 16; // bytes: so many Java keeps for each thread
+    private static final int PIECE = 1 << 16; // bytes: as many as Java keeps for each thread
 
     private final SocketChannel channel;
     private final Selector selector;
@@ -70,7 +70,7 @@ final class PlainLink implements Link {
         }
     }
 
-    /** Reads what is there by now: 0 bytes where nothing is, -1 where the server closed it. */
+    /** Reads what is there by now: 0 bytes if nothing is, -1 if the server closed it. */
     int tryRead(ByteBuffer into) throws IOException {
         ByteBuffer piece = into.slice(into.position(), Math.min(into.remaining(), PIECE));
         int count = channel.read(piece);

@@ -61,7 +61,7 @@ final class Pool {
         return new ClosedException(NOT_SENT);
     }
 
-    /** Takes a call off the queue whose caller waits no longer. Answers whether it may be sent. */
+    /** Takes a call off the queue whose caller waits no longer. Returns whether it may be sent. */
     boolean leave(Call call) {
         lock.lock();
         try {
@@ -101,8 +101,8 @@ final class Pool {
     }
 
     /**
-     * The next calls that one request can hold. A list is never cut, and none is joined to one that
-     * ends in an open chain.
+     * The next calls that one request can hold. A list is never cut, and no call is joined to one
+     * that ends in an open chain.
      */
     List<Call> take() {
         lock.lock();
@@ -162,7 +162,7 @@ final class Pool {
         }
     }
 
-    /** Waits before a next sending. Answers whether the client goes on. */
+    /** Waits before a next sending. Returns whether the client goes on. */
     boolean rest(long nanoseconds, ClientException why) {
         note(why);
         lock.lock();

@@ -15,7 +15,7 @@ public class ReplyLostException extends ClientException {
      *
      * @param message what became of the sending
      * @param told the name that the server gave, or an empty text
-     * @param cause what was behind it, or null
+     * @param cause its cause, or null
      */
     public ReplyLostException(String message, String told, Throwable cause) {
         super(message, cause);
@@ -25,7 +25,7 @@ public class ReplyLostException extends ClientException {
     /**
      * The name that the server gave before it closed the connection.
      *
-     * @return the name, or an empty text where it gave none
+     * @return the name, or an empty text if it gave no name
      */
     public String told() {
         return told;

@@ -20,10 +20,10 @@ import java.util.Map;
 import java.util.Set;
 import java.util.concurrent.atomic.AtomicLong;
 
-/** The file that keeps a session: written whole or not at all, and read where it is one. */
+/** The file that keeps a session: written whole or not at all, and read if it is one. */
 final class SavedFile {
     private static final int SIZE_MAX = 1 << 22; // bytes: the largest request takes half, in hex
-    private static final int PIECE = 1 << 16; // bytes: so many Java keeps for each thread
+    private static final int PIECE = 1 << 16; // bytes: as many as Java keeps for each thread
     private static final int DIGITS_MAX = 40; // more than a number of 128 bits has
     private static final int LINKS_MAX = 40; // that the system follows
     private static final AtomicLong COUNT = new AtomicLong();
@@ -102,8 +102,8 @@ final class SavedFile {
     // Writing
 
     /**
-     * Puts a file at this path, or where a link there leads, with the old one's permissions, or
-     * 0600. Where that fails the old file is left, and nothing next to it. Only a kill may leave
+     * Puts a file at this path, or at the target of a link there, with the old one's permissions,
+     * or 0600. If that fails, the old file is left, and nothing next to it. Only a kill may leave
      * the new one next to it, which nobody reads.
      */
     static void write(Path path, Saved saved) {
@@ -123,7 +123,7 @@ final class SavedFile {
         }
     }
 
-    /** Where the symbolic links at a path lead, whether a file is there or not. */
+    /** The path that the symbolic links at a path lead to, whether a file is there or not. */
     private static Path linked(Path path) throws IOException {
         Path found = path;
         for (int left = LINKS_MAX; left > 0 && Files.isSymbolicLink(found); left--) {
@@ -194,7 +194,7 @@ final class SavedFile {
         }
     }
 
-    /** Gives a new file the permissions of the old one, where there is one and it has any. */
+    /** Gives a new file the permissions of the old one, if there is one and it has any. */
     private static void keepPermissions(Path old, Path fresh) {
         try {
             Files.setPosixFilePermissions(fresh, Files.getPosixFilePermissions(old));

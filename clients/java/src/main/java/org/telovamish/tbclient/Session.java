@@ -19,12 +19,12 @@ import java.util.concurrent.locks.ReentrantLock;
  * RefusedException} and a {@link CancelledException} that may have been sent, the request stays in
  * doubt, and no other one is made.
  *
- * <p>A lookup takes a number too. Where the file has an older number than the session had, the next
+ * <p>A lookup takes a number too. If the file has an older number than the session had, the next
  * request gets the reply to an old one, or is refused. So a session that is saved makes its lookups
  * the same way, or leaves them to another session.
  *
- * <p>Each call has a form with a limit of its own, {@code within}: null is none, and one of 0 or
- * less sends nothing. Without it a call takes at most its attempts, each with the transport's
+ * <p>Each call has a form with a limit of its own, {@code within}: null is no limit, and one of 0
+ * or less sends nothing. Without it a call takes at most its attempts, each with the transport's
  * timeout, and the pauses between them.
  *
  * <p>Threads may share a session: their requests go one after another. What it is ({@link #saved},
@@ -51,7 +51,7 @@ public final class Session implements AutoCloseable {
      * @param transport what carries its frames
      * @param client the client's id, 1 to 2^128 - 1, which no other client has: {@link Ids#id}
      * @param options how it sends
-     * @throws InvalidValueException where there is no such client
+     * @throws InvalidValueException if there is no such client
      */
     public Session(Transport transport, BigInteger client, SessionOptions options) {
         this.transport = Values.given("transport", transport);
@@ -86,15 +86,15 @@ public final class Session implements AutoCloseable {
     }
 
     /**
-     * The session as it was when {@code saved} was taken. Where a request was in doubt, {@link
+     * The session as it was when {@code saved} was taken. If a request was in doubt, {@link
      * #retry} it first.
      *
      * @param transport what carries its frames
      * @param saved what was kept
      * @param options how it sends
      * @return the session
-     * @throws InvalidValueException where a field is out of its range, or the bytes in doubt are
-     *     not the next request of just this session
+     * @throws InvalidValueException if a field is out of its range, or the bytes in doubt are
+     *     not the next request of this very session
      */
     public static Session resume(Transport transport, Saved saved, SessionOptions options) {
         Values.given("saved", saved);
@@ -128,14 +128,14 @@ public final class Session implements AutoCloseable {
     }
 
     /**
-     * The session that {@link #save} kept in a file, here or in a client of another language. Where
+     * The session that {@link #save} kept in a file, here or in a client of another language. If
      * a request was in doubt, {@link #retry} it first.
      *
      * @param transport what carries its frames
      * @param path the file
      * @return the session
-     * @throws FileException where the file is not there, or cannot be read
-     * @throws InvalidValueException where it is no session, or was cut or edited
+     * @throws FileException if the file is not there, or cannot be read
+     * @throws InvalidValueException if it is no session, or was cut or edited
      */
     public static Session load(Transport transport, Path path) {
         return load(transport, path, SessionOptions.DEFAULT);
@@ -148,8 +148,8 @@ public final class Session implements AutoCloseable {
      * @param path the file
      * @param options how it sends
      * @return the session
-     * @throws FileException where the file is not there, or cannot be read
-     * @throws InvalidValueException where it is no session, or was cut or edited
+     * @throws FileException if the file is not there, or cannot be read
+     * @throws InvalidValueException if it is no session, or was cut or edited
      */
     public static Session load(Transport transport, Path path, SessionOptions options) {
         return resume(transport, SavedFile.read(path), options);
@@ -169,7 +169,7 @@ public final class Session implements AutoCloseable {
     /**
      * The session's number.
      *
-     * @return 64 bits; 0 where it is not registered
+     * @return 64 bits; 0 if it is not registered
      */
     public BigInteger session() {
         synchronized (state) {
@@ -205,9 +205,9 @@ public final class Session implements AutoCloseable {
      * before.
      *
      * @param path the file
-     * @throws FileException where the system refuses that; the file is then as it was before, or as
-     *     it is now where only its folder could not be synced
-     * @throws InvalidValueException where the path is of a folder, a pipe or a device
+     * @throws FileException if the system refuses that; the file is then as it was before, or as
+     *     it is now if only its folder could not be synced
+     * @throws InvalidValueException if the path is of a folder, a pipe or a device
      */
     public void save(Path path) {
         saving.lock(); // so that nothing older is written over it
@@ -219,10 +219,11 @@ public final class Session implements AutoCloseable {
     }
 
     /**
-     * The request that has no reply yet. It is kept over refusals, since it may have been executed
-     * before: after an eviction create its records again, with the same ids, in a new session.
+     * The request that has no reply yet. It is kept over refusals, because it may have been
+     * executed before: after an eviction create its records again, with the same ids, in a new
+     * session.
      *
-     * @return the request, or none
+     * @return the request, or no request
      */
     public Optional<Request> inDoubt() {
         synchronized (state) {
@@ -372,9 +373,9 @@ public final class Session implements AutoCloseable {
      *
      * @param operation what it asks for
      * @param items {@link Account}s or {@link Transfer}s to create, or the ids to look up, as for
-     *     {@link #lookupAccounts}; of a register none
-     * @throws InDoubtException where the last request has no reply yet
-     * @throws InvalidValueException where the items are not what the operation takes
+     *     {@link #lookupAccounts}; nothing for a register
+     * @throws InDoubtException if the last request has no reply yet
+     * @throws InvalidValueException if the items are not what the operation takes
      */
     public void prepare(Operation operation, List<?> items) {
         lock.lock();
@@ -388,7 +389,7 @@ public final class Session implements AutoCloseable {
     private void make(Operation operation, List<?> items) {
         testNotInDoubt();
         byte[] body = Frames.body(operation, items);
-        testNotInDoubt(); // again, since what gives the items may have used the session
+        testNotInDoubt(); // again, because what gives the items may have used the session
         makeOf(operation, body);
     }
 
@@ -429,7 +430,7 @@ public final class Session implements AutoCloseable {
      * Sends the request in doubt, the same bytes each time, until its reply has come.
      *
      * @return what the reply says
-     * @throws NothingInDoubtException where there is none
+     * @throws NothingInDoubtException if no request is in doubt
      */
     public Answer retry() {
         return retry(null);
@@ -440,7 +441,7 @@ public final class Session implements AutoCloseable {
      *
      * @param within the limit of this call, or null
      * @return what the reply says
-     * @throws NothingInDoubtException where there is none
+     * @throws NothingInDoubtException if no request is in doubt
      */
     public Answer retry(Duration within) {
         Deadline limit = Deadline.in(within);
@@ -477,7 +478,7 @@ public final class Session implements AutoCloseable {
         }
     }
 
-    /** What a fault is that sent nothing, where an earlier attempt of the same call did. */
+    /** What a fault is that sent nothing, if an earlier attempt of the same call did. */
     private static ClientException afterSending(ClientException last, ClientException why) {
         if (why instanceof CancelledException) {
             return new CancelledException(last.getMessage() + "; " + why.getMessage(), true);
@@ -512,7 +513,7 @@ public final class Session implements AutoCloseable {
 
     /**
      * Takes the reply to the request in doubt, which is in doubt no longer. A refusal leaves it in
-     * doubt, since it may have been executed before.
+     * doubt, because it may have been executed before.
      */
     private Answer take(byte[] reply) {
         Frames.testWhole(pending, reply);
@@ -532,7 +533,7 @@ public final class Session implements AutoCloseable {
      * The test that no event failed.
      *
      * @param results what a create answered
-     * @throws EventsFailedException where an event was not accepted
+     * @throws EventsFailedException if an event was not accepted
      */
     public static void requireOk(List<? extends EventResult<?>> results) {
         if (!Values.given("results", results).isEmpty()) {

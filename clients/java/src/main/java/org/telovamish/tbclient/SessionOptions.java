@@ -6,8 +6,8 @@ import java.time.Duration;
  * How a session sends.
  *
  * @param attempts how often a request is sent in one call, at most: 1 to 2^31 - 1
- * @param pause how long to wait before a request is sent again where the server said to come later.
- *     Each further pause is twice as long, up to a second, or to this where it is longer
+ * @param pause how long to wait before a request is sent again if the server said to come later.
+ *     Each further pause is twice as long, up to a second, or to this if it is longer
  */
 public record SessionOptions(int attempts, Duration pause) {
     /** 5 attempts, and a pause of 50 ms. */
@@ -17,8 +17,8 @@ public record SessionOptions(int attempts, Duration pause) {
      * Tests both.
      *
      * @param attempts how often a request is sent in one call, at most
-     * @param pause how long to wait before it is sent again where the server said to come later
-     * @throws InvalidValueException where one is out of its range
+     * @param pause how long to wait before it is sent again if the server said to come later
+     * @throws InvalidValueException if one is out of its range
      */
     public SessionOptions {
         Values.within("attempts", attempts, 1, Integer.MAX_VALUE);

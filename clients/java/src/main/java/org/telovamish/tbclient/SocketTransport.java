@@ -23,11 +23,11 @@ import javax.net.ssl.SSLHandshakeException;
  *
  * <p>It is made when a request is to be sent. One that broke, that the server closed, or on which
  * no reply came in time, is closed, and the next exchange makes a new one, to the next address
- * where there are several. Threads and sessions may share a transport: an exchange is one thread's
+ * if there are several. Threads and sessions may share a transport: an exchange is one thread's
  * from its first byte to its last.
  */
 public final class SocketTransport implements Transport {
-    /** The time that one sending may take where none is given. */
+    /** The time that one sending may take if no time is given. */
     public static final Duration TIMEOUT = Duration.ofSeconds(5);
 
     private static final Duration TIMEOUT_MIN = Duration.ofMillis(1);
@@ -39,7 +39,7 @@ public final class SocketTransport implements Transport {
     private static final Set<String> LATER =
             Set.of("Busy", "TooManyConnections", "TooManySessions", "TooManyRequests");
     // alerts by which a server refuses this client, whose request it does not read. The last one
-    // says so in TLS 1.2, where the server wants a certificate
+    // says so in TLS 1.2, if the server requires a certificate
     private static final Pattern REFUSAL =
             Pattern.compile("Received fatal alert: (\\w*certificate\\w*|unknown_ca|access_denied"
                     + "|handshake_failure)$");
@@ -69,12 +69,12 @@ public final class SocketTransport implements Transport {
     /**
      * A transport to one of some addresses.
      *
-     * @param addresses one or more; they are taken in order, the first behind the last
+     * @param addresses one or more; they are taken in order, the first after the last
      * @param timeout the time for one sending, from the connecting to the reply's last byte: 1 ms
      *     to 2^32 - 1 s
-     * @param tls how TLS is spoken with a host and a port, or null for none. The server's
+     * @param tls how TLS is spoken with a host and a port, or null for no TLS. The server's
      *     certificate has to be of the host
-     * @throws InvalidValueException where there is no address, no such timeout, or TLS for a path
+     * @throws InvalidValueException if there is no address, no such timeout, or TLS for a path
      */
     public SocketTransport(List<Address> addresses, Duration timeout, SSLContext tls) {
         this(addresses, timeout, tls, Lookup.SYSTEM);
@@ -206,7 +206,7 @@ public final class SocketTransport implements Transport {
 
     // Connecting
 
-    /** Makes a connection where there is none, or where the server closed it since. */
+    /** Makes a connection if there is none, or if the server closed it. */
     private void connect(Deadline until, Deadline limit) {
         if (link != null && link.isLeft(until)) {
             lose();
@@ -239,7 +239,7 @@ public final class SocketTransport implements Transport {
     }
 
     /**
-     * Calls the addresses in order until one answers. Answers whether at each address one side does
+     * Calls the addresses in order until one replies. Returns whether at each address one side does
      * not trust the other.
      */
     private boolean callEach(Deadline until) throws InterruptedIOException {
@@ -329,7 +329,7 @@ public final class SocketTransport implements Transport {
 
     // One exchange
 
-    /** Sends the request. Where the server closed the connection, what it told before is read. */
+    /** Sends the request. If the server closed the connection, what it sent before is read. */
     private void send(byte[] frame, Deadline until) throws IOException {
         try {
             link.write(ByteBuffer.wrap(frame).asReadOnlyBuffer(), until);
@@ -354,7 +354,7 @@ public final class SocketTransport implements Transport {
         return whole.array();
     }
 
-    /** Reads until it is full. Where the connection ends before, what was told is told. */
+    /** Reads until it is full. If the connection ends before, what the server sent is reported. */
     private void fill(ByteBuffer into, Deadline until, IOException broken) throws IOException {
         try {
             while (into.hasRemaining()) {
@@ -372,7 +372,7 @@ public final class SocketTransport implements Transport {
         }
     }
 
-    /** The name that the server told before it closed the connection, or null for none. */
+    /** The name that the server sent before it closed the connection, or null for no name. */
     private static String told(ByteBuffer came) {
         String said = new String(came.array(), 0, came.position(), StandardCharsets.ISO_8859_1);
         if (!said.startsWith(TOLD)) {

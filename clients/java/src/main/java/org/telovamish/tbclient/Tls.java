@@ -33,8 +33,8 @@ public final class Tls {
      *
      * @param authorities a PEM file with one certificate or more
      * @return the context
-     * @throws FileException where the file cannot be read
-     * @throws InvalidValueException where it has no certificate
+     * @throws FileException if the file cannot be read
+     * @throws InvalidValueException if it has no certificate
      */
     public static SSLContext context(Path authorities) {
         return made(authorities, null, null);
@@ -48,8 +48,8 @@ public final class Tls {
      *     authority
      * @param key a PEM file with the client's private key, as PKCS #8 and without a password
      * @return the context
-     * @throws FileException where a file cannot be read
-     * @throws InvalidValueException where one is not what it has to be
+     * @throws FileException if a file cannot be read
+     * @throws InvalidValueException if one is not what it has to be
      */
     public static SSLContext context(Path authorities, Path certificate, Path key) {
         return made(

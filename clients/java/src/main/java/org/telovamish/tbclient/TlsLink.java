@@ -32,7 +32,7 @@ final class TlsLink implements Link {
         plain = ByteBuffer.allocate(engine.getSession().getApplicationBufferSize()).flip();
     }
 
-    /** Agrees on TLS over a connection, which is closed where that fails. */
+    /** Agrees on TLS over a connection, which is closed if that fails. */
     static TlsLink over(PlainLink link, SSLContext context, Address address, Deadline until)
             throws IOException {
         try {
@@ -62,7 +62,7 @@ final class TlsLink implements Link {
         }
     }
 
-    /** One step of the agreeing. Answers whether there is another. */
+    /** One step of the agreeing. Returns whether there is another. */
     private boolean step(Deadline until) throws IOException {
         switch (engine.getHandshakeStatus()) {
             case NEED_WRAP:
@@ -118,7 +118,7 @@ final class TlsLink implements Link {
     }
 
     /**
-     * Throws the alert that the server sent before it closed the connection, where there is one.
+     * Throws the alert that the server sent before it closed the connection, if there is one.
      */
     private void hear(Deadline until) throws SSLException {
         try {
@@ -137,7 +137,7 @@ final class TlsLink implements Link {
         return last == SSLEngineResult.Status.BUFFER_UNDERFLOW;
     }
 
-    /** Unwraps one record of what came, where one is there. */
+    /** Unwraps one record of what came, if one is there. */
     private SSLEngineResult.Status unwrap() throws IOException {
         in.flip();
         plain.compact();
@@ -226,7 +226,7 @@ final class TlsLink implements Link {
         return true;
     }
 
-    /** Tells the server of an end or a fault, where that goes at once. */
+    /** Tells the server of an end or a fault, if that goes at once. */
     private void tell() {
         try {
             engine.closeOutbound();

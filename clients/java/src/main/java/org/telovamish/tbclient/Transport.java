@@ -14,16 +14,16 @@ public interface Transport extends AutoCloseable {
      * Sends a request, and waits for its reply.
      *
      * @param frame the request's bytes, which are not to be changed
-     * @param within the caller's limit, or null for none but the transport's own
+     * @param within the caller's limit, or null for only the transport's own
      * @return the bytes of a reply
-     * @throws ReplyLostException where none came
-     * @throws BadReplyException where what came is no reply to this request
-     * @throws CancelledException where the limit went by
-     * @throws NotSentException where nothing was sent
+     * @throws ReplyLostException if no reply came
+     * @throws BadReplyException if what came is no reply to this request
+     * @throws CancelledException if the limit went by
+     * @throws NotSentException if nothing was sent
      */
     byte[] exchange(byte[] frame, Duration within);
 
-    /** Closes it, where there is something to close. */
+    /** Closes it, if there is something to close. */
     @Override
     default void close() {}
 }

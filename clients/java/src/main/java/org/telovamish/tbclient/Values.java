@@ -127,7 +127,7 @@ final class Values {
 
     // Tests
 
-    /** A number that is not negative, of at most so many bits. */
+    /** A number that is not negative, of at most this many bits. */
     static BigInteger whole(String field, BigInteger value, int bits) {
         if (value == null) {
             throw new InvalidValueException(field, "must be a number, not null");

@@ -5,7 +5,7 @@ import java.util.List;
 import java.util.Set;
 import java.util.function.Supplier;
 
-/** A thread that answers calls over a session, which it registers when it needs one. */
+/** A thread that serves calls over a session, which it registers when it needs one. */
 final class Worker extends Thread {
     private static final Set<String> FORBIDDEN = Set.of("NotAllowed", "ClientNotAllowed");
     private static final SessionOptions ONCE = SessionOptions.DEFAULT.withAttempts(1);

@@ -1,5 +1,5 @@
 /**
- * A client of the ledger server, over the Java platform alone.
+ * A client of the ledger server, over only the Java platform.
  *
  * <p>A {@link org.telovamish.tbclient.Session} is a client that is registered. It numbers its
  * requests, sends one at a time, and sends the same bytes again until it has the reply; that is

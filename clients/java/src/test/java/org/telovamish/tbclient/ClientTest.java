@@ -20,7 +20,7 @@ public final class ClientTest {
         return new Client(CLUSTER, addresses);
     }
 
-    /** Texts that are addresses, and texts that are none. */
+    /** Texts that are addresses, and texts that are not. */
     @Test
     public void addresses() {
         for (String it :

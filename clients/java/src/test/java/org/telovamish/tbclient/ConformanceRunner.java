@@ -60,7 +60,7 @@ public final class ConformanceRunner {
      * Reads lines until there are no more.
      *
      * @param words none
-     * @throws Exception where a line is none
+     * @throws Exception if a line is not a step
      */
     public static void main(String[] words) throws Exception {
         ConformanceRunner runner = new ConformanceRunner();
@@ -657,7 +657,7 @@ public final class ConformanceRunner {
         return found;
     }
 
-    /** Their names, or the number where it has bits that have none. */
+    /** Their names, or the number if it has bits without a name. */
     private static Object shownFlags(Class<?> kind, int flags, List<String> names) {
         return flags(kind, new ArrayList<Object>(names)) == flags ? names : String.valueOf(flags);
     }

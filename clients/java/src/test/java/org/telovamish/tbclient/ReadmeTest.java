@@ -20,7 +20,7 @@ import org.junit.Rule;
 import org.junit.Test;
 import org.junit.rules.TemporaryFolder;
 
-/** The program of README.md, as it stands there, over a listener and its server. */
+/** The program of README.md, as it is there, over a listener and its server. */
 public class ReadmeTest {
     private static final Path TOP = Path.of("../..").toAbsolutePath().normalize();
     private static final int SESSIONS = 8;

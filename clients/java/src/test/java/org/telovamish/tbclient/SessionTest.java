@@ -39,7 +39,7 @@ public class SessionTest {
     private static final Transfer SALE =
             Transfer.builder().id(11).debitAccountId(1).creditAccountId(2).amount(5).build();
 
-    /** Answers each frame by the next of what it was given, and keeps the frames. */
+    /** Replies to each frame by the next of what it was given, and keeps the frames. */
     private static final class Played implements Transport {
         private final Deque<Function<byte[], byte[]>> next = new ArrayDeque<>();
         private final List<byte[]> sent = new ArrayList<>();

@@ -181,7 +181,7 @@ public class SocketTransportTest {
         }
     }
 
-    /** A place where a connecting waits: as many as may wait to be accepted are there. */
+    /** A place at which a connecting waits: as many as may wait to be accepted are there. */
     private static ServerSocket full(List<Socket> waiting) throws IOException {
         ServerSocket it = new ServerSocket(0, 1, InetAddress.getLoopbackAddress());
         try {
@@ -255,7 +255,7 @@ public class SocketTransportTest {
         }
     }
 
-    /** A server that tells this in place of each reply, and closes the connection. */
+    /** A server that sends this in place of each reply, and closes the connection. */
     private static ServerSocket telling(String line) throws IOException {
         ServerSocket it = new ServerSocket(0, 50, InetAddress.getLoopbackAddress());
         start(() -> {
@@ -388,7 +388,7 @@ public class SocketTransportTest {
         assertEquals(1, connections.get());
     }
 
-    /** Begins registers of so many threads over a transport that does not answer. */
+    /** Begins registers of a number of threads over a transport that does not reply. */
     private static List<Future<Session>> waiting(ExecutorService threads, Transport over, int count)
             throws InterruptedException {
         List<Future<Session>> found = new ArrayList<>();

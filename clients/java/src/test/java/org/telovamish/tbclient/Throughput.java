@@ -63,7 +63,7 @@ public final class Throughput {
      *
      * @param words session (and records) or client (and batches), the socket's path, how many
      *     connections, requests of each, transfers of each
-     * @throws Exception where one fails
+     * @throws Exception if one fails
      */
     public static void main(String[] words) throws Exception {
         int connections = Integer.parseInt(words[2]);

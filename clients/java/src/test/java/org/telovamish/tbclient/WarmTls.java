@@ -22,7 +22,7 @@ final class WarmTls {
 
     private WarmTls() {}
 
-    /** Does it, where the key that it takes is there. */
+    /** Does it, if the key that it takes is there. */
     static void up() {
         try (InputStream store = WarmTls.class.getResourceAsStream(STORE)) {
             if (store != null) {

@@ -21,14 +21,14 @@ import org.telovamish.tbclient.Session;
 import org.telovamish.tbclient.SessionOptions;
 import org.telovamish.tbclient.Transport;
 
-/** A transport of another package's, by the public interface alone. */
+/** A transport of another package's, only by the public interface. */
 public class OwnTransportTest {
     private static final SessionOptions THRICE = new SessionOptions(3, Duration.ofMillis(1));
 
     private final List<ClientException> faults = new ArrayList<>();
     private final List<byte[]> sent = new ArrayList<>();
 
-    /** Throws what is next, or answers a register: of session 1, which commit 1 gave. */
+    /** Throws what is next, or replies to a register: of session 1, which commit 1 gave. */
     private byte[] exchange(byte[] frame, Duration within) {
         sent.add(frame.clone());
         if (!faults.isEmpty()) {
