@@ -6,8 +6,8 @@
 //
 //     node throughput.js [--before FOLDER] [SERVER [WORD ..]]
 //
-// SERVER is tbd, or another program of its words, behind the listener. Where none is given a
-// program answers each request at once and keeps nothing: the figures are of the clients alone.
+// SERVER is tbd, or another program of its words, behind the listener. If none is given, a
+// program replies to each request at once and keeps nothing: the figures are only of the clients.
 // --before has another clone of this repository, whose clients are measured in the same run. Each
 // figure is of one run, whose load on the machine is printed with it. In brackets: microseconds of
 // the client's own CPU for each.

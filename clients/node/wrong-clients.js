@@ -7,9 +7,9 @@
 //     node wrong-clients.js [--only PART] [--from N] [--scenarios PATTERN] [--list] [--texts]
 //
 // Each wrong client is an edit in a copy. The kit has to fail for it; the client as it is has to
-// pass. Prints which scenario caught it, and 'N of M wrong clients are caught'. Status 1 where one
+// pass. Prints which scenario caught it, and 'N of M wrong clients are caught'. Status 1 if one
 // is not. --only takes those with this part in their names, --from those from the Nth of all on.
-// --list prints their names, and tries none. --texts sees that each can be made, and tries none.
+// --list prints their names, and runs none. --texts checks that each can be made, and runs none.
 
 const { spawnSync } = require("node:child_process");
 const { cpSync, mkdtempSync, readFileSync, rmSync, writeFileSync } = require("node:fs");
@@ -25,7 +25,7 @@ const REFUSED = "      throw this.#refused;\n";
 const BEGIN = "    this.#pending = frame;\n";
 const NUMBER = "this.#pending.readUInt32LE(24)";
 
-// Each: what is wrong, the file, the text that stands there once, and the text in its place.
+// Each: what is wrong, the file, the text that is there once, and the text in its place.
 const WRONG = {
   "shared: results are not by a list's own indexes": [
     "lib/joint.js",

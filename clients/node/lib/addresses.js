@@ -5,9 +5,9 @@
 const { InvalidType, InvalidValue } = require("./errors.js");
 const { kindOf, listed, narrow } = require("./values.js");
 
-const HOST = "127.0.0.1"; // of a port alone
-const PORT = 3001; // of a host alone
-// a number in brackets with or without a port, a port alone, a name with or without a port
+const HOST = "127.0.0.1"; // if only a port is given
+const PORT = 3001; // if only a host is given
+// a number in brackets with or without a port, only a port, a name with or without a port
 const FORMS = [/^\[([^\]]+)\](?::(\d+))?$/, /^()(\d+)$/, /^([^:]*)(?::(\d+))?$/];
 
 function addressOf(text) {

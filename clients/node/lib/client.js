@@ -22,8 +22,8 @@ function idsOf(range) {
  * a request is in flight go out as the next request, and each call gets its own results.
  *
  * A call waits until its reply is there, whatever is lost and whoever ends meanwhile, or until its
- * `signal` or `within` ends it. One that ends leaves the others alone. A session that was evicted
- * is replaced, and what was in doubt then is settled.
+ * `signal` or `within` ends it. One that ends does not disturb the others. A session that was
+ * evicted is replaced, and what was in doubt then is settled.
  *
  * Nothing outlives the process: for requests that have to survive it, use a Session and `save`.
  */
@@ -44,12 +44,12 @@ class Client {
     );
   }
 
-  /** Creates accounts. Answers the results of those that were not created, by index. */
+  /** Creates accounts. Returns the results of those that were not created, by index. */
   createAccounts(accounts, options) {
     return this.#ask(Operation.create_accounts, accounts, options);
   }
 
-  /** Makes transfers. Answers the results of those that were not made, by index. */
+  /** Makes transfers. Returns the results of those that were not made, by index. */
   createTransfers(transfers, options) {
     return this.#ask(Operation.create_transfers, transfers, options);
   }

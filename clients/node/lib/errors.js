@@ -54,7 +54,7 @@ class NothingInDoubt extends NotSent {}
 class Closed extends NotSent {}
 
 /**
- * No connection to the server can be made. It is final where one side does not trust the other, at
+ * No connection to the server can be made. It is final if one side does not trust the other, at
  * each address.
  */
 class CannotConnect extends NotSent {
@@ -161,7 +161,7 @@ const REFUSALS = new Map([
   [Status.NotYet, NotYet],
 ]);
 
-/** Events of a batch were not accepted; `results` tells which, and why by name. */
+/** Events of a batch were not accepted; `results` says which, and why by name. */
 class EventsFailed extends ClientError {
   constructor(results) {
     const said = results.slice(0, SHOWN).map((it) => `event ${it.index}: ${it.result}`);

@@ -1,6 +1,6 @@
 "use strict";
 
-// The file that keeps a session: written whole or not at all, and read where it is one.
+// The file that keeps a session: written whole or not at all, and read if it is one.
 
 const { randomBytes } = require("node:crypto");
 const { constants, promises: fs } = require("node:fs");
@@ -91,8 +91,8 @@ function readText(name) {
 }
 
 /**
- * Puts a file at this path, or where a link there leads, with this text, and with the old one's
- * permissions. Where that fails the old file is left, and nothing next to it.
+ * Puts a file at this path, or at the target of a link there, with this text, and with the old
+ * one's permissions. If that fails, the old file is left, and nothing next to it.
  */
 function writeWhole(given, text) {
   return system(given, async () => {
@@ -111,7 +111,7 @@ function writeWhole(given, text) {
   });
 }
 
-/** Where the symbolic links at a path lead, whether a file is there or not. */
+/** The path that the symbolic links at a path lead to, whether a file is there or not. */
 async function linked(name) {
   let found = name;
   for (let left = LINKS_MAX; left > 0; left -= 1) {
@@ -122,7 +122,7 @@ async function linked(name) {
   return found;
 }
 
-/** The permissions of the file that is to be replaced, or 0600 where there is none. */
+/** The permissions of the file that is to be replaced, or 0600 if there is no file. */
 async function modeOf(name) {
   try {
     const status = await fs.stat(name);
@@ -146,7 +146,7 @@ async function writeSynced(name, text, mode) {
 }
 
 async function syncFolder(name) {
-  if (process.platform === "win32") return; // where that is EPERM
+  if (process.platform === "win32") return; // there it fails with EPERM
   const it = await fs.open(name, "r");
   try {
     await it.sync();

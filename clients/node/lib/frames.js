@@ -21,7 +21,7 @@ const { ACCOUNT, TRANSFER, putRecord, putWide } = require("./records.js");
 const { recordAt, viewOf, wideAt } = require("./records.js");
 const { U128, kindOf, listed, shown, wide } = require("./values.js");
 
-/** Where the fields of a layout stand, by name. */
+/** The offsets of the fields of a layout, by name. */
 function placesOf(layout) {
   return Object.fromEntries(LAYOUTS[layout].map((it) => [it.name, it.at]));
 }
@@ -83,7 +83,7 @@ function operationOf(value) {
 
 /**
  * The frame of a request with these items, whose client, session and number are still 0. A
- * register alone may leave them out.
+ * only a register may omit them.
  */
 function framed(operation, items) {
   if (operation === Operation.register) {
@@ -219,7 +219,7 @@ function replyFault(header) {
   return length / size > ITEMS_MAX ? "TooMany" : undefined;
 }
 
-/** Throws BadReply where this is no header of a reply, before its body is waited for. */
+/** Throws BadReply if this is no header of a reply, before its body is waited for. */
 function testReply(header) {
   const fault = replyFault(header);
   if (fault === undefined) return;
@@ -228,7 +228,7 @@ function testReply(header) {
   throw new BadReply(`what came is no frame of a reply (${fault})${text}`);
 }
 
-/** Throws BadReply where the header of a reply, which has no fault, is not of this request. */
+/** Throws BadReply if the header of a reply, which has no fault, is not of this request. */
 function testAsked(frame, header) {
   const isRegister = header.readUInt8(REPLY.operation) === Operation.register;
   const isSame = ({ name, at, bytes }) =>
@@ -252,7 +252,7 @@ function answerOf(reply) {
 
 /**
  * What the reply to this request says: the results of a create, the records of a lookup, nothing
- * of a register. Throws BadReply where no reply to it says so.
+ * of a register. Throws BadReply if no reply to it says so.
  */
 function saidBy(frame, reply) {
   const operation = frame.readUInt8(REQUEST.operation);

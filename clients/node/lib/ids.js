@@ -11,8 +11,8 @@ function numberOf(bytes) {
 }
 
 /**
- * Makes ids. `now` answers milliseconds since 1970, and `draw` ten random bytes: those of the
- * system where nothing is given.
+ * Makes ids. `now` returns milliseconds since 1970, and `draw` ten random bytes: those of the
+ * system if nothing is given.
  */
 class Ids {
   #now;
@@ -45,7 +45,7 @@ const ids = new Ids();
 
 /**
  * A new id of 128 bits: 48 bits of milliseconds since 1970, and 80 random ones. It is above each
- * earlier one of this thread, also where the clock is set back.
+ * earlier one of this thread, also if the clock is set back.
  */
 function id() {
   return ids.next();

@@ -54,7 +54,7 @@ function splitResults(frames, results) {
   });
 }
 
-/** Records come in the order of the ids, and an id that is not there has none. */
+/** Records come in the order of the ids, and an id that is not there has no record. */
 function splitRecords(frames, records) {
   let at = 0;
   return frames.map((frame) => {
@@ -84,7 +84,7 @@ function* chains(frame) {
 
 /**
  * The results of a create that may have been executed before. A chain that was is refused now,
- * since its first event exists; where all its events are there as they were asked for, each of
+ * because its first event exists; if all its events are there as they were asked for, each of
  * them exists.
  */
 async function settled(operation, frame, results, lookUp) {

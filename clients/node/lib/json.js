@@ -3,7 +3,7 @@
 // JSON whose integers are exact: each is a BigInt, and any other number a number.
 
 const DEPTH_MAX = 32;
-const DIGITS_MAX = 60; // no field holds so many
+const DIGITS_MAX = 60; // no field holds this many
 const SPACE = /[ \t\n\r]*/y;
 const NUMBER = /-?(?:0|[1-9]\d*)(\.\d+)?([eE][+-]?\d+)?/y;
 const WORDS = { true: true, false: false, null: null };

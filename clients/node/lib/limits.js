@@ -39,7 +39,7 @@ function limited(options) {
   };
 }
 
-/** Calls this once where the signal comes, or has come. Answers a call that lets go of it. */
+/** Calls this once if the signal comes, or has come. Returns a call that releases it. */
 function onAbort(signal, call) {
   if (signal === undefined) return () => {};
   if (signal.aborted) {
@@ -50,12 +50,12 @@ function onAbort(signal, call) {
   return () => signal.removeEventListener("abort", call);
 }
 
-/** Throws Cancelled where the signal has come. */
+/** Throws Cancelled if the signal has come. */
 function testLimit(signal, sent) {
   if (signal?.aborted) throw new Cancelled(sent, signal.reason);
 }
 
-/** Waits for so many milliseconds, or until the signal comes. */
+/** Waits for a number of milliseconds, or until the signal comes. */
 function paused(ms, signal, sent) {
   return new Promise((resolve, reject) => {
     let off = () => {};

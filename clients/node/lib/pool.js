@@ -44,7 +44,8 @@ class Patience {
   }
 }
 
-/** Up to so many sessions, each with a transport of its own. They register when they are needed. */
+/** Up to a number of sessions, each with a transport of its own. They register when they are
+ * needed. */
 class Pool {
   #connect;
   #newId;
@@ -104,8 +105,8 @@ class Pool {
   }
 
   /**
-   * The next calls that one request can hold. A list is never cut, and none is joined to one that
-   * ends in an open chain.
+   * The next calls that one request can hold. A list is never cut, and no call is joined to one
+   * that ends in an open chain.
    */
   take() {
     let count = 0;
@@ -158,7 +159,7 @@ class Pool {
   }
 }
 
-/** Answers calls over a session, which it registers when it needs one. */
+/** Serves calls over a session, which it registers when it needs one. */
 class Worker {
   #pool;
   #newId;
@@ -232,7 +233,7 @@ class Worker {
 
   /**
    * What the reply to a request says, and whether the request may have been executed before, in a
-   * session that has ended. Rejects by a NotSent where it was never executed.
+   * session that has ended. Rejects by a NotSent if it was never executed.
    */
   async #ask(operation, frame, wasDoubtful) {
     let isDoubtful = wasDoubtful;

@@ -52,8 +52,8 @@ function putField(field, value, view, at) {
 }
 
 /**
- * Puts a record's bytes, over zeros. Fields that are left out are 0. One that is undefined is
- * refused, and so is one that the record does not have: a field misspelt would else be 0.
+ * Puts a record's bytes, over zeros. Omitted fields are 0. One that is undefined is
+ * refused, and so is one that the record does not have: a misspelt field would otherwise be 0.
  */
 function putRecord(kind, item, where, view, at) {
   if (typeof item !== "object" || item === null || Array.isArray(item)) {
@@ -78,7 +78,7 @@ function fieldAt(field, data, at) {
   return field.bytes === 8 ? data.readBigUInt64LE(at) : data.readUIntLE(at, field.bytes);
 }
 
-/** The record that the bytes spell, with all its fields. All that they can spell is in range. */
+/** The record that the bytes encode, with all its fields. All that they can encode is in range. */
 function recordAt(kind, data, at) {
   const record = {};
   for (const field of kind.fields) record[field.name] = fieldAt(field, data, at + field.at);
@@ -91,12 +91,12 @@ function whole(kind, name, fields) {
   return Object.freeze(recordAt(kind, data, 0));
 }
 
-/** A whole account of these fields: each is tested, and those that are left out are 0. */
+/** A whole account of these fields: each is checked, and omitted ones are 0. */
 function account(fields) {
   return whole(ACCOUNT, "Account", fields);
 }
 
-/** A whole transfer of these fields: each is tested, and those that are left out are 0. */
+/** A whole transfer of these fields: each is checked, and omitted ones are 0. */
 function transfer(fields) {
   return whole(TRANSFER, "Transfer", fields);
 }

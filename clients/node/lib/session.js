@@ -37,7 +37,7 @@ const {
 } = require("./values.js");
 
 const ATTEMPTS = 5;
-// milliseconds, before a request is sent again where the server said to come later; doubled each
+// milliseconds, before a request is sent again if the server said to come later; doubled each
 // time
 const PAUSE = 50;
 const PAUSE_MAX = 1000; // milliseconds, beyond which it is doubled no more
@@ -51,13 +51,13 @@ function transportOf(transport) {
   return transport;
 }
 
-/** The milliseconds that go by before each sending where the server said to come later. */
+/** The milliseconds that go by before each sending if the server said to come later. */
 function* pauses(first) {
   const most = Math.max(first, PAUSE_MAX);
   for (let pause = first;; pause = Math.min(2 * pause, most)) yield pause;
 }
 
-/** The bytes in doubt of what was saved, or none. */
+/** The bytes in doubt of what was saved, or no bytes. */
 function pendingOf(text) {
   const field = "saved.pending";
   if (typeof text !== "string") {
@@ -68,8 +68,8 @@ function pendingOf(text) {
 }
 
 /**
- * Refuses bytes in doubt that are not the next request of just this session: a register where
- * session and number are 0, and no register where the session is not 0.
+ * Refuses bytes in doubt that are not the next request of this very session: a register if
+ * session and number are 0, and no register if the session is not 0.
  */
 function testPending(frame, { client, session, number }) {
   if (frame === undefined) return;
@@ -112,7 +112,7 @@ const RESUMED = Symbol("resumed");
 
 /**
  * Sends a request of this frame, whose numbers are still 0, or the one that is in doubt again.
- * Where nothing was sent it is as if it had not been asked for.
+ * If nothing was sent, it is as if it had not been asked for.
  */
 let askFrame;
 
@@ -169,20 +169,20 @@ class Session {
     }
   }
 
-  /** Registers a client, and answers its new session. */
+  /** Registers a client, and returns its new session. */
   static async register(transport, options) {
     const session = new Session(transport, options);
     await session.#ask(Operation.register, [], options);
     return session;
   }
 
-  /** The session as it was when `saved` was taken. Where a request was in doubt, `retry` it. */
+  /** The session as it was when `saved` was taken. If a request was in doubt, `retry` it. */
   static resumed(transport, saved, options) {
     const given = optionsOf("options", options);
     return new Session(transport, { ...given, [RESUMED]: savedOf(saved) });
   }
 
-  /** The session that `save` kept in a file. Where a request was in doubt, `retry` it first. */
+  /** The session that `save` kept in a file. If a request was in doubt, `retry` it first. */
   static async load(transport, path, options) {
     const text = await readText(pathOf("path", path));
     return Session.resumed(transport, decodeSaved(text), options);
@@ -226,19 +226,19 @@ class Session {
 
   /**
    * The request that has no reply yet, with its records or ids, or null. It is kept over refusals,
-   * since it may have been executed before: after an eviction create its records again, with the
+   * because it may have been executed before: after an eviction create its records again, with the
    * same ids, in a new session.
    */
   get inDoubt() {
     return this.#pending === undefined ? null : frames.requestOf(this.#pending);
   }
 
-  /** Creates accounts. Answers the results of those that were not created, by index. */
+  /** Creates accounts. Returns the results of those that were not created, by index. */
   createAccounts(accounts, options) {
     return this.#ask(Operation.create_accounts, accounts, options);
   }
 
-  /** Makes transfers. Answers the results of those that were not made, by index. */
+  /** Makes transfers. Returns the results of those that were not made, by index. */
   createTransfers(transfers, options) {
     return this.#ask(Operation.create_transfers, transfers, options);
   }
@@ -258,12 +258,12 @@ class Session {
     this.#testNotInDoubt();
     const kind = frames.operationOf(operation);
     const frame = frames.framed(kind, items);
-    this.#testNotInDoubt(); // again, since what gives the items may have used the session
+    this.#testNotInDoubt(); // again, because what gives the items may have used the session
     this.#begin(kind, frame);
   }
 
   /**
-   * Sends the request in doubt, the same bytes each time, until its reply has come. Answers what
+   * Sends the request in doubt, the same bytes each time, until its reply has come. Returns what
    * it says: results of a create, records of a lookup, undefined of a register.
    */
   async retry(options) {
@@ -380,7 +380,7 @@ class Session {
 
   /**
    * Takes the reply to the request in doubt, which is in doubt no longer: the session goes on
-   * behind it. A refusal leaves it in doubt, since it may have been executed before.
+   * behind it. A refusal leaves it in doubt, because it may have been executed before.
    */
   #take(frame, data) {
     if (!(data instanceof Uint8Array)) throw new BadReply("what came are no bytes");
@@ -404,7 +404,7 @@ class Session {
 }
 
 /**
- * Throws EventsFailed where an event was not accepted. What else a reply says, as the records of a
+ * Throws EventsFailed if an event was not accepted. What else a reply says, as the records of a
  * lookup, is passed over.
  */
 function requireOk(results) {

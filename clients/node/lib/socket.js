@@ -34,7 +34,7 @@ const STARTING = "Starting";
 // say to come later: there are too many connections, or the peer has its share
 const LATER = new Set(["Busy", "TooManyConnections", "TooManySessions", "TooManyRequests"]);
 // alerts of TLS by which a server refuses this client, whose request it does not read. The last
-// one says so in TLS 1.2, where the server wants a certificate
+// one says so in TLS 1.2, if the server requires a certificate
 const REFUSAL = /_ALERT_(?:\w*CERTIFICATE\w*|UNKNOWN_CA|ACCESS_DENIED|HANDSHAKE_FAILURE)$/;
 
 function isRefusal(fault) {
@@ -49,16 +49,16 @@ function news() {
 }
 
 /**
- * Calls this after so many milliseconds, and not before what came until then is taken: a program
- * that was busy or stopped meanwhile finds its reply there.
+ * Calls this after a number of milliseconds, and not before what came until then is taken: a
+ * program that was busy or stopped meanwhile finds its reply there.
  */
 function after(ms, call) {
   return setTimeout(() => news().then(call), Math.max(Math.ceil(ms), 1));
 }
 
 /**
- * What to throw where a connection ended after these bytes: with the name that the server told,
- * where it told one.
+ * What to throw where a connection ended after these bytes: with the name that the server sent, if
+ * it sent one.
  */
 function lost(said, how) {
   const text = said.toString("latin1");
@@ -74,7 +74,7 @@ class Connection {
   #said = [];
   #size = 0;
   #end = ""; // how it ended
-  #fault; // the system's, where one ended it
+  #fault; // the system's, if one ended it
   #asked; // the request that is in flight
   #isUsed = false;
   #isAnswered = false;
@@ -128,7 +128,7 @@ class Connection {
     });
   }
 
-  /** Sends a request, and waits for the reply to it. `late` says that none came in time. */
+  /** Sends a request, and waits for the reply to it. `late` says that no reply came in time. */
   ask(frame, ms, signal, late) {
     this.#socket.ref();
     this.#isUsed = true;
@@ -162,7 +162,7 @@ class Connection {
     this.#look();
   }
 
-  /** Takes the reply where it is there, or the end. */
+  /** Takes the reply if it is there, or the end. */
   #look() {
     const asked = this.#asked;
     if (asked === undefined) return;
@@ -236,7 +236,7 @@ function lookUp(host, options, call) {
   });
 }
 
-/** Begins to connect: over TLS where there are options for it. */
+/** Begins to connect: over TLS if there are options for it. */
 function begun(address, secure) {
   if (typeof address === "string") {
     // Node would cut it, to the path of another socket
@@ -250,8 +250,8 @@ function begun(address, secure) {
 }
 
 /**
- * A new connection to an address, within so many milliseconds. `hold` is given what ends the call
- * before that.
+ * A new connection to an address, within a number of milliseconds. `hold` is given what ends the
+ * call before that.
  */
 function call(address, secure, ms, signal, hold) {
   return new Promise((resolve, reject) => {
@@ -323,15 +323,15 @@ let connectNoMore;
  * in an array.
  *
  * It is made when a request is to be sent. One that broke, that the server closed, or on which no
- * reply came in time is closed, and the next exchange makes a new one, to the next address where
- * there are several. Where none can be made within `timeout` nothing is sent, and it is
+ * reply came in time is closed, and the next exchange makes a new one, to the next address if there
+ * are several. If no connection can be made within `timeout`, nothing is sent, and it is
  * CannotConnect. Sessions may share a Socket: their exchanges go one after another.
  */
 class Socket {
   #addresses;
   #at = 0;
   #gone; // the address that was given up last
-  #cause; // the fault that is told where no reply comes to this exchange, or undefined
+  #cause; // the fault that is reported if no reply comes to this exchange, or undefined
   #timeout;
   #secure;
   #connection;
@@ -361,7 +361,7 @@ class Socket {
     return typeof it === "string" ? it : { ...it };
   }
 
-  /** Sends the frame of a request, and answers the frame of the reply to it. */
+  /** Sends the frame of a request, and returns the frame of the reply to it. */
   async exchange(frame, options) {
     const request = bytesOf("frame", frame);
     testRequest(request);
@@ -374,7 +374,7 @@ class Socket {
       this.#cause = undefined;
       for (let pause = FIRST_PAUSE;; pause = Math.min(2 * pause, LAST_PAUSE)) {
         const connection = await this.#connected(deadline, signal);
-        this.#testOpen(); // a close may have come since the connection was made
+        this.#testOpen(); // a close may have come after the connection was made
         try {
           const left = deadline - performance.now();
           return await connection.ask(request, left, signal, this.#late());
@@ -409,7 +409,7 @@ class Socket {
     if (this.#isClosed || this.#isEnding) throw new Closed(CLOSED);
   }
 
-  /** The connection, made again where there is none, or where the server closed it since. */
+  /** The connection, made again if there is none, or if the server closed it. */
   async #connected(deadline, signal) {
     if (this.#connection !== undefined) await news();
     this.#testOpen();
@@ -446,8 +446,8 @@ class Socket {
   }
 
   /**
-   * Calls the addresses in turn, from the present one on, until one answers. Answers their faults
-   * where none does.
+   * Calls the addresses in turn, from the present one on, until one replies. Returns their faults
+   * if none does.
    */
   async #callEach(deadline, signal) {
     const faults = [];

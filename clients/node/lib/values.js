@@ -16,7 +16,7 @@ function kindOf(value) {
   return typeof value === "object" ? "an object" : typeof value;
 }
 
-/** A number as an error shows it: none that fills the page. */
+/** A number as an error shows it: not one that fills the page. */
 function shown(number) {
   if (typeof number === "bigint" && (number > U128 || number < -U128)) return "a larger number";
   for (const bits of [128n, 64n])
@@ -60,7 +60,7 @@ function milliseconds(field, value, least) {
   return value;
 }
 
-/** An array, of at most so many items. */
+/** An array, of at most this many items. */
 function listed(name, items, most = Infinity) {
   if (!Array.isArray(items)) {
     throw new InvalidType(name, `must be an array, not ${kindOf(items)}`);
@@ -88,7 +88,7 @@ function pathOf(field, path) {
   return path;
 }
 
-/** An object of options, or none. */
+/** An object of options, or nothing. */
 function optionsOf(field, options) {
   if (options === undefined) return {};
   if (typeof options !== "object" || options === null || Array.isArray(options)) {

@@ -74,7 +74,7 @@ async function listener() {
 }
 
 /**
- * Passes bytes on to the listener and back. Where `kill` is set, it is called once the listener
+ * Passes bytes on to the listener and back. If `kill` is set, it is called once the listener
  * has answered a request of create_transfers, and the answer is kept back.
  */
 function between(place, hooks) {

@@ -1,6 +1,6 @@
 "use strict";
 
-// The runner for the conformance kit, where the order of calls at once is known.
+// The runner for the conformance kit, if the order of calls at once is known.
 
 const assert = require("node:assert/strict");
 const { spawn, spawnSync } = require("node:child_process");

@@ -37,7 +37,7 @@ async function listening(name, serve) {
   return place;
 }
 
-/** Answers each request, which is a header alone or a lookup of one id. */
+/** Replies to each request, which is only a header or a lookup of one id. */
 function answers(it, pieces = 1) {
   it.on("error", () => {});
   it.on("data", (frame) => {
@@ -102,7 +102,7 @@ test("why no connection can be made is told, also with no time left for a last c
   });
 });
 
-/** A server over TLS that answers, and the options for it. */
+/** A server over TLS that replies, and the options for it. */
 async function listeningOverTls(serve) {
   const [key, cert] = ["key.pem", "cert.pem"].map((name) => path.join(folder, name));
   const words = ["req", "-x509", "-newkey", "ec", "-pkeyopt", "ec_paramgen_curve:prime256v1"];
@@ -212,7 +212,7 @@ test("a close at any moment of a connecting is told by its name", async (t) => {
         call();
         if (call.length === 0) return;
         for (let turn = 0; turn < turns; turn += 1) await undefined;
-        socket.close(); // so many turns after what the connecting waits for
+        socket.close(); // a number of turns after what the connecting waits for
       }),
     );
     const told = await tb.Session.register(socket, { attempts: 1 }).catch((why) => why);

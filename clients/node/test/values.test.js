@@ -11,7 +11,7 @@ const { parsed } = require("../lib/json.js");
 
 const SALE = { id: 11n, debit_account_id: 1n, credit_account_id: 2n, amount: 100n, code: 10 };
 
-/** A transport that answers by a function of the request's frame. */
+/** A transport that replies by a function of the request's frame. */
 function direct(serve) {
   return {
     sent: [],

@@ -103,7 +103,7 @@ with tempfile.TemporaryDirectory() as folder, Program(
             f"{credited(session, kept)}"
         )
 
-    # The server is killed. Its history was in its memory alone, and comes back from the script that
+    # The server is killed. Its history was only in its memory, and comes back from the script that
     # restarts=True keeps.
     assert program.process is not None
     program.process.kill()

@@ -2,8 +2,8 @@
 """Clients move money over sockets, each transfer once, though the server, a client and the listener
 are killed amid the work.
 
-    examples/sockets.py [COMMAND]        (crates/tbd/out/tbd of this repository where none is given,
-    or what stands in for it)
+    examples/sockets.py [COMMAND] (crates/tbd/out/tbd of this repository if none is given, or its
+    stand-in)
 
 It is run twice: on a Unix socket, and on a port of this computer.
 """
@@ -74,7 +74,7 @@ def done(kept: str) -> int:
 
 
 class Listening:
-    """A listener before a server whose process id stands in a file, so that it can be killed."""
+    """A listener before a server whose process id is in a file, so that it can be killed."""
 
     def __init__(self, command: List[str], place: List[str], folder: str) -> None:
         self.folder = folder
@@ -141,7 +141,7 @@ def client(address: Address, kept: str) -> "subprocess.Popen[bytes]":
 def wait_until(
     count: int, files: List[str], clients: "List[subprocess.Popen[bytes]]", listening: Listening
 ) -> None:
-    """Waits until the clients know so many transfers to be made. Ends the example where they
+    """Waits until the clients know that a number of transfers are made. Ends the example if they
     cannot make them any more."""
     deadline = time.monotonic() + PATIENCE
     while sum(map(done, files)) < count:
@@ -162,7 +162,7 @@ def run(command: List[str], place: List[str], folder: str) -> None:
         work_amid_kills(listening, clients, place, folder)
     finally:
         running: "List[subprocess.Popen[Any]]" = [*clients, listening.process]
-        for it in running:  # where something failed they may still run
+        for it in running:  # if something failed they may still run
             it.kill()
             it.wait()
 

@@ -9,8 +9,7 @@ SECONDS = 10  # that a call may take in a child
 
 def status_in_a_child(call, lock):
     """What a forked child ends with that calls this while a thread of its parent has this lock: the
-    call's number, 0 where it answers none, 4 where it raises, and -SIGALRM where it does not
-    return."""
+    call's number, 0 if it returns no number, 4 if it raises, and -SIGALRM if it does not return."""
     held, done = threading.Event(), threading.Event()
 
     def hold():

@@ -401,8 +401,8 @@ class Play:
                 self.told(operation, items, task.result)
 
     def last(self, call):
-        """Nothing fails any more: a call is answered, at the latest where one has ended a session
-        that was in doubt."""
+        """Nothing fails any more: a call gets its answer, at the latest after one has ended a
+        session that was in doubt."""
         asked = [self.record(Operation.create_transfers, 10**9)]
         asked[0] = dataclasses.replace(asked[0], flags=tb.TransferFlags(0))
         self.told(Operation.create_transfers, asked, lambda: call(asked))
@@ -435,7 +435,7 @@ class Play:
                 wrong.append(f"{it.id} is told {result.name}, and {fault}")
 
     def fault(self, operation, id, result):
-        """What is wrong with an event's result, where something is."""
+        """What is wrong with an event's result, if something is."""
         ledger, names = self.world.ledger, NAMES[operation]
         is_there, times = (operation, id) in ledger.records, ledger.entered[operation, id]
         if result in (0, names.exists):

@@ -1,4 +1,4 @@
-"""Where the tests of the client and of its host find what they run."""
+"""The places at which the tests of the client and of its host find what they run."""
 import os
 import sys
 

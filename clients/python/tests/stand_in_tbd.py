@@ -38,8 +38,8 @@ class Fault(Exception):
 
 
 class Ledger:
-    """Sessions as docs/use/RULES.md has them, accounts, and transfers that are refused where
-    they exist or an account does not."""
+    """Sessions as docs/use/RULES.md has them, accounts, and transfers that are refused if they
+    exist or an account does not."""
 
     def __init__(self, clients_max):
         self.clients_max = clients_max
@@ -47,7 +47,7 @@ class Ledger:
         self.sessions, self.accounts, self.transfers = {}, {}, {}
 
     def status(self, frame):
-        """None where the request is new, 0 where it is a repeat, or the status of its refusal."""
+        """None if the request is new, 0 if it is a repeat, or the status of its refusal."""
         session, number, operation = struct.unpack_from("<QIB", frame, 16)
         row = self.sessions.get(frame[:16])
         if operation == REGISTER:
@@ -69,7 +69,7 @@ class Ledger:
         return time
 
     def enter(self, time, frame):
-        """Executes a new request. Answers its reply."""
+        """Executes a new request. Returns its reply."""
         session, number, operation = struct.unpack_from("<QIB", frame, 16)
         self.commit, self.time = self.commit + 1, time
         if operation == REGISTER:
@@ -122,7 +122,7 @@ class Ledger:
 
 
 class Ending:
-    """The end that FAIL asks for, where it does."""
+    """The end that FAIL asks for, if it does."""
 
     def __init__(self, text):
         self.name, self.place, number = text.split(":") if text else ("", "", 0)
@@ -169,7 +169,7 @@ def looked_at(path):
 
 
 def read(data):
-    """What a file stands for: its profile, its ledger, and where its last whole entry ends."""
+    """What a file stands for: its profile, its ledger, and the end of its last whole entry."""
     if len(data) < HEAD.size or not data.startswith(b"TBSDUMP1"):
         raise Fault("NotAJournal", 5)
     _, profile, clients_max = HEAD.unpack_from(data)
@@ -265,8 +265,8 @@ def serve(file, ledger, ending):
 
 
 def commit(file, entries, replies, ends_at):
-    """Writes entries to the file, syncs them, and writes their replies. `ends_at` ends the
-    process where it is to end at a place."""
+    """Writes entries to the file, syncs them, and writes their replies. `ends_at` ends the process
+    if it is to end at a place."""
     write(file, entries[:-1])
     ends_at("half")
     write(file, entries[-1:])
@@ -310,7 +310,7 @@ def tell(word, data):
 
 
 def behind(count):
-    """The line on the bytes behind the last whole entry."""
+    """The line on the bytes after the last whole entry."""
     return f"bytes behind {count}{', not committed yet or torn' if count else ''}\n"
 
 

@@ -139,7 +139,7 @@ class InProcess:
         ]
 
     def wait_for(self, count):
-        """Waits until so many frames have come."""
+        """Waits until a number of frames have come."""
         until(lambda: len(self.frames) >= count)
 
 
@@ -164,7 +164,7 @@ def queued(client):
 
 
 def in_background(work, *arguments):
-    """Begins a call in a thread. Answers what gives its answer, or raises what it raised."""
+    """Begins a call in a thread. Returns what gives its answer, or raises what it raised."""
     found = []
 
     def run():
@@ -312,14 +312,14 @@ class Joined(unittest.TestCase):
         self.server.wait_for(2)
 
     def call(self, work, *arguments):
-        """Begins a call, which waits behind those before it."""
+        """Begins a call, which waits after those before it."""
         many = queued(self.client) + 1
         answer = in_background(work, *arguments)
         until(lambda: queued(self.client) == many)
         return answer
 
     def sent(self):
-        """What goes out once the first request is answered."""
+        """What goes out once the first request has its reply."""
         self.go_on.set()
         self.assertEqual(self.first(), [])
         return self.server.requests()[2:]
@@ -533,7 +533,7 @@ class Lost(unittest.TestCase):
                 server.unreachable = False
 
     def test_a_transport_that_tells_at_once_that_the_server_is_not_there(self):
-        """As where the server's certificate is not trusted. It is called with pauses, before the
+        """As if the server's certificate is not trusted. It is called with pauses, before the
         client has a session, when it has one, and when a reply was lost."""
         for lost in (set(), {3}, None):
             server, calls = InProcess(lost=lost or ()), []
@@ -644,7 +644,7 @@ class Lost(unittest.TestCase):
             self.assertEqual(client.lookup_accounts([1]), [])
 
     def test_a_thread_that_does_not_start(self):
-        """The client goes on where the system has one later."""
+        """The client goes on if the system has one later."""
         server, closed = InProcess(), []
         server.close = lambda: closed.append(True)
         with over(server, timeout=20) as client:
@@ -656,7 +656,7 @@ class Lost(unittest.TestCase):
             self.assertEqual(client.lookup_accounts([1]), [])
 
     def test_a_further_thread_that_does_not_start(self):
-        """The call is answered by a session that is there."""
+        """The call gets its answer by a session that is there."""
         go_on = threading.Event()
         server = InProcess(held={2: go_on})
         with over(server, timeout=20, sessions=2) as client:
@@ -771,10 +771,10 @@ class Lost(unittest.TestCase):
 
 @has_program
 class Chains(unittest.TestCase):
-    """Chains whose reply was lost, and whose session has ended since: over tbs itself."""
+    """Chains whose reply was lost, and whose session has ended since then: over tbs itself."""
 
     def evicted(self, make):
-        """What a call is answered whose first sending was executed, and whose session is gone."""
+        """The answer to a call whose first sending was executed, and whose session is gone."""
         with Program(PROGRAM, clients_max=1) as program:
             setup = Session.register(program)
             setup.create_accounts([account(1), account(2)])

@@ -1,5 +1,5 @@
 #!/usr/bin/env python3
-"""Requests in doubt: over crashes, evictions, lost replies, want of memory and clocks that jump."""
+"""Requests in doubt: over crashes, evictions, lost replies, lack of memory and clocks that jump."""
 import json
 import os
 import random
@@ -111,7 +111,7 @@ class Doubt(unittest.TestCase):
 
     def test_pauses_where_the_server_says_to_come_later(self):
         """docs/use/CLIENTS.md: `pause` seconds (0.05), each time twice as many, up to a second,
-        or to `pause` where that is longer."""
+        or to `pause` if that is longer."""
         for error in (tb.Busy("busy"), tb.NoMemory("no memory")):
             self.assertEqual(self.paused(error), [0.05, 0.1, 0.2, 0.4])
             self.assertEqual(self.paused(error, attempts=1), [])
@@ -261,7 +261,7 @@ class Doubt(unittest.TestCase):
                 self.assertEqual((session.retry(), len(set(self.sent))), ([], 1))
 
     def test_a_fault_that_was_told_is_shown(self):
-        """Of several sendings the one that told why the server ended."""
+        """The one of several sendings that reported why the server ended."""
         gone = tb.CannotConnect("nobody listens")
         for faults, shown in (
             ([tb.ReplyLost("told: Full", "Full"), tb.ReplyLost("reset"), gone], "told: Full"),
@@ -387,7 +387,7 @@ class OnTheProgram(unittest.TestCase):
                     if os.path.exists(path):
                         os.remove(path)
                     ended += self.lives(path, how, at)
-            self.assertEqual(ended, 15 - 1)  # the fifth unsaved request is none
+            self.assertEqual(ended, 15 - 1)  # there is no fifth unsaved request
             self.assertEqual(os.listdir(folder), ["session.json"])
 
     def lives(self, path, how, at):
@@ -456,8 +456,8 @@ class OnTheProgram(unittest.TestCase):
         )
 
     def serve(self, life, program, most):
-        """Serves so many requests of a client's process, 0 for all, and kills it before or after
-        the last one's reply. Answers its status."""
+        """Serves a number of requests of a client's process, 0 for all, and kills it before or
+        after the last one's reply. Returns its status."""
         served = 0
         with life, life.stdin, life.stdout:
             while head := life.stdout.read(56):
@@ -517,7 +517,7 @@ class OnTheProgram(unittest.TestCase):
             session.create_transfers([transfer(id, 1, 2, 1)])
         program.process.kill()
         self.assertRaises(tb.ReplyLost, session.lookup_accounts, [2])
-        for is_read in (False, True):  # nothing of the script is answered by then, or a part of it
+        for is_read in (False, True):  # nothing of the script has replies by then, or a part of it
             program.timeout = 1e-4
             self.assertRaises(tb.ReplyLost, session.retry)
             while is_read and not program.seen:

@@ -78,7 +78,7 @@ class OverAFile(unittest.TestCase):
             self.assertEqual(session.lookup_accounts([1]), [])
 
     def test_close_waits_for_one_exchange(self):
-        """Threads that wait behind it send nothing more."""
+        """Threads that wait for it send nothing more."""
         with open(self.path, "w", encoding="utf-8") as file:
             file.write("#!/bin/sh\necho tbd: ready >&2\nexec sleep 60\n")
         program = Program(self.path, file=self.file, timeout=2)

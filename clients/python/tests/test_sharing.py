@@ -302,8 +302,8 @@ class Programs(unittest.TestCase):
         self.assertEqual((program.sent, session.lookup_accounts([1])), (1, []))
 
     def failing(self, session, pipe, call, error, is_done=True):
-        """A patch by which the next read or write of the program's pipes fails once, behind what
-        it does or before."""
+        """A patch by which the next read or write of the program's pipes fails once, after what it
+        does or before."""
         true, number, left = (
             getattr(os, call),
             getattr(session.transport.process, pipe).fileno(),
@@ -389,7 +389,7 @@ class Programs(unittest.TestCase):
                 )
 
     def test_a_lock_of_popen_that_was_not_given_back(self):
-        """As it is where a signal's handler raises amid Popen.wait. No call waits for that lock."""
+        """As it is if a signal's handler raises amid Popen.wait. No call waits for that lock."""
         for restarts in (False, True):
             session = self.begun(restarts=restarts)
             session.transport.process._waitpid_lock.acquire()
@@ -449,7 +449,7 @@ class Programs(unittest.TestCase):
 
 
 class Forks(unittest.TestCase):
-    """A forked child has copies of its parent's files, and none of its threads."""
+    """A forked child has copies of its parent's files, and not its threads."""
 
     def setUp(self):
         folder = tempfile.TemporaryDirectory()

@@ -1,4 +1,4 @@
-"""Sockets to several addresses, what a server tells, replies of other requests, and TLS's
+"""Sockets to several addresses, what a server sends, replies of other requests, and TLS's
 arguments."""
 import contextlib
 import os
@@ -113,7 +113,7 @@ class Addresses(unittest.TestCase):
         with socket.socket() as listening, socket.socket() as waiting:
             listening.bind(("127.0.0.1", 0))
             listening.listen(0)
-            waiting.connect(listening.getsockname())  # no other one is answered
+            waiting.connect(listening.getsockname())  # no other one gets a reply
             places = [self.path("none"), listening.getsockname()]
             said = self.not_connected(places, timeout=0.3)
             self.assertTrue(said.startswith(f"{places[0]}: No such file"), said)
@@ -153,7 +153,7 @@ class Addresses(unittest.TestCase):
         self.assertNotIn("timed out", said)
 
     def test_a_host_of_many_addresses(self):
-        """Where they do not answer they take the time of one, and leave some for the next."""
+        """If they do not reply, they take the time of one, and leave some for the next."""
         with contextlib.ExitStack() as stack:
             found, port = [], 0
             for last in range(1, 5):
@@ -162,7 +162,7 @@ class Addresses(unittest.TestCase):
                 listening.listen(0)
                 port = listening.getsockname()[1]
                 found.append((socket.AF_INET, socket.SOCK_STREAM, 6, "", (f"127.0.0.{last}", port)))
-                for _ in range(2):  # which fill its queue: no other one is answered
+                for _ in range(2):  # which fill its queue: no other one gets a reply
                     it = stack.enter_context(socket.socket())
                     it.setblocking(False)
                     it.connect_ex(found[-1][4])
@@ -178,7 +178,8 @@ class Addresses(unittest.TestCase):
             server.end()
 
     def test_a_name_that_is_looked_up_for_long(self):
-        """The lookup is within the timeout, and one that fails is told. A number needs none."""
+        """The lookup is within the timeout, and one that fails is reported. A number needs no
+        lookup."""
         done = threading.Event()
         found = socket.getaddrinfo
 
@@ -221,7 +222,7 @@ class Addresses(unittest.TestCase):
         answering.join()
 
     def test_close_waits_for_one_exchange(self):
-        """Threads that wait behind it send nothing more."""
+        """Threads that wait for it send nothing more."""
         with socket.socket(socket.AF_UNIX) as listening:
             listening.bind(self.path("a"))
             listening.listen()  # and nobody answers
@@ -231,7 +232,7 @@ class Addresses(unittest.TestCase):
 
     def test_a_signal_s_handler_that_closes_it(self):
         """Amid an exchange: it waited for the lock of the exchange that it interrupted, for ever.
-        The same where it comes while the connection is made."""
+        The same if it comes while the connection is made."""
         for call, told in (("_read", tb.ReplyLost), ("_call_each", tb.Closed)):
             listening = socket.socket(socket.AF_UNIX)
             with listening, self.subTest(call=call):
@@ -252,7 +253,7 @@ class Addresses(unittest.TestCase):
                 self.assertIsNone(it._socket)
 
     def test_a_signal_s_handler_that_asks(self):
-        """Amid an exchange of its thread: its frame would stand amid the other one's."""
+        """Amid an exchange of its thread: its frame would be amid the other one's."""
         server = Server(self.path("a"), registered(7))
         it, told = Socket(self.path("a")), []
         send = it._send
@@ -324,7 +325,7 @@ class Tls(unittest.TestCase):
 
     @unittest.skipUnless(shutil.which("openssl"), "openssl is not installed")
     def test_a_certificate_that_is_not_trusted(self):
-        """It is told at once, where no other address may answer later."""
+        """It is reported at once, if no other address may reply later."""
         with tempfile.TemporaryDirectory() as folder, socket.socket() as listening:
             paths = certificates.made(folder)
             served = certificates.server_context(paths, {"cert": "server"})

@@ -33,7 +33,7 @@ has_program = unittest.skipUnless(os.access(PROGRAM, os.X_OK), f"{PROGRAM} is no
 
 def reply(frame, status=0, session=1, commit=None, body=b""):
     """A reply to the request of a frame, with a commit number that goes with status and session
-    where none is given."""
+    if no number is given."""
     if commit is None:
         commit = 0 if status else session + (frame[28] != tb.Operation.register)
     header = frame[:16] + struct.pack(
@@ -489,7 +489,7 @@ class Retries(unittest.TestCase):
         )
 
     def test_records_that_were_not_looked_up(self):
-        """A lookup answers the records that are there, in the order of the ids."""
+        """A lookup returns the records that are there, in the order of the ids."""
         for found in ([4], [1, 1], [2, 1], [1, 2, 3, 3], [1, 2, 3, 1]):
             session = self.session(
                 lambda frame: reply(frame, body=b"".join(account(it).to_bytes() for it in found))
@@ -609,7 +609,7 @@ class Worked(unittest.TestCase):
             os.kill(program.process.pid, signal.SIGCONT)
         program.timeout = 30
         self.assertEqual(session.retry(), [])
-        # it was on its way, and was not put behind itself
+        # it was on its way, and was not put after itself
         self.assertEqual((program.sent, program.seen), (3, 3))
         self.assertEqual([it.credits_posted for it in session.lookup_accounts([2])], [100])
 

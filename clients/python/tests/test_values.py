@@ -58,14 +58,14 @@ class LikeIndex:
 
 
 class Two(LikeIndex):
-    """An __index__ that is none."""
+    """An __index__ that is not one."""
 
     def __index__(self):
         return "5"
 
 
 class Odd(int):
-    """A subclass of int that says something else of itself."""
+    """A subclass of int that says another thing about itself."""
 
     def __int__(self):
         return 99
@@ -594,7 +594,7 @@ class Values(unittest.TestCase):
         self.assertEqual(Session.resumed(Direct(self.exchange), saved).saved, saved)
 
     def test_a_saved_request_is_the_next_one_of_its_session(self):
-        """A register has none before it, and any other request has a session."""
+        """A register has no session and no number before it, any other request has a session."""
         register, other = tb.request_frame(7, 0, 0, 2), tb.request_frame(7, 0, 1, 129)
         for session, number, frame in ((0, 5, register), (1, 0, register), (0, 0, other)):
             saved = {"client": 7, "session": session, "number": number, "pending": frame.hex()}

@@ -1,4 +1,4 @@
-"""A client of the ledger server, in the standard library alone.
+"""A client of the ledger server, over only the standard library.
 
 A `Session` is a client that is registered: it numbers its requests, sends one at a time, and sends
 the same bytes again until it has the reply. It works over any transport, an object with a call
@@ -7,7 +7,7 @@ the same bytes again until it has the reply. It works over any transport, an obj
     Program    `tbs run` as a process, over two pipes
     Socket     a server that listens, as tb_listen.py does
     Direct     a function that serves one frame, as that of clients/embed/python/tb_embed.py
-    Faulty     another transport, of which it loses the requests and replies that it is told to lose
+    Faulty     another transport; it loses those of its requests and replies that it is told to lose
 
 `ClientSync` and `ClientAsync` have the face of TigerBeetle's own client, over a pool of sessions.
 

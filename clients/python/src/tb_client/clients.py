@@ -20,13 +20,13 @@ from .sockets import Address, Socket
 from .transports import Closing, Transport
 from .values import U16, U128, callable_of, kind_of, seconds, whole
 
-HOST = "127.0.0.1"  # of a port alone
-PORT = 3001  # of a host alone, as with TigerBeetle's client
+HOST = "127.0.0.1"  # if only a port is given
+PORT = 3001  # if only a host is given, as with TigerBeetle's client
 LOOKUP_ACCOUNTS = "lookup_accounts by ids, or tb-sql over the ledger's history"
 LOOKUP_TRANSFERS = "lookup_transfers by ids, or tb-sql over the ledger's history"
 SESSIONS_MAX = 64  # that a server has at one time
 
-# a port alone, or a host with or without one
+# only a port, or a host with or without one
 ADDRESS = re.compile(
     r"(?P<alone>[0-9]+)"
     r"|(\[(?P<number>[^\]]+)\]|(?P<host>\w[^:\[\]]*|(?=:)))(:(?P<port>[0-9]+))?"
@@ -40,13 +40,13 @@ class _Client:
 
     `replica_addresses` is text as TigerBeetle's client takes it, ports or hosts with ports with
     commas between ("3000", "10.0.0.1:3000,10.0.0.2:3000"), or a path of a Unix socket, which has a
-    slash; or what `Socket` takes. `cluster_id` is any number: the server has none, and it is not
-    sent.
+    slash; or what `Socket` takes. `cluster_id` is any number: the server has no such id, and it is
+    not sent.
 
     Up to `sessions` requests go out at once, and the server has places for 64 sessions in all. With
     one session, which is the default, requests are executed in the order of the calls. A call waits
-    until its answer is there, whatever is lost and whoever ends meanwhile; with `timeout` it waits
-    so many seconds. `connect` makes a transport in place of a Socket to the addresses.
+    until its answer is there, whatever is lost and whatever process ends meanwhile; with `timeout`
+    it waits that many seconds. `connect` makes a transport in place of a Socket to the addresses.
     With `client_range` the clients' ids are those whose upper 64 bits are that number."""
 
     def __init__(
@@ -78,24 +78,24 @@ class _Client:
         return f"<{type(self).__name__} of {self.replica_addresses}, {many}>"
 
     def query_accounts(self, *_: Any, **__: Any) -> NoReturn:
-        """TigerBeetle's query, which no server here answers."""
+        """TigerBeetle's query, which no server here supports."""
         raise NotSupported("query_accounts", LOOKUP_ACCOUNTS)
 
     def query_transfers(self, *_: Any, **__: Any) -> NoReturn:
-        """TigerBeetle's query, which no server here answers."""
+        """TigerBeetle's query, which no server here supports."""
         raise NotSupported("query_transfers", LOOKUP_TRANSFERS)
 
     def get_account_transfers(self, *_: Any, **__: Any) -> NoReturn:
-        """TigerBeetle's filter, which no server here answers."""
+        """TigerBeetle's filter, which no server here supports."""
         raise NotSupported("get_account_transfers", LOOKUP_TRANSFERS)
 
     def get_account_balances(self, *_: Any, **__: Any) -> NoReturn:
-        """TigerBeetle's filter, which no server here answers."""
+        """TigerBeetle's filter, which no server here supports."""
         raise NotSupported("get_account_balances", LOOKUP_ACCOUNTS)
 
     def _late(self, call: Call) -> Any:
-        """The answer of a call whose time went by and that was cancelled, where it came just then;
-        else what became of the call is raised."""
+        """The answer of a call whose time went by and that was cancelled, if it came at that
+        moment; otherwise what became of the call is raised."""
         if not call.future.cancelled():
             return call.future.result()
         within, trouble = f"within {self.timeout:g} seconds", self._pool.trouble()
@@ -113,11 +113,11 @@ class ClientSync(_Client, Closing):
     """
 
     def create_accounts(self, accounts: Iterable[Account]) -> List[CreateAccountsResult]:
-        """Creates accounts. Answers the results of those that were not created, by index."""
+        """Creates accounts. Returns the results of those that were not created, by index."""
         return cast(List[CreateAccountsResult], self._ask(Operation.create_accounts, accounts))
 
     def create_transfers(self, transfers: Iterable[Transfer]) -> List[CreateTransfersResult]:
-        """Makes transfers. Answers the results of those that were not made, by index."""
+        """Makes transfers. Returns the results of those that were not made, by index."""
         return cast(List[CreateTransfersResult], self._ask(Operation.create_transfers, transfers))
 
     def lookup_accounts(self, accounts: Iterable[int]) -> List[Account]:
@@ -154,12 +154,12 @@ class ClientAsync(_Client):
     """
 
     async def create_accounts(self, accounts: Iterable[Account]) -> List[CreateAccountsResult]:
-        """Creates accounts. Answers the results of those that were not created, by index."""
+        """Creates accounts. Returns the results of those that were not created, by index."""
         asked = self._ask(Operation.create_accounts, accounts)
         return cast(List[CreateAccountsResult], await asked)
 
     async def create_transfers(self, transfers: Iterable[Transfer]) -> List[CreateTransfersResult]:
-        """Makes transfers. Answers the results of those that were not made, by index."""
+        """Makes transfers. Returns the results of those that were not made, by index."""
         asked = self._ask(Operation.create_transfers, transfers)
         return cast(List[CreateTransfersResult], await asked)
 

@@ -54,7 +54,7 @@ def packed(kind: Type[Record], name: str, records: Sequence[Record]) -> bytes:
         try:
             return _in_columns(FIELDS[kind].values(), records)
         except (OverflowError, TypeError):
-            pass  # a value that is none for its field, or an integer of another type
+            pass  # a value that its field cannot have, or an integer of another type
     found = []
     for at, it in enumerate(records):
         try:
@@ -123,7 +123,7 @@ def _column(body: bytes, field: _Field) -> List[int]:
 
 
 def _numbers(body: bytes, at: int, size: int) -> List[int]:
-    """The numbers of so many bytes at this place of each record."""
+    """The numbers of this many bytes at this place of each record."""
     values = array.array(CODES[size])
     values.frombytes(memoryview(body).cast(CODES[size])[at // size :: RECORD // size].tobytes())
     if IS_BIG:

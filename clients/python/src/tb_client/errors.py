@@ -14,7 +14,7 @@ SHOWN = 10  # failed events in an error's text
 
 
 class ClientError(Exception):
-    """The base of all that this package and the embedded server tell."""
+    """The base of all that this package and the embedded server raise."""
 
 
 # Nothing was sent
@@ -78,7 +78,7 @@ class NotSupported(NotSent):
 
 
 class CannotConnect(NotSent):
-    """No connection to the server can be made. `untrusted` where its certificate is not trusted,
+    """No connection to the server can be made. `untrusted` if its certificate is not trusted,
     or it refuses this client's: waiting does not mend that."""
 
     def __init__(self, text: str = "", untrusted: bool = False) -> None:
@@ -91,7 +91,7 @@ class CannotConnect(NotSent):
 
 class ReplyLost(ClientError):
     """No reply came. The request may have been executed or not: send the same bytes again. `told`
-    is the name that the server gave before it closed the connection, where it gave one."""
+    is the name that the server gave before it closed the connection, if it gave one."""
 
     def __init__(self, text: str = "", told: str = "") -> None:
         super().__init__(text)
@@ -180,7 +180,7 @@ REFUSALS = {
 
 
 class EventsFailed(ClientError):
-    """Events of a batch were not accepted; `results` tells which, and why by name."""
+    """Events of a batch were not accepted; `results` says which, and why by name."""
 
     def __init__(self, results: Sequence[EventResult]) -> None:
         super().__init__(results)

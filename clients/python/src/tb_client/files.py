@@ -1,4 +1,4 @@
-"""The file that keeps a session: written whole or not at all, and read where it is one."""
+"""The file that keeps a session: written whole or not at all, and read if it is one."""
 from __future__ import annotations
 
 import contextlib
@@ -62,8 +62,8 @@ def _one_of_each(pairs: list[tuple[str, Any]]) -> dict[str, Any]:
 
 
 def write_whole(path: str, data: bytes) -> None:
-    """Puts a file at this path, or where a link there leads, with these bytes, and with the old
-    one's permissions, or 0600. Where that fails the old file is left, and nothing next to it."""
+    """Puts a file at this path, or at the target of a link there, with these bytes, and with the
+    old one's permissions, or 0600. If that fails, the old file is left, and nothing next to it."""
     path = os.path.realpath(path)
     mode = 0o600
     with contextlib.suppress(FileNotFoundError):

@@ -76,7 +76,7 @@ def _tested(kind: Operation, client: int, session: int, number: int) -> tuple[in
 
 
 def _test_length(operation: Operation, length: int) -> None:
-    """Refuses a body of so many bytes, where the operation has none such."""
+    """Refuses a body of this many bytes, if the operation has no such body."""
     if operation == Operation.register:
         if length:
             raise InvalidValue("body", "of a register must be empty")
@@ -162,7 +162,7 @@ def header_of(frame: bytes) -> Request:
 
 
 def _header_at(data: object, at: int) -> bytes:
-    """The bytes of a header at this place: fewer than it has where they end before."""
+    """The bytes of a header at this place: fewer than it has if they end before."""
     if type(data) is bytes and type(at) is int and 0 <= at <= U64:  # as they nearly always are
         return data[at : at + HEADER]
     if not isinstance(data, (bytes, bytearray, memoryview)):
@@ -180,7 +180,7 @@ def request_fault(data: bytes, at: int = 0) -> Optional[str]:
         return "Short"
     session, number, operation, length = REQUEST.unpack_from(header, 16)
     size = ITEM_SIZES.get(operation)
-    if (  # as nearly always: none of the tests below holds
+    if (  # as nearly always: no test below holds
         size
         and number
         and not length % size
@@ -207,8 +207,8 @@ def request_fault(data: bytes, at: int = 0) -> Optional[str]:
 
 
 def reply_length(data: bytes, at: int = 0) -> int:
-    """The length of the frame whose header of 48 bytes stands at this place. `BadReply` where
-    fewer bytes are there."""
+    """The length of the frame whose header of 48 bytes is at this place. `BadReply` if fewer bytes
+    are there."""
     header = _header_at(data, at)
     if len(header) < HEADER:
         raise BadReply(f"{len(header)} bytes are no header of a frame (Short)")
@@ -227,7 +227,7 @@ def reply_fault(data: bytes, at: int = 0) -> Optional[str]:
         return "Short"
     session, number, operation, status, length, commit = REPLY.unpack_from(header, 16)
     size = REPLY_SIZES.get(operation)
-    if (  # as nearly always: none of the tests below holds
+    if (  # as nearly always: no test below holds
         size
         and number
         and status == 0 < session < commit
@@ -260,7 +260,7 @@ def reply_fault(data: bytes, at: int = 0) -> Optional[str]:
 
 
 def test_reply(data: bytes, at: int = 0) -> None:
-    """Raises BadReply where no header of a reply stands at this place: before its body is waited
+    """Raises BadReply if no header of a reply is at this place: before its body is waited
     for."""
     first = _header_at(data, at)
     fault = reply_fault(first)
@@ -282,7 +282,7 @@ def asker(header: bytes) -> bytes:
 
 
 def test_asked(frame: bytes, reply: bytes) -> None:
-    """Raises BadReply where the header of a reply, which has no fault, is not of this request."""
+    """Raises BadReply if the header of a reply, which has no fault, is not of this request."""
     if asker(reply) == asker(frame):
         return
     session, number = REPLY.unpack_from(reply, 16)[:2]
@@ -371,7 +371,7 @@ def said_by(operation: Operation, body: bytes) -> Said:
 
 
 def test_said(frame: bytes, operation: Operation, said: Said) -> None:
-    """Raises BadReply where a reply says what no reply to the request of this frame says."""
+    """Raises BadReply if a reply says what no reply to the request of this frame says."""
     if operation in (Operation.create_accounts, Operation.create_transfers):
         _test_results((len(frame) - HEADER) // RECORD, cast(List[EventResult], said))
     elif operation != Operation.register:
@@ -396,7 +396,7 @@ def _test_results(count: int, results: Sequence[EventResult]) -> None:
 def _test_found(ids: Iterator[int], records: Sequence[Union[Account, Transfer]]) -> None:
     """Records are those that were looked up, in the order of the ids."""
     for it in records:
-        if it.id not in ids:  # it goes on behind the id of the record before
+        if it.id not in ids:  # it goes on after the id of the record before
             raise BadReply(f"a record with id {it.id} came, which was not looked up there")
 
 

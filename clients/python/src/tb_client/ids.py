@@ -21,8 +21,8 @@ def _draw(count: int) -> bytes:
 
 
 class Ids:
-    """Makes ids. `now` answers nanoseconds since 1970, and `draw` so many random bytes: those of
-    the system where nothing is given."""
+    """Makes ids. `now` returns nanoseconds since 1970, and `draw` a number of random bytes: those
+    of the system if nothing is given."""
 
     def __init__(self, now: Callable[[], int] = _now, draw: Callable[[int], bytes] = _draw) -> None:
         self.now, self.draw = now, draw

@@ -49,7 +49,7 @@ def _results(bodies: Sequence[bytes], results: Sequence[EventResult]) -> List[Li
 
 
 def _records(bodies: Sequence[bytes], records: Sequence[Any]) -> List[List[Any]]:
-    """Records come in the order of the ids, and an id that is not there has none."""
+    """Records come in the order of the ids, and an id that is not there has no record."""
     found, at = [], 0
     for body in bodies:
         own = []
@@ -81,8 +81,8 @@ def settled(
     look_up: Callable[[Operation, bytes], Sequence[Any]],
 ) -> List[EventResult]:
     """The results of a create that may have been executed before. A chain that was is refused now,
-    since its first event exists; where all its events are there as they were asked for, each of
-    them exists."""
+    because its first event exists; if all its events are there as they were asked for, each of them
+    exists."""
     names: Any = (
         CreateAccountResult if operation == Operation.create_accounts else CreateTransferResult
     )

@@ -19,7 +19,7 @@ from .names import Operation
 from .sessions import PAUSE, Session, pauses_from
 from .transports import Transport, close_transport
 
-FORBIDDEN = ("NotAllowed", "ClientNotAllowed")  # what the server tells who may not come
+FORBIDDEN = ("NotAllowed", "ClientNotAllowed")  # what a client gets that may not come
 CLOSED = "this client was closed before the reply came"
 log = logging.getLogger("tb_client")
 
@@ -39,7 +39,7 @@ class Call:
         return self.operation in CREATES and self.count > 0 and is_linked(self.body, -RECORD)
 
     def tell(self, answer: Any = None, error: Optional[BaseException] = None) -> None:
-        """Gives the caller its answer, where it still waits for one."""
+        """Gives the caller its answer, if it still waits for one."""
         with contextlib.suppress(concurrent.futures.InvalidStateError):
             if error is not None:
                 self.future.set_exception(error)
@@ -48,8 +48,9 @@ class Call:
 
 
 class Pool:
-    """Up to so many sessions, each with a thread and a transport of its own. They are registered
-    when they are needed. Calls are answered in their order where there is one session."""
+    """Up to a number of sessions, each with a thread and a transport of its own. They are
+    registered when they are needed. Calls get their answers in their order if there is one
+    session."""
 
     def __init__(
         self,
@@ -68,7 +69,7 @@ class Pool:
         self._owner = os.getpid()
 
     def ask(self, operation: Operation, items: Iterable[Any]) -> Call:
-        """Takes what a caller asks for. Its values are tested here, so that a wrong one is nobody
+        """Takes what a caller asks for. Its values are checked here, so that a wrong one is nobody
         else's fault."""
         call = Call(operation, body_of(operation, items))
         if self._owner != os.getpid():
@@ -85,7 +86,7 @@ class Pool:
         return call
 
     def _grow(self) -> None:
-        """One worker more. Where it cannot be made those that are there do its work."""
+        """Adds a worker. If it cannot be made, those that are there do its work."""
         try:
             self._workers.append(self._started())
         except Exception as why:
@@ -94,7 +95,7 @@ class Pool:
             log.warning("no session more than %d: %s", len(self._workers), why)
 
     def _started(self) -> Worker:
-        """A worker whose thread runs: the system may have none for it."""
+        """A worker whose thread runs: the system may have no thread for it."""
         worker = Worker(self, self._connect())
         try:
             worker.start()
@@ -120,8 +121,8 @@ class Pool:
             return not self._stopped.is_set()
 
     def take(self) -> List[Call]:
-        """The next calls that one request can hold, but those whose callers have gone. A list is
-        never cut, and none is joined to one that ends in an open chain."""
+        """The next calls that one request can hold, except those whose callers have gone. A list is
+        never cut, and no call is joined to one that ends in an open chain."""
         batch: List[Call] = []
         count = 0
         with self._changed:
@@ -150,8 +151,8 @@ class Pool:
         return session
 
     def pause(self, seconds: float, why: Exception) -> None:
-        """Waits before the same bytes are sent again. At the client's end `why` is raised, and
-        where the server does not let this client in."""
+        """Waits before the same bytes are sent again. At the client's end `why` is raised, and if
+        the server does not let this client in."""
         if isinstance(why, ReplyLost) and why.told in FORBIDDEN:
             raise why
         log.warning("sent again in %.2f s: %s", seconds, why)
@@ -163,7 +164,7 @@ class Pool:
         return self._stopped.wait(seconds)
 
     def trouble(self) -> str:
-        """Why no reply came of late, where a transport says that."""
+        """Why no reply came of late, if a transport says that."""
         for worker in list(self._workers):
             found = str(getattr(worker.transport, "trouble", ""))
             if found:
@@ -193,7 +194,7 @@ class Pool:
 
 
 def _may_join(last: Call, count: int, call: Call) -> bool:
-    """Whether a call may go out behind others, of which this is the last one."""
+    """Whether a call may go out after others, of which this is the last one."""
     fits = count + call.count <= ITEMS_MAX
     return fits and call.operation == last.operation and not last.is_open
 
@@ -204,7 +205,7 @@ def _may_come(why: BaseException) -> bool:
 
 
 class Worker(threading.Thread):
-    """A thread that answers calls, over a session that it registers when it needs one."""
+    """A thread that serves calls, over a session that it registers when it needs one."""
 
     def __init__(self, pool: Pool, transport: Transport) -> None:
         super().__init__(name="tb_client", daemon=True)
@@ -248,7 +249,7 @@ class Worker(threading.Thread):
                 call.tell(answer)
 
     def _rest(self, why: BaseException) -> bool:
-        """Waits before a server is called again that was not there: a transport may tell that at
+        """Waits before a server is called again that was not there: a transport may report that at
         once. Says whether the client ended meanwhile."""
         log.warning("%s", why)
         return self._pool.rest(self._patience.next(why))
@@ -265,7 +266,7 @@ class Worker(threading.Thread):
         self, operation: Operation, body: bytes, is_doubtful: bool = False
     ) -> Tuple[Any, bool]:
         """What the reply to a request says, and whether the request may have been executed before,
-        in a session that has ended. A `NotSent` where nothing was ever executed."""
+        in a session that has ended. A `NotSent` if nothing was ever executed."""
         is_lost, patience = False, _Patience()
         while True:
             try:
@@ -292,7 +293,7 @@ class Worker(threading.Thread):
                 self._pool.pause(patience.next(why), why)
 
     def _registered(self) -> Session:
-        """The session, registered. `CannotConnect` where nothing answers."""
+        """The session, registered. `CannotConnect` if nothing replies."""
         it = self._session
         if it is not None and it.number == NUMBER_MAX and it.pending is None:
             self._leave()  # it has no next number

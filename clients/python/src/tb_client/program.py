@@ -42,17 +42,17 @@ class Program(Closing):
     pipe, and from which replies come over another.
 
     Replies come in the order of the requests. So the reply to the request that was sent as the nth
-    is the nth, and one that comes too late is passed over. Threads may share a Program: an exchange
+    is the nth, and one that comes too late is skipped. Threads may share a Program: an exchange
     is one thread's from its first byte to its last.
 
-    With `file` the program is `tbd`, which keeps its ledger in this file. Nothing is sent
-    before it has read that: an exchange whose `timeout` ends meanwhile is `CannotStart`. With
-    restarts=True one that ended is started again over it. Without `file` the program is `tbs`:
-    it keeps its history in memory, and the history ends with the process. Each exchange
-    afterwards is `ProgramEnded`. With restarts=True every request that was answered is kept in
-    this process, up to `script_max` bytes in all (`ScriptFull` is raised where the next one
-    would not fit; None is no bound). A program that ended is then started again on this script
-    by the next exchange: the same script makes the same history."""
+    With `file` the program is `tbd`, which keeps its ledger in this file. Nothing is sent before it
+    has read that: an exchange whose `timeout` ends meanwhile is `CannotStart`. With restarts=True
+    one that ended is started again over it. Without `file` the program is `tbs`: it keeps its
+    history in memory, and the history ends with the process. Each exchange afterwards is
+    `ProgramEnded`. With restarts=True every request that was answered is kept in this process, up
+    to `script_max` bytes in all (`ScriptFull` is raised if the next one would not fit; None is no
+    bound). A program that ended is then started again on this script by the next exchange: the same
+    script makes the same history."""
 
     def __init__(
         self,
@@ -126,7 +126,7 @@ class Program(Closing):
             self._be_ready()
             deadline = time.monotonic() + seconds("timeout", self.timeout, 0)
             self._await_ready(deadline)
-            # else it is on its way already, and its reply is waited for
+            # otherwise it is on its way already, and its reply is waited for
             if self.seen == self.sent or self.last != frame:
                 self._queue(pair)
             try:
@@ -137,7 +137,7 @@ class Program(Closing):
                 ) from None
 
     def _be_ready(self) -> None:
-        """Starts the program again where that was asked for, else tells why it takes no more."""
+        """Starts the program again if that was asked for, otherwise raises why it takes no more."""
         if self._is_closed:
             raise Closed("this Program was closed")
         if self._end is not None:
@@ -149,8 +149,8 @@ class Program(Closing):
             self._start()
 
     def wait(self, patience: float) -> bool:
-        """Whether the program serves within so many seconds. What it says meanwhile is in `told`.
-        Raises ProgramEnded with its fault if it ends before."""
+        """Whether the program serves within a number of seconds. What it says meanwhile is in
+        `told`. Raises ProgramEnded with its fault if it ends before."""
         with self._lock:
             self._be_ready()
             with contextlib.suppress(CannotStart):
@@ -163,7 +163,7 @@ class Program(Closing):
         return self._lines()
 
     def _await_ready(self, deadline: float) -> None:
-        """Waits until the program has told that it serves, where it tells that."""
+        """Waits until the program has reported that it serves, if it reports that."""
         stderr = self._pipes()[2]
         while not self.is_ready:
             with selectors.DefaultSelector() as readable:
@@ -241,7 +241,7 @@ class Program(Closing):
         return None
 
     def _read(self, stdout: IO[bytes]) -> Optional[bytes]:
-        """What came now, which is kept: nothing at the end, and None where nothing came."""
+        """What came now, which is kept: nothing at the end, and None if nothing came."""
         self._is_amid = True
         data: Optional[bytes] = None
         with contextlib.suppress(BlockingIOError):
@@ -266,7 +266,7 @@ class Program(Closing):
             ready.unregister(stdin)
 
     def _ended(self, how: str = "") -> Exception:
-        """What to raise where the program is gone: it was killed, or ended by itself and says
+        """What to raise if the program is gone: it was killed, or ended by itself and says
         why."""
         process = cast("subprocess.Popen[bytes]", self.process)
         self.said += self._last_words(self._pipes()[2])
@@ -282,7 +282,7 @@ class Program(Closing):
         if status < 0 or how:
             fault = how or f"killed by {_signal_name(-status)}"
         if not self.restarts:
-            # before it is let go: an empty ledger never takes its place
+            # before it is released: an empty ledger never takes its place
             self._end = ProgramEnded(fault, status)
         self._let_go()
         if self._end is not None:
@@ -343,14 +343,14 @@ def _file_word(path: str) -> str:
 
 
 def _end_of(process: subprocess.Popen[bytes], patience: float) -> int:
-    """The exit status of a process. Where it does not end in so many seconds it is killed. The
-    system is asked itself: a lock that `Popen.wait` holds is never given back where a signal's
-    handler raises at the wrong moment."""
+    """The exit status of a process. If it does not end in this many seconds, it is killed. The
+    system is asked itself: a lock that `Popen.wait` holds is never given back if a signal's handler
+    raises at the wrong moment."""
     deadline, pause = time.monotonic() + patience, 0.0005
     while process.returncode is None:
         try:
             ended, status = os.waitpid(process.pid, os.WNOHANG)
-        except ChildProcessError:  # someone else was told its status
+        except ChildProcessError:  # its status went to someone else
             ended, status = process.pid, 0
         if ended:
             process.returncode = os.waitstatus_to_exitcode(status)

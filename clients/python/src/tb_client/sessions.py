@@ -72,7 +72,7 @@ from .values import (
 
 ATTEMPTS = 5
 JUMP_MAX = 60.0  # seconds
-# seconds, before a request is sent again where the server said to come later; doubled each time
+# seconds, before a request is sent again if the server said to come later; doubled each time
 PAUSE = 0.05
 PAUSE_MAX = 1.0  # seconds, beyond which it is doubled no more
 
@@ -91,13 +91,13 @@ class Saved(TypedDict):
 
 
 def _running_ns() -> int:
-    """A clock that nobody sets: it counts while the computer sleeps too, where the system has
-    such a clock."""
+    """A clock that nobody sets: it counts while the computer sleeps too, if the system has such a
+    clock."""
     return time.clock_gettime_ns(getattr(time, "CLOCK_BOOTTIME", time.CLOCK_MONOTONIC))
 
 
 def pauses_from(first: float) -> Iterator[float]:
-    """The seconds that go by before each attempt where the server said to come later."""
+    """The seconds that go by before each attempt if the server said to come later."""
     pause, greatest = first, max(first, PAUSE_MAX)
     while True:
         yield pause
@@ -106,8 +106,8 @@ def pauses_from(first: float) -> Iterator[float]:
 
 class _Moments:
     """Reads a clock, and refuses a moment that is too far ahead of where the clock should be by
-    now: at first where this computer's clock is, then the furthest moment so far and the time that
-    has gone by since."""
+    now: at first this computer's clock, then the furthest moment so far and the time that has gone
+    by after it."""
 
     def __init__(self) -> None:
         self.ahead = time.time_ns() - _running_ns()
@@ -134,11 +134,11 @@ def _names_a_fault(why: Exception) -> bool:
 class Session(Closing):
     """The session of a client, whose id is any number from 1 to 2^128 - 1 that no other client has.
 
-    `saved` is what outlives the client. Whoever keeps it between `prepare` and `retry` can go on
-    after a crash, by `Session.resumed`, and knows after `retry` what the last request did. `save`
-    and `load` keep it in a file.
+    `saved` is what outlives the client. A program that keeps it between `prepare` and `retry` can
+    go on after a crash, by `Session.resumed`, and knows after `retry` what the last request did.
+    `save` and `load` keep it in a file.
 
-    A request is sent `attempts` times at most in a call, and then stays in doubt. Where the server
+    A request is sent `attempts` times at most in a call, and then stays in doubt. If the server
     said to come later (Busy, NoMemory, NotYet), `pause` seconds go by before it is sent again, each
     time twice as many, up to a second or `pause`, whichever is longer. `now` gives the moments, in
     nanoseconds; one that is more than `jump_max` seconds too far ahead is `ClockJumped` and is not
@@ -202,8 +202,8 @@ class Session(Closing):
         jump_max: Optional[float] = JUMP_MAX,
         pause: float = PAUSE,
     ) -> S:
-        """Registers the client, and answers its new session. Where no id is given the client has
-        a new one; with `client_range` one whose upper 64 bits are that number, for a listener that
+        """Registers the client, and returns its new session. If no id is given, the client has a
+        new one; with `client_range` one whose upper 64 bits are that number, for a listener that
         lets each peer have a range."""
         self = cls(
             transport,
@@ -227,7 +227,7 @@ class Session(Closing):
         jump_max: Optional[float] = JUMP_MAX,
         pause: float = PAUSE,
     ) -> S:
-        """The session as it was when `saved` was taken. Where a request was in doubt, `retry` it
+        """The session as it was when `saved` was taken. If a request was in doubt, `retry` it
         first."""
         if not isinstance(saved, Mapping):
             raise InvalidType("saved", f"must be a dict, not {kind_of(saved)}")
@@ -264,8 +264,8 @@ class Session(Closing):
 
     def save(self, path: Path) -> None:
         """Keeps `saved` in a file, whole: after a crash the file has it as it is now or as it was
-        before. Where it fails the file is as it was before, or as it is now where only its folder
-        could not be synced."""
+        before. If it fails, the file is as it was before, or as it is now if only its folder could
+        not be synced."""
         name = path_of("path", path)
         with self._lock:
             self._test_not_abandoned()
@@ -282,7 +282,7 @@ class Session(Closing):
         jump_max: Optional[float] = JUMP_MAX,
         pause: float = PAUSE,
     ) -> S:
-        """The session that `save` kept in a file. Where a request was in doubt, `retry` it
+        """The session that `save` kept in a file. If a request was in doubt, `retry` it
         first."""
         return cls.resumed(
             transport,
@@ -296,18 +296,18 @@ class Session(Closing):
     @property
     def in_doubt(self) -> Optional[Request]:
         """The request that has no reply yet, with its records or ids. It is kept over refusals,
-        since it may have been executed before: after an eviction create its records again, with the
-        same ids, in a new session."""
+        because it may have been executed before: after an eviction create its records again, with
+        the same ids, in a new session."""
         with self._lock:
             return None if self.pending is None else Request.from_bytes(self.pending)
 
     def abandon(self) -> Optional[Request]:
-        """Gives the session up, and answers the request in doubt, which is given up with it.
+        """Gives the session up, and returns the request in doubt, which is given up with it.
 
-        That request may have been executed, or may be yet, where its bytes are on their way, and
-        the session cannot go on without knowing: each later call of it is `Closed`, and the file of
+        That request may have been executed, or may be yet, if its bytes are on their way, and the
+        session cannot go on without knowing: each later call of it is `Closed`, and the file of
         `save` stays as it is. Create the records again with the same ids, in a new session: what
-        was executed is then answered `exists`, and money moves once. The transport stays open."""
+        was executed then gets `exists`, and money moves once. The transport stays open."""
         with self._lock:
             given_up = self.in_doubt
             if not self._is_abandoned:
@@ -320,21 +320,21 @@ class Session(Closing):
             raise Closed("this Session was abandoned: register a new one")
 
     def create_accounts(self, accounts: Iterable[Account]) -> List[EventResult]:
-        """Creates accounts. Answers the results of those that were not created, by index."""
+        """Creates accounts. Returns the results of those that were not created, by index."""
         return cast(List[EventResult], self._ask(Operation.create_accounts, accounts))
 
     def create_transfers(self, transfers: Iterable[Transfer]) -> List[EventResult]:
-        """Makes transfers. Answers the results of those that were not made, by index."""
+        """Makes transfers. Returns the results of those that were not made, by index."""
         return cast(List[EventResult], self._ask(Operation.create_transfers, transfers))
 
     def lookup_accounts(self, ids: Iterable[int]) -> List[Account]:
-        """The accounts that are there, in the order of the ids. It takes a number: where the
-        session is saved, use `prepare`, `save`, `retry` and `save`."""
+        """The accounts that are there, in the order of the ids. It takes a number: if the session
+        is saved, use `prepare`, `save`, `retry` and `save`."""
         return cast(List[Account], self._ask(Operation.lookup_accounts, ids))
 
     def lookup_transfers(self, ids: Iterable[int]) -> List[Transfer]:
-        """The transfers that are there, in the order of the ids. It takes a number: where the
-        session is saved, use `prepare`, `save`, `retry` and `save`."""
+        """The transfers that are there, in the order of the ids. It takes a number: if the session
+        is saved, use `prepare`, `save`, `retry` and `save`."""
         return cast(List[Transfer], self._ask(Operation.lookup_transfers, ids))
 
     def _ask(self, operation: Operation, items: Iterable[Item]) -> Any:
@@ -361,9 +361,9 @@ class Session(Closing):
             self.prepare_body(kind, body_of(kind, items))
 
     def prepare_body(self, kind: Operation, body: bytes) -> None:
-        """`prepare`, where the items' bytes are there already."""
+        """`prepare`, if the items' bytes are there already."""
         with self._lock:
-            self._test_not_in_doubt()  # again, since what gives the items may have used the session
+            self._test_not_in_doubt()  # again: what gives the items may have used the session
             if kind == Operation.register:
                 if self.session:
                     raise InvalidValue("session", f"is {self.session}: it is registered already")
@@ -421,7 +421,7 @@ class Session(Closing):
 
     def _options(self) -> tuple[int, Iterator[float]]:
         """How often the request is sent, and the pauses between. Options may have been changed
-        since they were given: they are tested."""
+        since they were given: they are checked."""
         transport_of("transport", self.transport)
         callable_of("now", self.now)
         if self.jump_max is not None:
@@ -442,7 +442,7 @@ class Session(Closing):
 
     def _take(self, reply: Reply) -> Said:
         """Takes the reply to the request in doubt, which is in doubt no longer: the session goes on
-        behind it. A refusal leaves it in doubt, since it may have been executed before."""
+        after it. A refusal leaves it in doubt, because it may have been executed before."""
         asked = header_of(cast(bytes, self.pending))
         session = asked.session
         if (reply.client, reply.number, reply.operation) != (
@@ -484,11 +484,11 @@ class Session(Closing):
 
 
 def _frame_of(field: str, text: object) -> Optional[bytes]:
-    """The bytes in doubt of what was saved, or none."""
+    """The bytes in doubt of what was saved, or no bytes."""
     if not isinstance(text, str):
         raise InvalidType(field, f"must be a str, not {kind_of(text)}")
     try:
-        return binascii.unhexlify(text) or None  # unlike bytes.fromhex it passes over no blanks
+        return binascii.unhexlify(text) or None  # unlike bytes.fromhex it skips no blanks
     except ValueError:
         raise InvalidValue(field, "is no hex") from None
 
@@ -496,7 +496,7 @@ def _frame_of(field: str, text: object) -> Optional[bytes]:
 def _test_pending(
     field: str, pending: Optional[bytes], client: int, session: int, number: int
 ) -> None:
-    """Refuses bytes in doubt that are not the next request of just this session."""
+    """Refuses bytes in doubt that are not the next request of this very session."""
     if pending is None:
         return
     try:
@@ -515,8 +515,8 @@ def _test_pending(
 
 
 def require_ok(results: Optional[Iterable[object]]) -> None:
-    """Raises `EventsFailed` where an event was not accepted. What else a reply says, as the
-    records of a lookup, is passed over."""
+    """Raises `EventsFailed` if an event was not accepted. Everything else in a reply, as the
+    records of a lookup, is ignored."""
     failed = (
         []
         if results is None

@@ -38,7 +38,7 @@ REFUSALS = {
     "CERTIFICATE_REQUIRED",
     "UNKNOWN_CA",
     "ACCESS_DENIED",
-    "HANDSHAKE_FAILURE",  # in TLS 1.2 where it wants a certificate
+    "HANDSHAKE_FAILURE",  # in TLS 1.2 if it requires a certificate
 }
 log = logging.getLogger("tb_client")
 
@@ -49,10 +49,10 @@ class Socket(Closing):
 
     The server gives the moments: the one that `exchange` is given is not sent. A connection that
     broke, that the server closed, or on which no reply came in time, is closed, and the next
-    exchange makes a new one, to the next address where there are several; where none can be made
-    within `timeout` seconds nothing is sent, and it is `CannotConnect`. With `tls` connections to a
-    host go over TLS, by that context. Threads may share a Socket: an exchange is one thread's from
-    its first byte to its last."""
+    exchange makes a new one, to the next address if there are several; if no connection can be made
+    within `timeout` seconds, nothing is sent, and it is `CannotConnect`. With `tls` connections to
+    a host go over TLS, by that context. Threads may share a Socket: an exchange is one thread's
+    from its first byte to its last."""
 
     def __init__(
         self,
@@ -66,7 +66,7 @@ class Socket(Closing):
         self.timeout = seconds("timeout", timeout, 0.001)
         self._tls = _context_of(tls, self._addresses)
         self._socket: Optional[socket.socket] = None
-        self.trouble = ""  # why no reply came since the last one, or since the beginning
+        self.trouble = ""  # why no reply came after the last one, or from the beginning on
         self.connections = 0  # that were made
         self._is_known = False  # trouble is more than the end of the time, in this exchange
         self._is_new = False  # nothing came over the connection yet
@@ -144,7 +144,7 @@ class Socket(Closing):
             raise
 
     def _connected(self, deadline: float) -> socket.socket:
-        """The connection, made again where there is none, or where the server closed it since."""
+        """The connection, made again if there is none, or if the server closed it."""
         pause = FIRST_PAUSE
         if self._socket is not None and _is_left(self._socket):
             self._lose()
@@ -164,8 +164,8 @@ class Socket(Closing):
         return cast(socket.socket, self._socket)
 
     def _call_each(self, deadline: float) -> List[OSError]:
-        """Calls the addresses in turn, from the present one on, until one answers. Answers their
-        faults where none does."""
+        """Calls the addresses in turn, from the present one on, until one replies. Returns their
+        faults if none does."""
         faults: List[OSError] = []
         for left in range(len(self._addresses), 0, -1):
             try:
@@ -204,8 +204,8 @@ class Socket(Closing):
         self._next()
 
     def _send(self, it: socket.socket, frame: bytes) -> None:
-        """Sends the request. Where the server closed the connection, what it said before that is
-        told."""
+        """Sends the request. If the server closed the connection, what it said before that is
+        reported."""
         try:
             it.sendall(frame)
         except (ConnectionError, ssl.SSLEOFError):
@@ -277,10 +277,10 @@ class Socket(Closing):
 
 
 def _is_left(it: socket.socket) -> bool:
-    """Whether the server closed a connection, or told why it will: it says nothing else before
+    """Whether the server closed a connection, or said why it will: it says nothing else before
     it is asked."""
     if isinstance(it, ssl.SSLSocket) and it.pending():
-        return True  # it came behind the last reply, in the same record
+        return True  # it came after the last reply, in the same record
     ready = select.poll()
     ready.register(it, select.POLLIN)
     if not ready.poll(0):
@@ -323,8 +323,8 @@ def _is_distrust(error: OSError) -> bool:
 
 
 def _closed(said: bytes, hint: str = "") -> ReplyLost:
-    """What to raise where the server closed the connection after these bytes: with the name that
-    it told, where it told one, else with a hint."""
+    """What to raise if the server closed the connection after these bytes: with the name that it
+    sent, if it sent one, otherwise with a hint."""
     why = bytes(said[len(TOLD) :]).decode("ascii", "replace").strip()
     if not said.startswith(TOLD) or not why.isprintable():  # no name: it may steer a terminal
         why = ""
@@ -370,7 +370,7 @@ def _is_host(name: str) -> bool:
 
 
 def _call(address: Place, timeout: float, tls: Optional[ssl.SSLContext] = None) -> socket.socket:
-    """A new connection within so many seconds, over TLS where there is a context."""
+    """A new connection within a number of seconds, over TLS if there is a context."""
     deadline = time.monotonic() + min(timeout, WAIT_MAX)
     if isinstance(address, str):
         return _connected_to(socket.AF_UNIX, address, _left(deadline))
@@ -384,8 +384,8 @@ Found = List[Tuple[Any, ...]]  # what the system's lookup of a host gives
 
 
 def _looked_up(address: Tuple[str, int], timeout: float) -> Found:
-    """The places of a host. A name is looked up by a thread, since the system's lookup has no limit
-    that a caller may give. One that comes too late is passed over."""
+    """The places of a host. A name is looked up by a thread, because the system's lookup has no
+    limit that a caller may give. One that comes too late is ignored."""
     with contextlib.suppress(socket.gaierror):
         numeric = socket.AI_NUMERICHOST  # no lookup: it is a number
         return list(socket.getaddrinfo(*address, type=socket.SOCK_STREAM, flags=numeric))
@@ -431,7 +431,7 @@ def _connected_to(family: int, place: Any, timeout: float) -> socket.socket:
 
 
 def _left(deadline: float) -> float:
-    """The seconds until then; a moment where there are none, since 0 is no wait at all."""
+    """The seconds until then; a moment if there are none, because 0 is no wait at all."""
     return max(deadline - time.monotonic(), 0.001)
 
 

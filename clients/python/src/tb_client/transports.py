@@ -13,9 +13,9 @@ Self = TypeVar("Self", bound="Closing")
 
 
 class Transport(Protocol):
-    """Carries frames. `exchange` gives back the reply's frame, or raises `ReplyLost` where none
-    came (`Busy` where the server said to come later) and `NoMemory` where the server had none.
-    Where it sends nothing it raises a `NotSent`."""
+    """Carries frames. `exchange` gives back the reply's frame, or raises `ReplyLost` if no reply
+    came (`Busy` if the server said to come later) and `NoMemory` if the server had no memory. If it
+    sends nothing, it raises a `NotSent`."""
 
     def exchange(self, moment: int, frame: bytes) -> bytes:
         ...

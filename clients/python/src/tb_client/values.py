@@ -18,7 +18,7 @@ def kind_of(value: object) -> str:
 
 
 def shown(number: int) -> str:
-    """A number as an error shows it: the greatest of its bits as a power, and none that fills
+    """A number as an error shows it: the greatest of its bits as a power, and not one that fills
     the page."""
     bits = number.bit_length()
     if bits > 128:
@@ -27,7 +27,7 @@ def shown(number: int) -> str:
 
 
 def whole(field: str, value: object, greatest: int, least: int = 0) -> int:
-    """An integer within its range, by `__index__` alone: what would have to be rounded or read
+    """An integer within its range, only by `__index__`: what would have to be rounded or read
     is refused, and truth values too."""
     if isinstance(value, bool):
         raise InvalidType(field, "must be an int, not bool")
@@ -42,7 +42,7 @@ def whole(field: str, value: object, greatest: int, least: int = 0) -> int:
 
 
 def seconds(field: str, value: object, least: float) -> float:
-    """A time in seconds, at least so many, whole or not."""
+    """A time in seconds, at least this many, whole or not."""
     if isinstance(value, bool) or not isinstance(value, (int, float)):
         raise InvalidType(field, f"must be a number of seconds, not {kind_of(value)}")
     if not least <= value <= U32:  # which no nan is
@@ -55,7 +55,7 @@ def seconds(field: str, value: object, least: float) -> float:
 
 
 def listed(name: str, items: Iterable[object], most: Optional[int] = None) -> list[object]:
-    """What was given as a list, of at most so many items. Text, bytes and mappings are no lists,
+    """What was given as a list, of at most this many items. Text, bytes and mappings are no lists,
     though Python goes over them."""
     if isinstance(items, (str, bytes, bytearray, memoryview, Mapping)):
         raise InvalidType(name, f"must be a list, not {kind_of(items)}")
@@ -79,7 +79,7 @@ def viewed(field: str, data: memoryview) -> bytes:
 
 
 def path_of(field: str, path: Any) -> str:
-    """A path as text, where the system can take it."""
+    """A path as text, if the system can take it."""
     try:
         name = None if isinstance(path, bytes) else os.fspath(path)
     except TypeError:
