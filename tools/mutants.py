@@ -88,7 +88,7 @@ pub fn is_on(number: u32) -> bool {
 }
 """
 
-# The variable is read once, at the beginning: some bugs are asked for at each byte. Where it is not
+# The variable is read once, at the beginning: some bugs are asked for at each byte. If it is not
 # set a program waits there, so that it can be kept before `rt try` removes it.
 SWITCH_IN_C = f"""#include <stdlib.h>
 #include <unistd.h>

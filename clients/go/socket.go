@@ -386,7 +386,7 @@ func (s *Socket) keep(conn *connection) error {
 	return nil
 }
 
-// callEach calls the addresses in turn, from the present one on, until one answers. Each gets a
+// callEach calls the addresses in turn, from the present one on, until one replies. Each gets a
 // share of the time that is left. If none replies, it reports whether at each one side does not
 // trust the other.
 func (s *Socket) callEach(ctx context.Context) (conn *connection, areDistrust bool) {
@@ -557,7 +557,7 @@ func (c *connection) until(ctx context.Context) func() {
 }
 
 // told is a LostError with the name that the server told before it closed the connection, or the
-// other error if it reported none.
+// other error if it reported no name.
 func told(said []byte, err error) error {
 	if !bytes.HasPrefix(said, toldMark) {
 		return err

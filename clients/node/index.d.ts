@@ -48,11 +48,11 @@ export type AccountResult = EventResult<CreateAccountResultName>;
 export type TransferResult = EventResult<CreateTransferResultName>;
 
 /**
- * A whole account of these fields: each is tested, and those that are left out are 0. Calls take
+ * A whole account of these fields: each is checked, and omitted ones are 0. Calls take
  * plain objects too; this tests them early.
  */
 export declare function account(fields: Account): AccountRecord;
-/** A whole transfer of these fields: each is tested, and those that are left out are 0. */
+/** A whole transfer of these fields: each is checked, and omitted ones are 0. */
 export declare function transfer(fields: Transfer): TransferRecord;
 /** The names of the flags that are set: `flagNames(TransferFlags, 3)` is ["linked", "pending"]. */
 export declare function flagNames<Name extends string>(
@@ -61,7 +61,7 @@ export declare function flagNames<Name extends string>(
 ): Name[];
 /**
  * A new id of 128 bits: 48 bits of milliseconds since 1970, and 80 random ones. It is above each
- * earlier one of this thread, also where the clock is set back.
+ * earlier one of this thread, also if the clock is set back.
  */
 export declare function id(): bigint;
 
@@ -75,7 +75,7 @@ export interface CallSignal {
   removeEventListener(type: "abort", listener: () => void): void;
 }
 
-/** The caller's own limits of a call: where one comes the call is Cancelled. */
+/** The caller's own limits of a call: if one comes, the call is Cancelled. */
 export interface CallOptions {
   /** An AbortSignal. */
   signal?: CallSignal;
@@ -88,7 +88,7 @@ export interface SessionOptions {
   /** How often a request is sent in one call: 5. */
   attempts?: number;
   /**
-   * Milliseconds before a request is sent again where the server said to come later: 50. It is
+   * Milliseconds before a request is sent again if the server said to come later: 50. It is
    * doubled each time, up to a second or to `pause`, whichever is longer.
    */
   pause?: number;
@@ -96,7 +96,7 @@ export interface SessionOptions {
 
 /** The options of a new session. */
 export interface NewSessionOptions extends SessionOptions {
-  /** The client's id, 1 to 2^128 - 1, that no other client has: else a new one. */
+  /** The client's id, 1 to 2^128 - 1, that no other client has: otherwise a new one. */
   client?: bigint;
 }
 
@@ -146,9 +146,8 @@ export type Said =
 /** Carries frames. */
 export interface Transport {
   /**
-   * Sends the frame of a request, and answers the frame of its reply. Rejects by ReplyLost where
-   * none came, by Busy where the server said to come later, and by a NotSent where nothing was
-   * sent.
+   * Sends the frame of a request, and returns the frame of its reply. Rejects by ReplyLost if none
+   * came, by Busy if the server said to come later, and by a NotSent if nothing was sent.
    */
   exchange(frame: Uint8Array, options?: { signal?: CallSignal }): Promise<Uint8Array>;
   /** Closes it, at once. */
@@ -160,13 +159,13 @@ export type Address = string | { readonly host: string; readonly port: number };
 
 /** The options of `tls.connect`, of which these are the usual ones. */
 export interface TlsOptions {
-  /** The authorities, PEM: else those that Node knows. */
+  /** The authorities, PEM: otherwise those that Node knows. */
   ca?: string | Uint8Array | readonly (string | Uint8Array)[];
   /** The client's own certificate, PEM. */
   cert?: string | Uint8Array;
   /** Its key, PEM. */
   key?: string | Uint8Array;
-  /** The name that the server's certificate has to be of: else the host. */
+  /** The name that the server's certificate has to be of: otherwise the host. */
   servername?: string;
   [option: string]: unknown;
 }
@@ -184,13 +183,13 @@ export interface SocketOptions {
  * in an array.
  *
  * It is made when a request is to be sent. One that broke, that the server closed, or on which no
- * reply came in time is closed, and the next exchange makes a new one, to the next address where
- * there are several. Where none can be made within `timeout` nothing is sent, and it is
+ * reply came in time is closed, and the next exchange makes a new one, to the next address if there
+ * are several. If no connection can be made within `timeout`, nothing is sent, and it is
  * CannotConnect. Sessions may share a Socket: their exchanges go one after another.
  */
 export declare class Socket implements Transport {
   constructor(address: Address | readonly Address[], options?: SocketOptions);
-  /** Where the connection goes, or the next one. */
+  /** The address of the connection, or of the next one. */
   readonly address: Address;
   exchange(frame: Uint8Array, options?: { signal?: CallSignal }): Promise<Uint8Array>;
   /** Closes the connection, at once: an exchange in flight is ReplyLost. Later ones are Closed. */
@@ -212,14 +211,14 @@ export declare class Socket implements Transport {
 export declare class Session {
   /** A session that is not registered: sends nothing. */
   constructor(transport: Transport, options?: NewSessionOptions);
-  /** Registers a client, and answers its new session. */
+  /** Registers a client, and returns its new session. */
   static register(
     transport: Transport,
     options?: NewSessionOptions & CallOptions,
   ): Promise<Session>;
-  /** The session as it was when `saved` was taken. Where a request was in doubt, `retry` it. */
+  /** The session as it was when `saved` was taken. If a request was in doubt, `retry` it. */
   static resumed(transport: Transport, saved: Saved, options?: SessionOptions): Session;
-  /** The session that `save` kept in a file. Where a request was in doubt, `retry` it first. */
+  /** The session that `save` kept in a file. If a request was in doubt, `retry` it first. */
   static load(transport: Transport, path: string, options?: SessionOptions): Promise<Session>;
 
   /** The client's id. */
@@ -232,14 +231,14 @@ export declare class Session {
   readonly saved: Saved;
   /**
    * The request that has no reply yet, with its records or ids, or null. It is kept over refusals,
-   * since it may have been executed before: after an eviction create its records again, with the
+   * because it may have been executed before: after an eviction create its records again, with the
    * same ids, in a new session.
    */
   readonly inDoubt: Request | null;
 
-  /** Creates accounts. Answers the results of those that were not created, by index. */
+  /** Creates accounts. Returns the results of those that were not created, by index. */
   createAccounts(accounts: readonly Account[], options?: CallOptions): Promise<AccountResult[]>;
-  /** Makes transfers. Answers the results of those that were not made, by index. */
+  /** Makes transfers. Returns the results of those that were not made, by index. */
   createTransfers(transfers: readonly Transfer[], options?: CallOptions): Promise<TransferResult[]>;
   /** The accounts that are there, in the order of the ids. */
   lookupAccounts(ids: readonly bigint[], options?: CallOptions): Promise<AccountRecord[]>;
@@ -265,7 +264,7 @@ export declare class Session {
     ids: readonly bigint[],
   ): void;
   /**
-   * Sends the request in doubt, the same bytes each time, until its reply has come. Answers what
+   * Sends the request in doubt, the same bytes each time, until its reply has come. Returns what
    * it says: `retry<TransferResult[]>()` is typed by what was prepared.
    */
   retry<S extends Said = Said>(options?: CallOptions): Promise<S>;
@@ -280,7 +279,7 @@ export declare class Session {
 }
 
 /**
- * Throws EventsFailed where an event was not accepted. What else a reply says, as the records of a
+ * Throws EventsFailed if an event was not accepted. What else a reply says, as the records of a
  * lookup, is passed over.
  */
 export declare function requireOk(results: Said): void;
@@ -289,7 +288,7 @@ export declare function requireOk(results: Said): void;
 
 /** The options of `createClient`: those of TigerBeetle's, and more. */
 export interface ClientOptions extends SocketOptions {
-  /** Any number: the server has none, and it is not sent. */
+  /** Any number: the server has no such id, and it is not sent. */
   cluster_id: bigint;
   /**
    * Ports ("3000", 3000), hosts with or without a port ("10.0.0.1:3000"), or paths of Unix sockets,
@@ -307,13 +306,13 @@ export interface ClientOptions extends SocketOptions {
  * a request is in flight go out as the next request, and each call gets its own results.
  *
  * A call waits until its reply is there, whatever is lost and whoever ends meanwhile, or until its
- * `signal` or `within` ends it. One that ends leaves the others alone. A session that was evicted
- * is replaced, and what was in doubt then is settled.
+ * `signal` or `within` ends it. One that ends does not disturb the others. A session that was
+ * evicted is replaced, and what was in doubt then is settled.
  */
 export interface Client {
-  /** Creates accounts. Answers the results of those that were not created, by index. */
+  /** Creates accounts. Returns the results of those that were not created, by index. */
   createAccounts(accounts: readonly Account[], options?: CallOptions): Promise<AccountResult[]>;
-  /** Makes transfers. Answers the results of those that were not made, by index. */
+  /** Makes transfers. Returns the results of those that were not made, by index. */
   createTransfers(transfers: readonly Transfer[], options?: CallOptions): Promise<TransferResult[]>;
   /** The accounts that are there, in the order of the ids. */
   lookupAccounts(ids: readonly bigint[], options?: CallOptions): Promise<AccountRecord[]>;
@@ -337,7 +336,7 @@ export declare function createClient(options: ClientOptions): Client;
 export declare class ClientError extends Error {
   /** Whether the call may have sent its request. */
   readonly sent: boolean;
-  /** What it comes from, where there is something. */
+  /** What it comes from, if there is something. */
   readonly cause?: unknown;
 }
 
@@ -392,7 +391,7 @@ export declare class Refused extends ClientError {
 }
 /** The session has ended. The last request may have been executed before that. */
 export declare class Evicted extends Refused {}
-/** The client has no session, register anew. */
+/** The client has no session, register again. */
 export declare class NoSession extends Evicted {}
 /** The client has a later session. */
 export declare class SessionTooLow extends Evicted {}

@@ -43,7 +43,7 @@ def fixture_whole(tbd, tmp_path):
 
 @pytest.mark.parametrize("end", ENDS)
 def test_started_again(tbd, tmp_path, end):
-    """A log in two parts is answered as the whole."""
+    """A log in two parts gets the replies of the whole."""
     status, first, said = ran(tbd, tmp_path, FOLLOW, LOG[:end])
     assert (status, said) == (0, MADE + at(0))
     status, rest, said = ran(tbd, tmp_path, [*FOLLOW, "1", "--existing"], LOG[end:])
@@ -173,7 +173,7 @@ def test_a_question_before_any_entry(tbd, tmp_path):
 
 
 def test_a_log_cut_at_each_length(tbd, tmp_path):
-    """Each whole item is answered, the rest is Short, and the file has the whole entries."""
+    """Each whole item gets its reply, the rest is Short, and the file has the whole entries."""
     for end in [*range(0, len(LOG), 13), *ENDS]:
         path = tmp_path / "ledger"
         path.unlink(missing_ok=True)

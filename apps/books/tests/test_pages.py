@@ -255,7 +255,8 @@ class Shown(Pages):
         self.assertEqual(page.count("&lt;b&gt;"), 1)
 
     def test_a_million_postings(self):
-        """Of one account, made in the database: pages and the chart take a bounded time."""
+        """The postings of one account, made in the database: pages and the chart take a bounded
+        time."""
         self.load(Made().register().accounts(account(1), account(2)))
         with contextlib.closing(sqlite3.connect(self.path)) as connection:
             connection.execute(

@@ -897,7 +897,8 @@ class Etcd(unittest.IsolatedAsyncioTestCase):
 
     async def test_a_long_log_is_listed(self):
         """In pages, each of which has time: etcd took more than two seconds for a list of all keys,
-        and as much memory as the log has. So who was far behind listed again and again."""
+        and as much memory as the log has. So a replica that was far behind listed again and
+        again."""
         from tb_host import etcd
 
         revisions = random.sample(range(5, 5000), 3000)
@@ -1359,7 +1360,7 @@ class PostgreSQL(unittest.IsolatedAsyncioTestCase):
             self.assertEqual(str(found.exception), f"{type(fault).__name__}: {fault}")
 
     async def test_up_to_where_the_log_was_trimmed(self):
-        """What does not tell that is named. It ended each replica by a traceback."""
+        """What does not report that is named. It ended each replica by a traceback."""
         from tb_host.postgresql import PostgresLog
 
         it = PostgresLog([("127.0.0.1", 1)], "postgres/bank", Access(), 0)
@@ -2005,7 +2006,7 @@ class Replicas(OverALog):
         self.assertEqual(self.told.getvalue().count("\n"), 1)
 
     async def answers(self, ahead):
-        """Another replica answers once that this one's clock is a number of seconds ahead of
+        """Another replica replies once that this one's clock is a number of seconds ahead of
         its."""
         await self.answers_to(json.loads(self.log.kept["r0"])["hello"], ahead)
 

@@ -1,4 +1,4 @@
-// Types alone: what the compiler takes, and in the lines that are marked, what it refuses.
+// Only types: what the compiler takes, and in the lines that are marked, what it refuses.
 import {
   AccountFlags,
   CreateTransferResult,

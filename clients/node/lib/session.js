@@ -123,7 +123,7 @@ let askFrame;
  * after a crash, by `Session.resumed`, and knows after `retry` what the last request did. `save`
  * and `load` keep it in a file.
  *
- * A request is sent `attempts` times at most in a call, and then stays in doubt. Where the server
+ * A request is sent `attempts` times at most in a call, and then stays in doubt. If the server
  * said to come later (Busy, NotYet), `pause` milliseconds go by before it is sent again, each time
  * twice as many, up to a second or `pause`, whichever is longer. Calls at once go one after
  * another.
@@ -380,7 +380,7 @@ class Session {
 
   /**
    * Takes the reply to the request in doubt, which is in doubt no longer: the session goes on
-   * behind it. A refusal leaves it in doubt, because it may have been executed before.
+   * after it. A refusal leaves it in doubt, because it may have been executed before.
    */
   #take(frame, data) {
     if (!(data instanceof Uint8Array)) throw new BadReply("what came are no bytes");

@@ -57,7 +57,7 @@ function after(ms, call) {
 }
 
 /**
- * What to throw where a connection ended after these bytes: with the name that the server sent, if
+ * What to throw if a connection ended after these bytes: with the name that the server sent, if
  * it sent one.
  */
 function lost(said, how) {
@@ -355,7 +355,7 @@ class Socket {
     this.#secure = secureOf(secure, this.#addresses);
   }
 
-  /** Where the connection goes, or the next one. */
+  /** The address of the connection, or of the next one. */
   get address() {
     const it = this.#addresses[this.#at];
     return typeof it === "string" ? it : { ...it };

@@ -2,8 +2,8 @@
 """Clients move money over sockets, each transfer once, though the server, a client and the listener
 are killed amid the work.
 
-    examples/sockets.py [COMMAND] (crates/tbd/out/tbd of this repository if none is given, or its
-    stand-in)
+    examples/sockets.py [COMMAND]        (crates/tbd/out/tbd of this repository if none is given,
+    or its stand-in)
 
 It is run twice: on a Unix socket, and on a port of this computer.
 """

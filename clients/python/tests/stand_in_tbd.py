@@ -147,7 +147,7 @@ def unopened(path, error):
 
 
 def locked(path):
-    """A file that no other process serves, made where it is not there, and its bytes."""
+    """A file that no other process serves, made if it is not there, and its bytes."""
     try:
         it = os.open(path, os.O_RDWR | os.O_CREAT | os.O_APPEND, 0o600)
     except OSError as error:

@@ -65,7 +65,7 @@ class Books:
         return answer.lines(self.names, shutil.get_terminal_size((100, 24)).columns)
 
     def _answer(self, question: Question, row: int, commit: int) -> Answer:
-        """Answers by tables that have the last commit that was seen of the ledger."""
+        """Gives answers by tables that have the last commit that was seen of the ledger."""
         assert self.tables is not None
         try:
             return answer_of(self.tables, question.name, question.words, (commit, PATIENCE))

@@ -45,7 +45,7 @@ def add_reports(parser: argparse.ArgumentParser) -> None:
 async def reported(
     given: argparse.Namespace, counts: Counts, lag: Callable[[], float]
 ) -> AsyncIterator[None]:
-    """Answers on the status socket and on the page of metrics meanwhile."""
+    """Serves the status socket and the page of metrics meanwhile."""
     with metrics_page(given, counts, lag):
         if not given.status:
             yield

@@ -120,7 +120,7 @@ def stop_line(unit: str, number: int, at: int, why: str, fault: str) -> str:
 @click.command()
 @click.option("--tbs", metavar="FILE", help="The program tbs.")
 def command(tbs: Optional[str]) -> None:
-    """A script or a dump in; where and why `tbs` stops in it out."""
+    """A script or a dump in; the place at which `tbs` stops in it, and why, out."""
     path = program("tbs", tbs, "--tbs")
     with devices("standard input"):
         data = sys.stdin.buffer.read()

@@ -392,7 +392,7 @@ class Session(Closing):
         )
 
     def retry(self) -> Any:
-        """Sends the request in doubt, the same bytes each time, until its reply has come. Answers
+        """Sends the request in doubt, the same bytes each time, until its reply has come. Returns
         what it says: results of a create, records of a lookup, None of a register."""
         with self._lock:
             self._test_not_abandoned()

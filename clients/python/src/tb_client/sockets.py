@@ -88,7 +88,7 @@ class Socket(Closing):
 
     @property
     def address(self) -> Place:
-        """Where the connection goes, or the next one."""
+        """The address of the connection, or of the next one."""
         return self._addresses[self._at]
 
     def exchange(self, moment: int, frame: bytes) -> bytes:

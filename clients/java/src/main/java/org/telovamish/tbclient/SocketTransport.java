@@ -124,7 +124,7 @@ public final class SocketTransport implements Transport {
 
     /**
      * The reply. A server that still reads its ledger takes no request, and is called again. So is
-     * one that refuses this client by TLS, where another address may take it.
+     * one that refuses this client by TLS, if another address may take it.
      */
     private byte[] answered(byte[] frame, Deadline until, Deadline limit) {
         Set<Address> refusing = new HashSet<>();
