@@ -432,8 +432,8 @@ func isCertificate(err error) bool {
 }
 
 // isRefusal reports whether the server refuses this client by an alert of TLS: it does not take its
-// certificate, or requires one. In TLS 1.3 the alert comes when the client has agreed, and may have sent
-// a request, which the server does not read. The package tls names alerts only by their text.
+// certificate, or requires one. In TLS 1.3 the alert comes when the client has agreed, and may have
+// sent a request, which the server does not read. The package tls names alerts only by their text.
 func isRefusal(err error) bool {
 	var remote *net.OpError
 	if !errors.As(err, &remote) || remote.Op != "remote error" {

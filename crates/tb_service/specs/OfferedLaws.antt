@@ -1,4 +1,4 @@
--- Nothing in a history is invented: each request of a run was offered by one of the ports that were given out.
+-- Nothing in a history is invented: each request of a run was offered by one of the ports of its service.
 use Rattle.std.specs.Prelude.{ℕ, ◌≡◌, ◌<◌, List, ◌++◌}
 use Rattle.std.specs.List.{All, Contains}
 use Rattle.tb_records.specs.Messages.{Message}

@@ -24,7 +24,7 @@ const LOOKS_PER_CALL: u32 = 1_000_000;
 /// How often a request is called.
 const CALLS_MAX: u32 = 100;
 
-/// A client: its session, its port, its seat, and the fault with which it ended.
+/// A client: its session, its port, its seat, and the fault that it ended with.
 #[derive(Drop)]
 pub(crate) struct Client<J: Naming> {
     number: u32,

@@ -67,7 +67,7 @@ const TOO_LATE: &[Step] = &[
     Step::Entries(0),
 ];
 
-/// Client 7 registers at the last moment: no new request has a time then, and all others are judged as ever.
+/// Client 7 registers at the last moment: no new request has a time then, and all others are judged as always.
 const LAST_MOMENT: &[Step] = &[
     Step::Take(
         (7, 0, 0),

@@ -1,4 +1,4 @@
-//! A publisher and two seats by steps: what is done, and what comes of it. One function owns the publisher, and lends it to each step.
+//! A publisher and two seats by steps: what is done, and its result. One function owns the publisher, and lends it to each step.
 ghost use Rattle.std.specs.Prelude.{◌≡◌};
 
 use crate::comparing::{holds, holds_at};
@@ -13,7 +13,7 @@ use std::process::Abort;
 use std::sync::Wait;
 use tb_published::{Naming, Opening, Publisher, Seat, TakeFault, Taken};
 
-/// What is done, and what comes of it.
+/// What is done, and its result.
 #[derive(Clone, Copy)]
 pub(crate) enum Step {
     /// A request is taken at a moment.

@@ -12,7 +12,7 @@ use tb_published::{Naming, Opening};
 use tb_records::Profile;
 use tb_service::{Gate, Moments, Port, service as serve};
 
-/// The place with which a gate was passed last, and how many moments were given before it was passed with theirs.
+/// The last place that a gate was passed with, and how many moments were given before it was passed with theirs.
 #[derive(Drop)]
 struct Order {
     passed: AtomicU64,
