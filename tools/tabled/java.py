@@ -414,7 +414,7 @@ def setters(name, kind, field):
             "         *",
             f"         * @param value {says}",
             "         * @return this",
-            "         * @throws InvalidValueException where it is no such value",
+            "         * @throws InvalidValueException if it is no such value",
             "         */",
             f"        public Builder {t.lower_camel(field['name'])}({given} value) {{",
             f'            Values.{put}(data, {at}, "{name}.{field["name"]}", {value});',

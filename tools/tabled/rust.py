@@ -23,7 +23,7 @@ RECORDS = {
         "Account",
         "RECORD_SIZE",
         "An account. A new one has an id, a ledger and a code, and the rest"
-        " as the default has it, but for user data and flags.",
+        " as the default has it, except user data and flags.",
     ),
     "transfer": ("Transfer", "RECORD_SIZE", "A transfer. The timeout is in seconds."),
     "request_header": ("RequestHeader", "HEADER_SIZE", "The header of a request's frame."),

@@ -376,7 +376,7 @@ macro_rules! record {
 
 // generated: records, by tools/tables.py from tools/ledger.json
 record! {
-    /// An account. A new one has an id, a ledger and a code, and the rest as the default has it, but for user data and flags.
+    /// An account. A new one has an id, a ledger and a code, and the rest as the default has it, except user data and flags.
     Account, RECORD_SIZE {
         0 id: u128,
         16 debits_pending: u128,

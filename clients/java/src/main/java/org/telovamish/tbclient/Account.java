@@ -212,7 +212,7 @@ public final class Account {
          *
          * @param value u128
          * @return this
-         * @throws InvalidValueException where it is no such value
+         * @throws InvalidValueException if it is no such value
          */
         public Builder id(BigInteger value) {
             Values.u128(data, Layout.ACCOUNT_ID, "Account.id", value);
@@ -224,7 +224,7 @@ public final class Account {
          *
          * @param value 0 to 2^63 - 1
          * @return this
-         * @throws InvalidValueException where it is no such value
+         * @throws InvalidValueException if it is no such value
          */
         public Builder id(long value) {
             Values.u128(data, Layout.ACCOUNT_ID, "Account.id", value);
@@ -236,7 +236,7 @@ public final class Account {
          *
          * @param value u128
          * @return this
-         * @throws InvalidValueException where it is no such value
+         * @throws InvalidValueException if it is no such value
          */
         public Builder id(UUID value) {
             Values.id(data, Layout.ACCOUNT_ID, "Account.id", UInt128.asBytes(value));
@@ -248,7 +248,7 @@ public final class Account {
          *
          * @param value 16 bytes, the low one first
          * @return this
-         * @throws InvalidValueException where it is no such value
+         * @throws InvalidValueException if it is no such value
          */
         public Builder id(byte[] value) {
             Values.id(data, Layout.ACCOUNT_ID, "Account.id", value);
@@ -260,7 +260,7 @@ public final class Account {
          *
          * @param value u128
          * @return this
-         * @throws InvalidValueException where it is no such value
+         * @throws InvalidValueException if it is no such value
          */
         public Builder debitsPending(BigInteger value) {
             Values.u128(data, Layout.ACCOUNT_DEBITS_PENDING, "Account.debits_pending", value);
@@ -272,7 +272,7 @@ public final class Account {
          *
          * @param value 0 to 2^63 - 1
          * @return this
-         * @throws InvalidValueException where it is no such value
+         * @throws InvalidValueException if it is no such value
          */
         public Builder debitsPending(long value) {
             Values.u128(data, Layout.ACCOUNT_DEBITS_PENDING, "Account.debits_pending", value);
@@ -284,7 +284,7 @@ public final class Account {
          *
          * @param value u128
          * @return this
-         * @throws InvalidValueException where it is no such value
+         * @throws InvalidValueException if it is no such value
          */
         public Builder debitsPosted(BigInteger value) {
             Values.u128(data, Layout.ACCOUNT_DEBITS_POSTED, "Account.debits_posted", value);
@@ -296,7 +296,7 @@ public final class Account {
          *
          * @param value 0 to 2^63 - 1
          * @return this
-         * @throws InvalidValueException where it is no such value
+         * @throws InvalidValueException if it is no such value
          */
         public Builder debitsPosted(long value) {
             Values.u128(data, Layout.ACCOUNT_DEBITS_POSTED, "Account.debits_posted", value);
@@ -308,7 +308,7 @@ public final class Account {
          *
          * @param value u128
          * @return this
-         * @throws InvalidValueException where it is no such value
+         * @throws InvalidValueException if it is no such value
          */
         public Builder creditsPending(BigInteger value) {
             Values.u128(data, Layout.ACCOUNT_CREDITS_PENDING, "Account.credits_pending", value);
@@ -320,7 +320,7 @@ public final class Account {
          *
          * @param value 0 to 2^63 - 1
          * @return this
-         * @throws InvalidValueException where it is no such value
+         * @throws InvalidValueException if it is no such value
          */
         public Builder creditsPending(long value) {
             Values.u128(data, Layout.ACCOUNT_CREDITS_PENDING, "Account.credits_pending", value);
@@ -332,7 +332,7 @@ public final class Account {
          *
          * @param value u128
          * @return this
-         * @throws InvalidValueException where it is no such value
+         * @throws InvalidValueException if it is no such value
          */
         public Builder creditsPosted(BigInteger value) {
             Values.u128(data, Layout.ACCOUNT_CREDITS_POSTED, "Account.credits_posted", value);
@@ -344,7 +344,7 @@ public final class Account {
          *
          * @param value 0 to 2^63 - 1
          * @return this
-         * @throws InvalidValueException where it is no such value
+         * @throws InvalidValueException if it is no such value
          */
         public Builder creditsPosted(long value) {
             Values.u128(data, Layout.ACCOUNT_CREDITS_POSTED, "Account.credits_posted", value);
@@ -356,7 +356,7 @@ public final class Account {
          *
          * @param value u128
          * @return this
-         * @throws InvalidValueException where it is no such value
+         * @throws InvalidValueException if it is no such value
          */
         public Builder userData128(BigInteger value) {
             Values.u128(data, Layout.ACCOUNT_USER_DATA_128, "Account.user_data_128", value);
@@ -368,7 +368,7 @@ public final class Account {
          *
          * @param value 0 to 2^63 - 1
          * @return this
-         * @throws InvalidValueException where it is no such value
+         * @throws InvalidValueException if it is no such value
          */
         public Builder userData128(long value) {
             Values.u128(data, Layout.ACCOUNT_USER_DATA_128, "Account.user_data_128", value);
@@ -380,7 +380,7 @@ public final class Account {
          *
          * @param value u128
          * @return this
-         * @throws InvalidValueException where it is no such value
+         * @throws InvalidValueException if it is no such value
          */
         public Builder userData128(UUID value) {
             Values.id(data, Layout.ACCOUNT_USER_DATA_128, "Account.user_data_128",
@@ -393,7 +393,7 @@ public final class Account {
          *
          * @param value 16 bytes, the low one first
          * @return this
-         * @throws InvalidValueException where it is no such value
+         * @throws InvalidValueException if it is no such value
          */
         public Builder userData128(byte[] value) {
             Values.id(data, Layout.ACCOUNT_USER_DATA_128, "Account.user_data_128", value);
@@ -405,7 +405,7 @@ public final class Account {
          *
          * @param value u64
          * @return this
-         * @throws InvalidValueException where it is no such value
+         * @throws InvalidValueException if it is no such value
          */
         public Builder userData64(BigInteger value) {
             Values.u64(data, Layout.ACCOUNT_USER_DATA_64, "Account.user_data_64", value);
@@ -417,7 +417,7 @@ public final class Account {
          *
          * @param value 0 to 2^63 - 1
          * @return this
-         * @throws InvalidValueException where it is no such value
+         * @throws InvalidValueException if it is no such value
          */
         public Builder userData64(long value) {
             Values.u64(data, Layout.ACCOUNT_USER_DATA_64, "Account.user_data_64", value);
@@ -429,7 +429,7 @@ public final class Account {
          *
          * @param value u32
          * @return this
-         * @throws InvalidValueException where it is no such value
+         * @throws InvalidValueException if it is no such value
          */
         public Builder userData32(long value) {
             Values.u32(data, Layout.ACCOUNT_USER_DATA_32, "Account.user_data_32", value);
@@ -441,7 +441,7 @@ public final class Account {
          *
          * @param value u32
          * @return this
-         * @throws InvalidValueException where it is no such value
+         * @throws InvalidValueException if it is no such value
          */
         public Builder reserved(long value) {
             Values.u32(data, Layout.ACCOUNT_RESERVED, "Account.reserved", value);
@@ -453,7 +453,7 @@ public final class Account {
          *
          * @param value u32
          * @return this
-         * @throws InvalidValueException where it is no such value
+         * @throws InvalidValueException if it is no such value
          */
         public Builder ledger(long value) {
             Values.u32(data, Layout.ACCOUNT_LEDGER, "Account.ledger", value);
@@ -465,7 +465,7 @@ public final class Account {
          *
          * @param value u16
          * @return this
-         * @throws InvalidValueException where it is no such value
+         * @throws InvalidValueException if it is no such value
          */
         public Builder code(int value) {
             Values.u16(data, Layout.ACCOUNT_CODE, "Account.code", value);
@@ -477,7 +477,7 @@ public final class Account {
          *
          * @param value u16
          * @return this
-         * @throws InvalidValueException where it is no such value
+         * @throws InvalidValueException if it is no such value
          */
         public Builder flags(int value) {
             Values.u16(data, Layout.ACCOUNT_FLAGS, "Account.flags", value);
@@ -489,7 +489,7 @@ public final class Account {
          *
          * @param value u64 in nanoseconds
          * @return this
-         * @throws InvalidValueException where it is no such value
+         * @throws InvalidValueException if it is no such value
          */
         public Builder timestamp(BigInteger value) {
             Values.u64(data, Layout.ACCOUNT_TIMESTAMP, "Account.timestamp", value);
@@ -501,7 +501,7 @@ public final class Account {
          *
          * @param value 0 to 2^63 - 1 in nanoseconds
          * @return this
-         * @throws InvalidValueException where it is no such value
+         * @throws InvalidValueException if it is no such value
          */
         public Builder timestamp(long value) {
             Values.u64(data, Layout.ACCOUNT_TIMESTAMP, "Account.timestamp", value);

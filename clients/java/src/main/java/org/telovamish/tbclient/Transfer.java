@@ -212,7 +212,7 @@ public final class Transfer {
          *
          * @param value u128
          * @return this
-         * @throws InvalidValueException where it is no such value
+         * @throws InvalidValueException if it is no such value
          */
         public Builder id(BigInteger value) {
             Values.u128(data, Layout.TRANSFER_ID, "Transfer.id", value);
@@ -224,7 +224,7 @@ public final class Transfer {
          *
          * @param value 0 to 2^63 - 1
          * @return this
-         * @throws InvalidValueException where it is no such value
+         * @throws InvalidValueException if it is no such value
          */
         public Builder id(long value) {
             Values.u128(data, Layout.TRANSFER_ID, "Transfer.id", value);
@@ -236,7 +236,7 @@ public final class Transfer {
          *
          * @param value u128
          * @return this
-         * @throws InvalidValueException where it is no such value
+         * @throws InvalidValueException if it is no such value
          */
         public Builder id(UUID value) {
             Values.id(data, Layout.TRANSFER_ID, "Transfer.id", UInt128.asBytes(value));
@@ -248,7 +248,7 @@ public final class Transfer {
          *
          * @param value 16 bytes, the low one first
          * @return this
-         * @throws InvalidValueException where it is no such value
+         * @throws InvalidValueException if it is no such value
          */
         public Builder id(byte[] value) {
             Values.id(data, Layout.TRANSFER_ID, "Transfer.id", value);
@@ -260,7 +260,7 @@ public final class Transfer {
          *
          * @param value u128
          * @return this
-         * @throws InvalidValueException where it is no such value
+         * @throws InvalidValueException if it is no such value
          */
         public Builder debitAccountId(BigInteger value) {
             Values.u128(data, Layout.TRANSFER_DEBIT_ACCOUNT_ID, "Transfer.debit_account_id", value);
@@ -272,7 +272,7 @@ public final class Transfer {
          *
          * @param value 0 to 2^63 - 1
          * @return this
-         * @throws InvalidValueException where it is no such value
+         * @throws InvalidValueException if it is no such value
          */
         public Builder debitAccountId(long value) {
             Values.u128(data, Layout.TRANSFER_DEBIT_ACCOUNT_ID, "Transfer.debit_account_id", value);
@@ -284,7 +284,7 @@ public final class Transfer {
          *
          * @param value u128
          * @return this
-         * @throws InvalidValueException where it is no such value
+         * @throws InvalidValueException if it is no such value
          */
         public Builder debitAccountId(UUID value) {
             Values.id(data, Layout.TRANSFER_DEBIT_ACCOUNT_ID, "Transfer.debit_account_id",
@@ -297,7 +297,7 @@ public final class Transfer {
          *
          * @param value 16 bytes, the low one first
          * @return this
-         * @throws InvalidValueException where it is no such value
+         * @throws InvalidValueException if it is no such value
          */
         public Builder debitAccountId(byte[] value) {
             Values.id(data, Layout.TRANSFER_DEBIT_ACCOUNT_ID, "Transfer.debit_account_id", value);
@@ -309,7 +309,7 @@ public final class Transfer {
          *
          * @param value u128
          * @return this
-         * @throws InvalidValueException where it is no such value
+         * @throws InvalidValueException if it is no such value
          */
         public Builder creditAccountId(BigInteger value) {
             Values.u128(
@@ -322,7 +322,7 @@ public final class Transfer {
          *
          * @param value 0 to 2^63 - 1
          * @return this
-         * @throws InvalidValueException where it is no such value
+         * @throws InvalidValueException if it is no such value
          */
         public Builder creditAccountId(long value) {
             Values.u128(
@@ -335,7 +335,7 @@ public final class Transfer {
          *
          * @param value u128
          * @return this
-         * @throws InvalidValueException where it is no such value
+         * @throws InvalidValueException if it is no such value
          */
         public Builder creditAccountId(UUID value) {
             Values.id(data, Layout.TRANSFER_CREDIT_ACCOUNT_ID, "Transfer.credit_account_id",
@@ -348,7 +348,7 @@ public final class Transfer {
          *
          * @param value 16 bytes, the low one first
          * @return this
-         * @throws InvalidValueException where it is no such value
+         * @throws InvalidValueException if it is no such value
          */
         public Builder creditAccountId(byte[] value) {
             Values.id(data, Layout.TRANSFER_CREDIT_ACCOUNT_ID, "Transfer.credit_account_id", value);
@@ -360,7 +360,7 @@ public final class Transfer {
          *
          * @param value u128
          * @return this
-         * @throws InvalidValueException where it is no such value
+         * @throws InvalidValueException if it is no such value
          */
         public Builder amount(BigInteger value) {
             Values.u128(data, Layout.TRANSFER_AMOUNT, "Transfer.amount", value);
@@ -372,7 +372,7 @@ public final class Transfer {
          *
          * @param value 0 to 2^63 - 1
          * @return this
-         * @throws InvalidValueException where it is no such value
+         * @throws InvalidValueException if it is no such value
          */
         public Builder amount(long value) {
             Values.u128(data, Layout.TRANSFER_AMOUNT, "Transfer.amount", value);
@@ -384,7 +384,7 @@ public final class Transfer {
          *
          * @param value u128
          * @return this
-         * @throws InvalidValueException where it is no such value
+         * @throws InvalidValueException if it is no such value
          */
         public Builder pendingId(BigInteger value) {
             Values.u128(data, Layout.TRANSFER_PENDING_ID, "Transfer.pending_id", value);
@@ -396,7 +396,7 @@ public final class Transfer {
          *
          * @param value 0 to 2^63 - 1
          * @return this
-         * @throws InvalidValueException where it is no such value
+         * @throws InvalidValueException if it is no such value
          */
         public Builder pendingId(long value) {
             Values.u128(data, Layout.TRANSFER_PENDING_ID, "Transfer.pending_id", value);
@@ -408,7 +408,7 @@ public final class Transfer {
          *
          * @param value u128
          * @return this
-         * @throws InvalidValueException where it is no such value
+         * @throws InvalidValueException if it is no such value
          */
         public Builder pendingId(UUID value) {
             Values.id(data, Layout.TRANSFER_PENDING_ID, "Transfer.pending_id",
@@ -421,7 +421,7 @@ public final class Transfer {
          *
          * @param value 16 bytes, the low one first
          * @return this
-         * @throws InvalidValueException where it is no such value
+         * @throws InvalidValueException if it is no such value
          */
         public Builder pendingId(byte[] value) {
             Values.id(data, Layout.TRANSFER_PENDING_ID, "Transfer.pending_id", value);
@@ -433,7 +433,7 @@ public final class Transfer {
          *
          * @param value u128
          * @return this
-         * @throws InvalidValueException where it is no such value
+         * @throws InvalidValueException if it is no such value
          */
         public Builder userData128(BigInteger value) {
             Values.u128(data, Layout.TRANSFER_USER_DATA_128, "Transfer.user_data_128", value);
@@ -445,7 +445,7 @@ public final class Transfer {
          *
          * @param value 0 to 2^63 - 1
          * @return this
-         * @throws InvalidValueException where it is no such value
+         * @throws InvalidValueException if it is no such value
          */
         public Builder userData128(long value) {
             Values.u128(data, Layout.TRANSFER_USER_DATA_128, "Transfer.user_data_128", value);
@@ -457,7 +457,7 @@ public final class Transfer {
          *
          * @param value u128
          * @return this
-         * @throws InvalidValueException where it is no such value
+         * @throws InvalidValueException if it is no such value
          */
         public Builder userData128(UUID value) {
             Values.id(data, Layout.TRANSFER_USER_DATA_128, "Transfer.user_data_128",
@@ -470,7 +470,7 @@ public final class Transfer {
          *
          * @param value 16 bytes, the low one first
          * @return this
-         * @throws InvalidValueException where it is no such value
+         * @throws InvalidValueException if it is no such value
          */
         public Builder userData128(byte[] value) {
             Values.id(data, Layout.TRANSFER_USER_DATA_128, "Transfer.user_data_128", value);
@@ -482,7 +482,7 @@ public final class Transfer {
          *
          * @param value u64
          * @return this
-         * @throws InvalidValueException where it is no such value
+         * @throws InvalidValueException if it is no such value
          */
         public Builder userData64(BigInteger value) {
             Values.u64(data, Layout.TRANSFER_USER_DATA_64, "Transfer.user_data_64", value);
@@ -494,7 +494,7 @@ public final class Transfer {
          *
          * @param value 0 to 2^63 - 1
          * @return this
-         * @throws InvalidValueException where it is no such value
+         * @throws InvalidValueException if it is no such value
          */
         public Builder userData64(long value) {
             Values.u64(data, Layout.TRANSFER_USER_DATA_64, "Transfer.user_data_64", value);
@@ -506,7 +506,7 @@ public final class Transfer {
          *
          * @param value u32
          * @return this
-         * @throws InvalidValueException where it is no such value
+         * @throws InvalidValueException if it is no such value
          */
         public Builder userData32(long value) {
             Values.u32(data, Layout.TRANSFER_USER_DATA_32, "Transfer.user_data_32", value);
@@ -518,7 +518,7 @@ public final class Transfer {
          *
          * @param value u32 in seconds
          * @return this
-         * @throws InvalidValueException where it is no such value
+         * @throws InvalidValueException if it is no such value
          */
         public Builder timeout(long value) {
             Values.u32(data, Layout.TRANSFER_TIMEOUT, "Transfer.timeout", value);
@@ -530,7 +530,7 @@ public final class Transfer {
          *
          * @param value u32
          * @return this
-         * @throws InvalidValueException where it is no such value
+         * @throws InvalidValueException if it is no such value
          */
         public Builder ledger(long value) {
             Values.u32(data, Layout.TRANSFER_LEDGER, "Transfer.ledger", value);
@@ -542,7 +542,7 @@ public final class Transfer {
          *
          * @param value u16
          * @return this
-         * @throws InvalidValueException where it is no such value
+         * @throws InvalidValueException if it is no such value
          */
         public Builder code(int value) {
             Values.u16(data, Layout.TRANSFER_CODE, "Transfer.code", value);
@@ -554,7 +554,7 @@ public final class Transfer {
          *
          * @param value u16
          * @return this
-         * @throws InvalidValueException where it is no such value
+         * @throws InvalidValueException if it is no such value
          */
         public Builder flags(int value) {
             Values.u16(data, Layout.TRANSFER_FLAGS, "Transfer.flags", value);
@@ -566,7 +566,7 @@ public final class Transfer {
          *
          * @param value u64 in nanoseconds
          * @return this
-         * @throws InvalidValueException where it is no such value
+         * @throws InvalidValueException if it is no such value
          */
         public Builder timestamp(BigInteger value) {
             Values.u64(data, Layout.TRANSFER_TIMESTAMP, "Transfer.timestamp", value);
@@ -578,7 +578,7 @@ public final class Transfer {
          *
          * @param value 0 to 2^63 - 1 in nanoseconds
          * @return this
-         * @throws InvalidValueException where it is no such value
+         * @throws InvalidValueException if it is no such value
          */
         public Builder timestamp(long value) {
             Values.u64(data, Layout.TRANSFER_TIMESTAMP, "Transfer.timestamp", value);
