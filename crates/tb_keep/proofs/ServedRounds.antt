@@ -16,7 +16,7 @@ use Rattle.tb_keep.specs.declared.faults.KeepFault.{KeepFault}
 use Rattle.tb_keep.specs.declared.faults.KeepFault.TheVariants as keep
 use Rattle.tb_keep.specs.Keeping.{Keeping, IsFresh}
 use Rattle.tb_keep.specs.Rounds.{state_from, records_from, reply_bytes_from, IsServed, AreServed, pairs_of, Commits, Standing, standing_of, IsPrompt, ReadsPromptly, is_held, RefusesRecord, Round, Rounds, IsStop, Pauses, FailsCommit, Served, EndsServing, block_bytes_max, IsDue}
-use Rattle.tb_keep.specs.private.Steps.{IsSudden, ServesNextPair, Ceases, IsCommitted, IsUncommitted, CommitsAndReplies, MayReply, EndsNext}
+use Rattle.tb_keep.specs.private.Steps.{IsSudden, ServesNextPair, Ceases, IsCommitted, IsUncommitted, CommitsAndReplies, MayReply, EndsNext, replies_at, round_at}
 use Rattle.tb_keep.proofs.Batches.{block_short, grows, some_byte}
 use Rattle.tb_keep.proofs.Pairs.{state_snoc, records_join, replies_join, served_snoc, pairs_snoc}
 
@@ -140,7 +140,7 @@ module _ {tells : Type 0} {D : Type 0} {disk : D → Disk} {k : ℕ} {before kee
         journal = ap (λ (j : Kept D). j.usable) n.turn.waits ∙ g.journal;
       }
 
-  -- pairs were served, by what ended serving
+  -- pairs were served, and what ended serving
   serves : {result : Result ℕ KeepFault} {after : Keeping D} {last : Input} {next : Output}
       → ((last ≡ input) ⊎ IsPrompt (is_held g.standing.output.held g.more) input)
       → EndsServing tells disk result (length (pairs_of g.rounds ++ g.more)) g.more g.standing after input last next
@@ -166,8 +166,8 @@ module _ {tells : Type 0} {D : Type 0} {disk : D → Disk} {k : ℕ} {before kee
       subst (λ (d : D). Commits (records_from g.standing.state g.more) (disk d) (disk after.journal.device)) g.device
       (subst (λ records. Commits records (disk keeper.journal.device) (disk after.journal.device)) (g.waits t) (c.commits t))
 
-  -- the pairs that wait are a round, once their replies are sent
-  round_replied : {after : Keeping D} {next : Output} {left : List ℕ} → CommitsAndReplies tells disk (Ok tt) keeper after held left written next
+  -- the pairs that wait are a round when their replies are sent
+  round_replied : {after : Keeping D} {next : Output} {left : List ℕ} → CommitsAndReplies tells disk (Ok tt) (replies_at keeper held written) (replies_at after left next)
       → Round tells disk g.more g.standing (standing_of after input next)
   round_replied {after} {next} {left} t = record {
     prompt = g.prompt;
@@ -185,7 +185,7 @@ module _ {tells : Type 0} {D : Type 0} {disk : D → Disk} {k : ℕ} {before kee
       subst (λ (w : List (List ℕ)). IsDue input.at_hand (reply_bytes_from g.standing.state g.more) w) (g.waits t)
       (subst (λ (b : List ℕ). IsDue input.at_hand b keeper.journal.waiting) g.holds due)
 
-  going_replied : {after : Keeping D} {next : Output} {left : List ℕ} → IsDue input.at_hand held keeper.journal.waiting → CommitsAndReplies tells disk (Ok tt) keeper after held left written next
+  going_replied : {after : Keeping D} {next : Output} {left : List ℕ} → IsDue input.at_hand held keeper.journal.waiting → CommitsAndReplies tells disk (Ok tt) (replies_at keeper held written) (replies_at after left next)
       → Going tells disk k before after first input start next left
   going_replied {after} {next} {left} due t = record {
     rounds = g.rounds ++ g.more ∷ [];
@@ -208,18 +208,18 @@ module _ {tells : Type 0} {D : Type 0} {disk : D → Disk} {k : ℕ} {before kee
     journal = t.0.journal;
   }
 
-  replied_prompt : {after : Keeping D} {next : Output} {left : List ℕ} (due : IsDue input.at_hand held keeper.journal.waiting) (t : CommitsAndReplies tells disk (Ok tt) keeper after held left written next)
+  replied_prompt : {after : Keeping D} {next : Output} {left : List ℕ} (due : IsDue input.at_hand held keeper.journal.waiting) (t : CommitsAndReplies tells disk (Ok tt) (replies_at keeper held written) (replies_at after left next))
       → IsPrompt (is_held (going_replied due t).standing.output.held (going_replied due t).more) input
   unfolding going_replied
   replied_prompt due t holds = let clash : true ≡ false = sym holds ∙ t.1.1 in absurd (cc)
 
-  replied_room : {after : Keeping D} {next : Output} {left : List ℕ} (due : IsDue input.at_hand held keeper.journal.waiting) (t : CommitsAndReplies tells disk (Ok tt) keeper after held left written next)
+  replied_room : {after : Keeping D} {next : Output} {left : List ℕ} (due : IsDue input.at_hand held keeper.journal.waiting) (t : CommitsAndReplies tells disk (Ok tt) (replies_at keeper held written) (replies_at after left next))
       → length (at_rest (records_from (going_replied due t).standing.state (going_replied due t).more)) + block_bytes_max ≤ 2 ^ 22
   unfolding going_replied
   replied_room due t = omega arith
 
   -- the replies are sent, or need not be yet
-  pub going_may : {after : Keeping D} {next : Output} {left : List ℕ} → MayReply tells disk input.at_hand (Ok tt) keeper after held left written next
+  pub going_may : {after : Keeping D} {next : Output} {left : List ℕ} → MayReply tells disk (Ok tt) (round_at keeper input held written) (round_at after input left next)
       → Asking tells disk k before after first input start next left
   going_may (inl (whole, few, room, is, stays, none, silent)) =
       rw (stays, none, silent) (record { going = g; prompt = λ _. whole; room = omega (arith, room, g.fewer) })
@@ -241,7 +241,7 @@ module _ {tells : Type 0} {D : Type 0} {disk : D → Disk} {k : ℕ} {before kee
   -- a fault in sending, with nothing more read, or the end
   served_silent : (f : KeepFault) (left : List ℕ) {after : Keeping D} {last : Input} {next : Output}
       → ((last ≡ input) ⊎ IsPrompt (is_held g.standing.output.held g.more) input) → Pauses (state_from g.standing.state g.more) input last
-      → CommitsAndReplies tells disk (Err f) keeper after held left written next
+      → CommitsAndReplies tells disk (Err f) (replies_at keeper held written) (replies_at after left next)
       → Served tells disk (Err f) before after first last start next
   served_silent (keep.Journal fault) left {after} {last} {next} asked pauses t = serves asked (inr (pauses, fails fault t.0 t.1))
   served_silent (keep.Serving (run.Frame fault)) left {after} {last} {next} asked pauses t = serves asked (inr (
@@ -257,7 +257,7 @@ module _ {tells : Type 0} {D : Type 0} {disk : D → Disk} {k : ℕ} {before kee
   served_silent (keep.Serving run.TimeExhausted) left asked pauses t = absurd t.1
   served_silent (keep.Serving run.TooLong) left asked pauses t = absurd t.1
 
-  pub served_before : (f : KeepFault) (left : List ℕ) {after : Keeping D} {next : Output} → MayReply tells disk input.at_hand (Err f) keeper after held left written next
+  pub served_before : (f : KeepFault) (left : List ℕ) {after : Keeping D} {next : Output} → MayReply tells disk (Err f) (round_at keeper input held written) (round_at after input left next)
       → Served tells disk (Err f) before after first input start next
   served_before f left (inl same) = absurd (subst is_ok (sym same.3) tt)
   served_before f left (inr (due, told)) = served_silent f left (inl refl) (inl refl) told
@@ -289,24 +289,24 @@ module _ {tells : Type 0} {D : Type 0} {disk : D → Disk} {k : ℕ} {before kee
   served_into (keep.Serving run.TimeExhausted) is n = absurd is
   served_into (keep.Serving run.TooLong) is n = absurd is
 
-  -- what ends it
+  -- what ends serving
 
   pub served_out : {again after : Keeping D} {last : Input} {next : Output} {same : List ℕ} (left : List ℕ)
-      → Ceases (Ok None) keeper again input last held same → CommitsAndReplies tells disk (Ok tt) again after same left written next → Served tells disk (Ok k) before after first last start next
+      → Ceases (Ok None) keeper again input last held same → CommitsAndReplies tells disk (Ok tt) (replies_at again same written) (replies_at after left next) → Served tells disk (Ok k) before after first last start next
   served_out {again} {after} {last} {next} {same} left c t =
       serves a.going (inr a.prompt) (sym a.going.long, c.read, round_replied a.going (rw (c.same, c.holds) at t))
 
   -- a fault at the end of the input
   pub served_end : (f : KeepFault) {again after : Keeping D} {last : Input} {next : Output} {same : List ℕ} (left : List ℕ)
-      → Ceases (Ok None) keeper again input last held same → CommitsAndReplies tells disk (Err f) again after same left written next → Served tells disk (Err f) before after first last start next
+      → Ceases (Ok None) keeper again input last held same → CommitsAndReplies tells disk (Err f) (replies_at again same written) (replies_at after left next) → Served tells disk (Err f) before after first last start next
   served_end f {again} {after} {last} {next} {same} left c t =
       served_silent a.going f left (inr a.prompt) (inr (inl c.read))
-      (subst (λ (x : Keeping D). CommitsAndReplies tells disk (Err f) x after held left written next) c.same
-      (subst (λ bytes. CommitsAndReplies tells disk (Err f) again after bytes left written next) c.holds t))
+      (subst (λ (x : Keeping D). CommitsAndReplies tells disk (Err f) (replies_at x held written) (replies_at after left next)) c.same
+      (subst (λ bytes. CommitsAndReplies tells disk (Err f) (replies_at again bytes written) (replies_at after left next)) c.holds t))
 
-  -- the replies held were sent before what ends serving
+  -- the replies were sent before what ends serving
   served_stopped : (stop : KeepFault) {after : Keeping D} {last : Input} {next : Output} (left : List ℕ)
-      → IsStop stop keeper.state input last → CommitsAndReplies tells disk (Ok tt) keeper after held left written next → Served tells disk (Err stop) before after first last start next
+      → IsStop stop keeper.state input last → CommitsAndReplies tells disk (Ok tt) (replies_at keeper held written) (replies_at after left next) → Served tells disk (Err stop) before after first last start next
   served_stopped (keep.Serving (run.Frame fault)) {after} {last} {next} left is t =
       serves a.going (inr a.prompt) (inl (is, round_replied a.going {after = after} {next = next} {left = left} t))
   served_stopped (keep.Serving run.TimeExhausted) {after} {last} {next} left is t =
@@ -320,13 +320,13 @@ module _ {tells : Type 0} {D : Type 0} {disk : D → Disk} {k : ℕ} {before kee
 
   -- a fault in reading or serving a pair
   pub served_ends : (f : KeepFault) {after : Keeping D} {last : Input} {next : Output} (left : List ℕ)
-      → EndsNext tells disk f keeper after input last held left written next → Served tells disk (Err f) before after first last start next
+      → EndsNext tells disk f (round_at keeper input held written) (round_at after last left next) → Served tells disk (Err f) before after first last start next
   served_ends f left (inl (is, n, silent)) = rw silent (served_into f is n)
   served_ends f left (inr (stop, is, inl (same, t))) = rw same (served_stopped stop left is t)
   served_ends f {after} {last} left (inr (stop, is, inr t)) =
       served_silent a.going f left (inr a.prompt) (inr (inr (stop, subst (λ (U : State). IsStop stop U input last) a.going.state is))) t
 
--- a keeper that is used no more: what was served stays
+-- a keeper that is not used any more: what was served stays
 module _ (tells : Type 0) {D : Type 0} (disk : D → Disk) (cut : ℕ) (usable : Bool) where
   abbrev left_as : Keeping D → Keeping D
   left_as keeper = record { journal = keeper.journal; state = keeper.state; cut = cut; usable = usable }

@@ -1,4 +1,4 @@
--- What the steps of serving do: for private functions alone.
+-- The steps of serving. Only contracts of private functions use them.
 use Rattle.std.specs.Prelude.{ℕ, Bool, true, false, ◌≡◌, ◌⊎◌, ◌+◌, ◌<◌, ◌≤◌, ◌^◌, List, [], ◌∷◌, ◌++◌, length, Result, Ok, Err, Option, None}
 use Rattle.tb_records.specs.declared.faults.FrameFault.{FrameFault}
 use Rattle.tb_records.specs.declared.faults.FrameFault.TheVariants.{Device}
@@ -24,25 +24,25 @@ use Rattle.tb_keep.specs.Keeping.{Keeping}
 use Rattle.tb_keep.specs.Rounds.{IsServed, Commits, ReadsNoPair, IsStop, RefusesRecord, records_from, reply_bytes_from, block_bytes_max, IsDue}
 use Rattle.tb_keep.specs.declared.replies.Replies.{Replies}
 
--- a fault of a record that is made to wait: there is no memory for it, or the journal refuses it
+-- the fault of a record that is queued for the next commit: out of memory, or the journal refuses it
 abbrev pub IsRefusal : {D : Type 0} → KeepFault → Kept D → List ℕ → Type 0
 IsRefusal (keep.Journal fault) journal bytes = RefusesRecord fault journal bytes
 IsRefusal (keep.Serving run.NoMemory) journal bytes = Unit {0}
 IsRefusal fault journal bytes = ⊥
 
--- a fault of a pair, before which nothing is sent
+-- the fault of a pair, before which nothing is sent
 abbrev pub IsSudden : KeepFault → Type 0
 IsSudden (keep.Journal fault) = Unit {0}
 IsSudden (keep.Serving run.NoMemory) = Unit {0}
 IsSudden fault = ⊥
 
--- a reply is held behind the others, or there is no memory
+-- a reply is held after the others, or an allocation failed
 abbrev pub HoldsReply : Result (Unit {0}) KeepFault → Answer → List ℕ → List ℕ → Type 0
 HoldsReply (Ok done) a held grown = (grown ≡ held ++ reply_bytes a) × IsReply a
 HoldsReply (Err (keep.Serving run.NoMemory)) a held grown = Unit {0}
 HoldsReply (Err fault) a held grown = ⊥
 
--- the record of an entry waits, the entry is entered, and its reply is held; or a fault came, and the file stays
+-- the record of an entry waits, the entry is entered, and its reply is held; after a fault the file is unchanged
 abbrev pub KeepsEntry : {D : Type 0} → Result (Unit {0}) KeepFault → Entry → Keeping D → Keeping D → List ℕ → List ℕ → Type 0
 KeepsEntry (Ok done) e before after held grown =
     IsRecord (dumped e) e × (after.journal ≡ with_waiting before.journal (dumped e)) × (after.usable ≡ before.usable)
@@ -59,12 +59,12 @@ pub record HoldsPair {D : Type 0} (p : Pair) (before after : Keeping D) (held gr
   pub holds : grown ≡ held ++ reply_bytes_from before.state (p ∷ [])
   pub usable : after.usable ≡ before.usable
 
--- a pair had no time
+-- the fault of a pair for which there is no time
 abbrev pub is_end_of_time : KeepFault → Bool
 is_end_of_time (keep.Serving run.TimeExhausted) = true
 is_end_of_time fault = false
 
--- or a fault came, and the file stays; where a pair had no time all stays
+-- a pair was served; after a fault the file is unchanged, and nothing at all changes if there is no time for the pair
 abbrev pub KeepsPair : {D : Type 0} → Result (Unit {0}) KeepFault → Pair → Keeping D → Keeping D → List ℕ → List ℕ → Type 0
 KeepsPair (Ok done) p before after held grown = HoldsPair p before after held grown
 KeepsPair (Err (keep.Journal fault)) p before after held grown =
@@ -80,25 +80,55 @@ pub record ServesNextPair {D : Type 0} (result : Result (Unit {0}) KeepFault) (b
   pub read : Reads (pair ∷ []) first last
   pub turn : KeepsPair result pair before after held grown
 
--- a reader gave no pair, and all else is as it was
+-- a reader returned no pair, and nothing else changed
 pub record Ceases {D : Type 0} (answer : Result (Option (ℕ × Message)) FrameFault) (before after : Keeping D) (first last : Input) (held grown : List ℕ) : Type 0 where
   pub read : ReadsNoPair answer first last
   pub same : after ≡ before
   pub holds : grown ≡ held
 
--- whether there was one
+-- a next pair was served, or there is none
 abbrev pub MayBeNext : {D : Type 0} → Bool → Keeping D → Keeping D → Input → Input → List ℕ → List ℕ → Type 0
 MayBeNext true before after first last held grown = ServesNextPair (Ok tt) before after first last held grown
 MayBeNext false before after first last held grown = Ceases (Ok None) before after first last held grown
 
--- the bytes were sent and nothing is held any more, or the device failed and left a prefix of them
+-- what is committed and sent, at one moment: a keeper with the records that wait, the bytes of the replies, and the output
+pub record ReplyState (D : Type 0) : Type 0 where
+  pub keeping : Keeping D
+  pub held : List ℕ
+  pub sink : Output
+
+abbrev pub replies_at : {D : Type 0} → Keeping D → List ℕ → Output → ReplyState D
+replies_at keeper held output = record { keeping = keeper; held = held; sink = output }
+
+-- what a round of serving works on, at one moment: a keeper, the input, the bytes of the replies that are held, and the output
+pub record RoundState (D : Type 0) : Type 0 where
+  pub keeping : Keeping D
+  pub source : Input
+  pub held : List ℕ
+  pub sink : Output
+
+abbrev pub round_at : {D : Type 0} → Keeping D → Input → List ℕ → Output → RoundState D
+round_at keeper input held output = record { keeping = keeper; source = input; held = held; sink = output }
+
+-- the same without the input
+abbrev pub reply_part : {D : Type 0} → RoundState D → ReplyState D
+reply_part now = replies_at now.keeping now.held now.sink
+
+-- both, made of a keeper, replies, a reader and a writer
+abbrev pub reply_state : {D W : Type 0} → (W → Output) → Keeping D → Replies → W → ReplyState D
+reply_state output keeper replies writer = replies_at keeper replies.bytes.items (output writer)
+
+abbrev pub round_state : {D R W : Type 0} → (R → Input) → (W → Output) → Keeping D → R → Replies → W → RoundState D
+round_state input output keeper reader replies writer = round_at keeper (input reader) replies.bytes.items (output writer)
+
+-- all bytes were sent and no reply is held, or the device failed after a prefix of them
 abbrev pub HandsOut : Result (Unit {0}) KeepFault → List ℕ → List ℕ → Output → Output → Type 0
 HandsOut (Ok done) held left start written = Sent held start written × (written.held ≡ false) × (left ≡ [])
 HandsOut (Err (keep.Serving (run.Frame fault))) held left start written = (fault ≡ Device) × CutOff held start written
 HandsOut (Err fault) held left start written = ⊥
 
 module _ (tells : Type 0) {D : Type 0} (disk : D → Disk) where
-  -- what waits was committed
+  -- the waiting records were committed
   pub record IsCommitted (before after : Keeping D) : Type 0 where
     pub state : after.state ≡ before.state
     pub none_waits : after.journal.waiting ≡ []
@@ -107,54 +137,43 @@ module _ (tells : Type 0) {D : Type 0} (disk : D → Disk) where
     pub ready : tells → IsReady disk after.journal
     pub commits : tells → Commits before.journal.waiting (disk before.journal.device) (disk after.journal.device)
 
-  -- the commit of what waits, which is some, failed for a cause
+  -- the commit failed; at least one record waits
   pub record IsUncommitted (fault : JournalFault) (before after : Keeping D) : Type 0 where
     pub some : before.journal.waiting ≡ [] → ⊥
     pub cause : tells → HasFailed (disk before.journal.device) (disk after.journal.device) fault
     pub any_moment : tells → LeavesOnly (disk before.journal.device) (disk after.journal.device) (IsBeforeOrAfter (recorded (disk before.journal.device).seen) before.journal.waiting)
 
-  -- what waits was committed, and then what is held was sent; a fault came before the one or within the other
-  abbrev pub CommitsAndReplies : Result (Unit {0}) KeepFault → Keeping D → Keeping D → List ℕ → List ℕ → Output → Output → Type 0
-  CommitsAndReplies (Err (keep.Journal fault)) before after held left start written = IsUncommitted fault before after × (written ≡ start)
-  CommitsAndReplies result before after held left start written = IsCommitted before after × HandsOut result held left start written
+  -- the waiting records were committed, and then the replies were sent; or the commit failed, and nothing was sent; or the output failed
+  abbrev pub CommitsAndReplies : Result (Unit {0}) KeepFault → ReplyState D → ReplyState D → Type 0
+  CommitsAndReplies (Err (keep.Journal fault)) before after = IsUncommitted fault before.keeping after.keeping × (after.sink ≡ before.sink)
+  CommitsAndReplies result before after = IsCommitted before.keeping after.keeping × HandsOut result before.held after.held before.sink after.sink
 
-  -- or nothing was done, where that is not due
-  abbrev pub MayReply : List ℕ → Result (Unit {0}) KeepFault → Keeping D → Keeping D → List ℕ → List ℕ → Output → Output → Type 0
-  MayReply at_hand result before after held left start written =
-      ((holds_pair at_hand ≡ true) × (length held < 2 ^ 20) × (length (at_rest before.journal.waiting) + block_bytes_max ≤ 2 ^ 22) × (result ≡ Ok tt) × (after ≡ before) × (left ≡ held) × (written ≡ start))
-      ⊎ (IsDue at_hand held before.journal.waiting × CommitsAndReplies result before after held left start written)
+  -- replies are sent when they are due; otherwise nothing changes
+  abbrev pub MayReply : Result (Unit {0}) KeepFault → RoundState D → RoundState D → Type 0
+  MayReply result before after =
+      ((holds_pair before.source.at_hand ≡ true) × (length before.held < 2 ^ 20) × (length (at_rest before.keeping.journal.waiting) + block_bytes_max ≤ 2 ^ 22)
+      × (result ≡ Ok tt) × (after.keeping ≡ before.keeping) × (after.held ≡ before.held) × (after.sink ≡ before.sink))
+      ⊎ (IsDue before.source.at_hand before.held before.keeping.journal.waiting × CommitsAndReplies result (reply_part before) (reply_part after))
 
-  -- what is held is sent before a fault ends serving; which may fail, and then that fault ends it
-  abbrev pub EndsReplying : KeepFault → KeepFault → Keeping D → Keeping D → List ℕ → List ℕ → Output → Output → Type 0
-  EndsReplying stop f before after held left start written =
-      ((f ≡ stop) × CommitsAndReplies (Ok tt) before after held left start written) ⊎ CommitsAndReplies (Err f) before after held left start written
+  -- the replies are sent before a fault ends serving; if sending fails, that fault ends it
+  abbrev pub EndsReplying : KeepFault → KeepFault → ReplyState D → ReplyState D → Type 0
+  EndsReplying stop f before after = ((f ≡ stop) × CommitsAndReplies (Ok tt) before after) ⊎ CommitsAndReplies (Err f) before after
 
-  -- a fault in serving a pair, after which nothing is sent; or a stop, before which what is held is sent
-  abbrev pub EndsNext : KeepFault → Keeping D → Keeping D → Input → Input → List ℕ → List ℕ → Output → Output → Type 0
-  EndsNext f before after first last held left start written =
-      (IsSudden f × ServesNextPair (Err f) before after first last held left × (written ≡ start))
-      ⊎ ((stop : KeepFault) × IsStop stop before.state first last × EndsReplying stop f before after held left start written)
+  -- a pair could not be served, and nothing is sent; or a stop was reached, before which the replies are sent
+  abbrev pub EndsNext : KeepFault → RoundState D → RoundState D → Type 0
+  EndsNext f before after =
+      (IsSudden f × ServesNextPair (Err f) before.keeping after.keeping before.source after.source before.held after.held × (after.sink ≡ before.sink))
+      ⊎ ((stop : KeepFault) × IsStop stop before.keeping.state before.source after.source × EndsReplying stop f (reply_part before) (reply_part after))
 
-  abbrev pub KeepsNext : Result Bool KeepFault → Keeping D → Keeping D → Input → Input → List ℕ → List ℕ → Output → Output → Type 0
-  KeepsNext (Ok more) before after first last held left start written = MayBeNext more before after first last held left × (written ≡ start)
-  KeepsNext (Err f) before after first last held left start written = EndsNext f before after first last held left start written
+  -- the next pair is served, or there is none; or a fault ends serving
+  abbrev pub KeepsNext : Result Bool KeepFault → RoundState D → RoundState D → Type 0
+  KeepsNext (Ok more) before after =
+      MayBeNext more before.keeping after.keeping before.source after.source before.held after.held × (after.sink ≡ before.sink)
+  KeepsNext (Err f) before after = EndsNext f before after
 
--- the same of replies that are held, and of a reader and a writer
+-- the same of replies that are held, and of a writer
 abbrev pub HoldsReplyOver : Result (Unit {0}) KeepFault → Answer → Replies → Replies → Type 0
 HoldsReplyOver result a held grown = HoldsReply result a held.bytes.items grown.bytes.items
 
 abbrev pub HandsOutOver : {W : Type 0} → (W → Output) → Result (Unit {0}) KeepFault → Replies → Replies → W → W → Type 0
 HandsOutOver output result held left writer later = HandsOut result held.bytes.items left.bytes.items (output writer) (output later)
-
-module _ (tells : Type 0) {D : Type 0} (disk : D → Disk) {W : Type 0} (output : W → Output) where
-  abbrev pub MayReplyOver : List ℕ → Result (Unit {0}) KeepFault → Keeping D → Keeping D → Replies → Replies → W → W → Type 0
-  MayReplyOver at_hand result before after held left writer later =
-      MayReply tells disk at_hand result before after held.bytes.items left.bytes.items (output writer) (output later)
-
-  abbrev pub EndsReplyingOver : KeepFault → KeepFault → Keeping D → Keeping D → Replies → Replies → W → W → Type 0
-  EndsReplyingOver stop f before after held left writer later =
-      EndsReplying tells disk stop f before after held.bytes.items left.bytes.items (output writer) (output later)
-
-  abbrev pub KeepsNextOver : {R : Type 0} → (R → Input) → Result Bool KeepFault → Keeping D → Keeping D → R → R → Replies → Replies → W → W → Type 0
-  KeepsNextOver input result before after reader rest held left writer later =
-      KeepsNext tells disk result before after (input reader) (input rest) held.bytes.items left.bytes.items (output writer) (output later)
