@@ -19,7 +19,7 @@ use Rattle.tb_keep_log.specs.declared.faults.CopyLogFault.TheVariants.{Old, New}
 use Rattle.tb_keep_log.specs.declared.reading_on.LogReadOn.{LogReadOn}
 use Rattle.tb_keep_log.specs.Keeping.{Leads, IsKept}
 use Rattle.tb_keep_log.specs.ReadingOn.{HasLog, HasLongerLog, IsLogReadOn}
-use Rattle.tb_keep_log.specs.private.BehindDamage.{HaltedBy, HaltsBehind, LooksBehind, StaysOrTakes, TakenBehind, TakesBehind, TakesStanding, TakesThrough}
+use Rattle.tb_keep_log.specs.private.BehindDamage.{HaltedBy, HaltsBehind, LooksBehind, StaysOrTakes, TakenBehind, TakesBehind, TakesStanding, TakesThrough, seek_copy}
 use Rattle.tb_keep_log.specs.private.CopySteps.{IsRecordUntaken, CopiesRecord, Unwritten}
 use Rattle.tb_keep_log.proofs.Copied.{leads_first}
 use Rattle.tb_keep_log.proofs.Leading.{leads_none, leads_one, leads_then}
@@ -44,7 +44,7 @@ module _ (tells : Type 0) {N : Type 0} (disk : N → Disk) (profile : Profile) (
     -- nothing was copied
     pub behind_none : (first here : SeekState) (F G : Following) (before after : Kept N) → (tells → Latest (disk before.device)) → before.usable ≡ true → (tells → IsReady disk before)
         → G ≡ F → after ≡ before → first.at ≤ here.at → ((file : List ℕ) → holds file → IsSeeking file first → IsSeeking file here)
-        → TakenBehind tells disk profile clients_max holds [] first here F G before after
+        → TakenBehind tells disk profile clients_max holds [] (seek_copy first F before) (seek_copy here G after)
     behind_none first here F G before after now usable ready follower journal le seeks = record {
       leads = subst (λ (K : Following). Leads profile clients_max F [] K) (sym follower) (leads_none profile clients_max F);
       usable = ap (λ (j : Kept N). j.usable) journal ∙ usable;
@@ -56,7 +56,7 @@ module _ (tells : Type 0) {N : Type 0} (disk : N → Disk) (profile : Profile) (
     pub behind_one : (first here : SeekState) (bytes : List ℕ) (F G : Following) (before after : Kept N) → CopiesRecord tells disk profile clients_max (Ok tt) bytes F G before after
         → here.at ≡ first.at + (4 + length bytes)
         → ((file : List ℕ) → holds file → IsSeeking file first → StandsAt first.at bytes file × IsSeeking file here)
-        → TakenBehind tells disk profile clients_max holds (bytes ∷ []) first here F G before after
+        → TakenBehind tells disk profile clients_max holds (bytes ∷ []) (seek_copy first F before) (seek_copy here G after)
     behind_one first here bytes F G before after takes far stands = record {
       leads = leads_one profile clients_max bytes F G takes.0;
       usable = takes.1;
@@ -67,11 +67,11 @@ module _ (tells : Type 0) {N : Type 0} (disk : N → Disk) (profile : Profile) (
           ((first.at, (let le : first.at ≤ first.at = omega arith in le), there, end), seeks);
     }
 
-    -- the record that is ahead was, whose checksum is at the place
+    -- the buffered record was, whose checksum is at the place
     pub stood : (first here : SeekState) (len : ℕ) (bytes : List ℕ) (F G : Following) (before after : Kept N) → bytes ≡ take len (drop 4 here.ahead) → 4 + len ≤ length here.ahead
         → here.at ≡ first.at → CopiesRecord tells disk profile clients_max (Ok tt) bytes F G before after
         → ((file : List ℕ) → holds file → IsSeeking file first → StandsAt here.at (take len (drop 4 here.ahead)) file × IsSeeking file here)
-        → TakesStanding tells disk profile clients_max holds (Ok true) first here len F G before after
+        → TakesStanding tells disk profile clients_max holds (Ok true) len (seek_copy first F before) (seek_copy here G after)
     stood first here len bytes F G before after is long at takes stands =
         let ahead : length (take len (drop 4 here.ahead)) ≡ len = omega (arith, length-take len (drop 4 here.ahead), length-drop 4 here.ahead, long) in (
           take len (drop 4 here.ahead),
@@ -85,8 +85,8 @@ module _ (tells : Type 0) {N : Type 0} (disk : N → Disk) (profile : Profile) (
 
     -- one was or not
     pub stayed : (taken : Bool) (first here : SeekState) (F G : Following) (before after : Kept N) → (tells → Latest (disk before.device)) → before.usable ≡ true → (tells → IsReady disk before)
-        → StaysOrTakes tells disk profile clients_max holds (Ok taken) first here F G before after
-        → TakesBehind tells disk profile clients_max holds (Ok tt) first here F G before after
+        → StaysOrTakes tells disk profile clients_max holds (Ok taken) (seek_copy first F before) (seek_copy here G after)
+        → TakesBehind tells disk profile clients_max holds (Ok tt) (seek_copy first F before) (seek_copy here G after)
     stayed true first here F G before after now usable ready takes = takes
     stayed false first here F G before after now usable ready (follower, journal, stays) =
         ([], behind_none first here F G before after now usable ready follower journal (omega (arith, stays.0)) stays.1)
@@ -98,8 +98,8 @@ module _ (tells : Type 0) {N : Type 0} (disk : N → Disk) (profile : Profile) (
     refused_untaken (New fault) bytes F G before after takes = takes
 
     -- others came after these
-    pub behind_then : (xs ys : List (List ℕ)) (p q r : SeekState) (F G H : Following) (a b c : Kept N) → TakenBehind tells disk profile clients_max holds xs p q F G a b
-        → TakenBehind tells disk profile clients_max holds ys q r G H b c → TakenBehind tells disk profile clients_max holds (xs ++ ys) p r F H a c
+    pub behind_then : (xs ys : List (List ℕ)) (p q r : SeekState) (F G H : Following) (a b c : Kept N) → TakenBehind tells disk profile clients_max holds xs (seek_copy p F a) (seek_copy q G b)
+        → TakenBehind tells disk profile clients_max holds ys (seek_copy q G b) (seek_copy r H c) → TakenBehind tells disk profile clients_max holds (xs ++ ys) (seek_copy p F a) (seek_copy r H c)
     behind_then xs ys p q r F G H a b c one two = record {
       leads = leads_then profile clients_max F G H xs ys one.leads two.leads;
       usable = two.usable;
@@ -110,14 +110,14 @@ module _ (tells : Type 0) {N : Type 0} (disk : N → Disk) (profile : Profile) (
           (stand_then xs ys p.at q.at r.at file first second, there);
     }
 
-  -- by a device that is still the same, from a later place on
+  -- if the device still has the same file, from a later place on
   module _ (holds later : List ℕ → Type 0) (same : (file : List ℕ) → holds file → later file) where
     untaken_same : (fault : CopyLogFault) (a m b : Kept N) → m ≡ a → IsRecordUntaken tells disk profile clients_max later fault m b → IsRecordUntaken tells disk profile clients_max holds fault a b
     untaken_same (Old fault) a m b is untaken = untaken ∙ is
     untaken_same (New fault) a m b is untaken = subst (λ (j : Kept N). Unwritten tells disk (New fault) j b) is untaken
 
     taken_after : (records : List (List ℕ)) (p q r : SeekState) (F G : Following) (a b : Kept N) → p.at ≤ q.at → ((file : List ℕ) → holds file → IsSeeking file p → IsSeeking file q)
-        → TakenBehind tells disk profile clients_max later records q r F G a b → TakenBehind tells disk profile clients_max holds records p r F G a b
+        → TakenBehind tells disk profile clients_max later records (seek_copy q F a) (seek_copy r G b) → TakenBehind tells disk profile clients_max holds records (seek_copy p F a) (seek_copy r G b)
     taken_after records p q r F G a b le seeks taken = record {
       leads = taken.leads;
       usable = taken.usable;
@@ -128,20 +128,20 @@ module _ (tells : Type 0) {N : Type 0} (disk : N → Disk) (profile : Profile) (
     }
 
     pub behind_after : (result : Result (Unit {0}) CopyLogFault) (p q r : SeekState) (F K G : Following) (a m b : Kept N) → K ≡ F → m ≡ a → p.at ≤ q.at
-        → ((file : List ℕ) → holds file → IsSeeking file p → IsSeeking file q) → TakesBehind tells disk profile clients_max later result q r K G m b
-        → TakesBehind tells disk profile clients_max holds result p r F G a b
+        → ((file : List ℕ) → holds file → IsSeeking file p → IsSeeking file q) → TakesBehind tells disk profile clients_max later result (seek_copy q K m) (seek_copy r G b)
+        → TakesBehind tells disk profile clients_max holds result (seek_copy p F a) (seek_copy r G b)
     behind_after (Ok done) p q r F K G a m b follower journal le seeks (records, taken) = (
       records,
-      subst (λ (H : Following). TakenBehind tells disk profile clients_max holds records p r H G a b) follower
-          (subst (λ (j : Kept N). TakenBehind tells disk profile clients_max holds records p r K G j b) journal
+      subst (λ (H : Following). TakenBehind tells disk profile clients_max holds records (seek_copy p H a) (seek_copy r G b)) follower
+          (subst (λ (j : Kept N). TakenBehind tells disk profile clients_max holds records (seek_copy p K j) (seek_copy r G b)) journal
           (taken_after records p q r K G m b le seeks taken)),
     )
     behind_after (Err fault) p q r F K G a m b follower journal le seeks untaken = untaken_same fault a m b journal untaken
 
     -- what is copied at a place, after what was copied before
-    pub behind_more : (records : List (List ℕ)) (p q r : SeekState) (F G H : Following) (a b c : Kept N) → TakenBehind tells disk profile clients_max holds records p q F G a b
-        → LooksBehind tells disk profile clients_max later (Ok true) q r G H b c
-        → (all : List (List ℕ)) × TakenBehind tells disk profile clients_max holds all p r F H a c
+    pub behind_more : (records : List (List ℕ)) (p q r : SeekState) (F G H : Following) (a b c : Kept N) → TakenBehind tells disk profile clients_max holds records (seek_copy p F a) (seek_copy q G b)
+        → LooksBehind tells disk profile clients_max later (Ok true) (seek_copy q G b) (seek_copy r H c)
+        → (all : List (List ℕ)) × TakenBehind tells disk profile clients_max holds all (seek_copy p F a) (seek_copy r H c)
     behind_more records p q r F G H a b c so_far (more, taken) = (
       records ++ more,
       behind_then holds records more p q r F G H a b c so_far (taken_after more q q r G H b c (omega arith) (λ file of seeking. seeking) taken),
@@ -195,7 +195,7 @@ module _ (tells : Type 0) {N : Type 0} (disk : N → Disk) (profile : Profile) (
 
   module _ (holds : List ℕ → Type 0) (on : LogReadOn) (extent : Extent) (seek : SeekState) (F : Following) (before mid : Kept N) where
     abbrev Through : Result (Unit {0}) CopyLogFault → Type 0
-    Through looked = TakesThrough tells disk profile clients_max holds on looked extent seek F before mid
+    Through looked = TakesThrough tells disk profile clients_max holds (on, looked) extent (seek_copy seek F before) mid
 
     halted_at : (looked : Result (Unit {0}) CopyLogFault) (all : Through looked) → HaltedBy (Ok tt) looked → mid ≡ all.middle
     halted_at (Ok done) all halted = all.ends

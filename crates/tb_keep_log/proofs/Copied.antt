@@ -25,7 +25,7 @@ use Rattle.tb_keep_log.specs.Checking.{IsTornLogStop}
 use Rattle.tb_keep_log.specs.Copying.{StopsCopyBehind, IsUncopied, old_log_part, reads_on}
 use Rattle.tb_keep_log.specs.Keeping.{Leads, item_records}
 use Rattle.tb_keep_log.specs.Rereading.{HasLogCause, IsLogCause, StopsFollowerAt}
-use Rattle.tb_keep_log.specs.private.CopySteps.{log_stop_of, of_old_log, StaysUnread, EndsUnread, StopsAfterRecords, StopsCopyBy, CopiesRecord, TakenOver, HaltsCopy, CopiesNext, CopiesAllRecords, TakesWhole, IsRecordUntaken, TakesPart}
+use Rattle.tb_keep_log.specs.private.CopySteps.{log_stop_of, of_old_log, StaysUnread, EndsUnread, StopsAfterRecords, StopsCopyBy, CopiesRecord, TakenOver, HaltsCopy, CopiesNext, CopiesAllRecords, TakesWhole, IsRecordUntaken, TakesPart, copy_state}
 use Rattle.tb_keep_log.proofs.Entering.{has_log_then, record_cause}
 use Rattle.tb_keep_log.proofs.Leading.{leads_none, leads_one, leads_then}
 
@@ -56,11 +56,11 @@ module _ (profile : Profile) (clients_max : ℕ) where
   pub leads_first : (F T : Following) (some rest : List (List ℕ)) → Leads profile clients_max F (some ++ rest) T → (U : Following) × Leads profile clients_max F some U
   leads_first F T some rest leads = first_by leads.items F T some rest leads.fit leads.answered leads.spelled leads.now
 
--- what was taken
+-- what was copied
 
 module _ (tells : Type 0) {N : Type 0} (disk : N → Disk) (profile : Profile) (clients_max : ℕ) (holds : List ℕ → Type 0) where
   pub taken_none : (place : ScanState) (F : Following) (journal : Kept N) → (tells → Latest (disk journal.device)) → journal.usable ≡ true → (tells → IsReady disk journal)
-      → TakenOver tells disk profile clients_max holds [] place place F F journal journal
+      → TakenOver tells disk profile clients_max holds [] (copy_state place F journal) (copy_state place F journal)
   taken_none place F journal now usable ready = record {
     leads = leads_none profile clients_max F;
     usable = usable;
@@ -68,8 +68,8 @@ module _ (tells : Type 0) {N : Type 0} (disk : N → Disk) (profile : Profile) (
     read = λ file read of has. subst (λ (r : List (List ℕ)). HasRead r file place) (sym (append-nil read)) has;
   }
 
-  pub taken_then : (xs ys : List (List ℕ)) (p q r : ScanState) (F G H : Following) (a b c : Kept N) → TakenOver tells disk profile clients_max holds xs p q F G a b
-      → TakenOver tells disk profile clients_max holds ys q r G H b c → TakenOver tells disk profile clients_max holds (xs ++ ys) p r F H a c
+  pub taken_then : (xs ys : List (List ℕ)) (p q r : ScanState) (F G H : Following) (a b c : Kept N) → TakenOver tells disk profile clients_max holds xs (copy_state p F a) (copy_state q G b)
+      → TakenOver tells disk profile clients_max holds ys (copy_state q G b) (copy_state r H c) → TakenOver tells disk profile clients_max holds (xs ++ ys) (copy_state p F a) (copy_state r H c)
   taken_then xs ys p q r F G H a b c one two = record {
     leads = leads_then profile clients_max F G H xs ys one.leads two.leads;
     usable = two.usable;
@@ -106,7 +106,7 @@ module _ (profile : Profile) (clients_max : ℕ) where
     module _ (holds : List ℕ → Type 0) (first last : ScanState) (F G : Following) (before after : Kept N) where
       pub takes_one : (bytes : List ℕ) → CopiesRecord tells disk profile clients_max (Ok tt) bytes F G before after
           → ((file : List ℕ) (read : List (List ℕ)) → holds file → HasRead read file first → HasRead (read ++ bytes ∷ []) file last)
-          → CopiesNext tells disk profile clients_max holds (Ok true) first last F G before after
+          → CopiesNext tells disk profile clients_max holds (Ok true) (copy_state first F before) (copy_state last G after)
       takes_one bytes takes read = (
         bytes,
         record { leads = leads_one profile clients_max bytes F G takes.0; usable = takes.1; queues = takes.2; read = read },
@@ -114,7 +114,7 @@ module _ (profile : Profile) (clients_max : ℕ) where
 
       pub takes_refused : (fault : CopyLogFault) (bytes : List ℕ) → CopiesRecord tells disk profile clients_max (Err fault) bytes F G before after
           → ((file : List ℕ) (read : List (List ℕ)) → holds file → HasRead read file first → BeginsWith (read ++ bytes ∷ []) file)
-          → CopiesNext tells disk profile clients_max holds (Err fault) first last F G before after
+          → CopiesNext tells disk profile clients_max holds (Err fault) (copy_state first F before) (copy_state last G after)
       takes_refused (Old fault) bytes takes begins = (takes.1, λ file read of has. stops_after fault read F file bytes (begins file read of has) takes.0)
       takes_refused (New fault) bytes takes begins = takes
 
@@ -131,16 +131,16 @@ module _ (profile : Profile) (clients_max : ℕ) where
 
       pub takes_damage : (fault : OpenFault) (new : ScanState) → after ≡ before → IsAt first.end fault
           → ((file : List ℕ) (read : List (List ℕ)) → holds file → HasRead read file first → ReadsNextRecord (Err fault) read file new)
-          → CopiesNext tells disk profile clients_max holds (Err (Old (start.Journal fault))) first last F G before after
+          → CopiesNext tells disk profile clients_max holds (Err (Old (start.Journal fault))) (copy_state first F before) (copy_state last G after)
       takes_damage fault new same place reads =
           (same, λ file read of has. damage_after fault read F file first new has place (reads file read of has))
 
--- one record more, by a device that is still the same
+-- one more record, if the device still has the same file
 
 module _ (tells : Type 0) {N : Type 0} (disk : N → Disk) (profile : Profile) (clients_max : ℕ) (holds later : List ℕ → Type 0) (same : (file : List ℕ) → holds file → later file) where
-  pub taken_on : (records : List (List ℕ)) (first here last : ScanState) (F G H : Following) (before mid after : Kept N) → TakenOver tells disk profile clients_max holds records first here F G before mid
-      → CopiesNext tells disk profile clients_max later (Ok true) here last G H mid after
-      → (all : List (List ℕ)) × TakenOver tells disk profile clients_max holds all first last F H before after
+  pub taken_on : (records : List (List ℕ)) (first here last : ScanState) (F G H : Following) (before mid after : Kept N) → TakenOver tells disk profile clients_max holds records (copy_state first F before) (copy_state here G mid)
+      → CopiesNext tells disk profile clients_max later (Ok true) (copy_state here G mid) (copy_state last H after)
+      → (all : List (List ℕ)) × TakenOver tells disk profile clients_max holds all (copy_state first F before) (copy_state last H after)
   taken_on records first here last F G H before mid after so_far (bytes, next) = (
     records ++ bytes ∷ [],
     taken_then tells disk profile clients_max holds records (bytes ∷ []) first here last F G H before mid after so_far (record {
@@ -157,7 +157,7 @@ module _ (tells : Type 0) {N : Type 0} (disk : N → Disk) (profile : Profile) (
   ends_by (Err (Old fault)) here F mid after ends = (ends.0, λ file read of has. ends.1 file read (same file of) has)
   ends_by (Err (New fault)) here F mid after ends = ends
 
--- why no more were taken
+-- why no more were copied
 
 module _ (profile : Profile) (clients_max : ℕ) (records : List (List ℕ)) (F : Following) (file : List ℕ) where
   torn_behind : (stop : Option LogStartFault) → contents file ≡ Records records → IsTornLogStop stop file → StopsCopyBehind stop profile clients_max records F file
@@ -210,9 +210,9 @@ own_none before after start.NoMemory stop is cause = cause
 own_none before after (start.TornTooLong at bytes) stop is cause = cause
 
 module _ (tells : Type 0) {N : Type 0} (disk : N → Disk) (profile : Profile) (clients_max : ℕ) (holds later : List ℕ → Type 0) (same : (file : List ℕ) → holds file → later file)
-    (reached : Reached) (first : ScanState) (F G : Following) (before mid : Kept N) where
+    (reached : Reached) (first next : ScanState) (F G : Following) (before mid : Kept N) where
   abbrev All : Result (Unit {0}) CopyLogFault → Type 0
-  All taken = CopiesAllRecords tells disk profile clients_max holds reached taken first F G before mid
+  All taken = CopiesAllRecords tells disk profile clients_max holds reached taken (copy_state first F before) (copy_state next G mid)
 
   unread_by : (fault stop : LogStartFault) (last : Following) → log_stop_of (Old fault) ≡ Some stop → StaysUnread (Err (Old fault)) last G → reads_on (Some stop) ≡ true → G ≡ last
   unread_by (start.Journal (open_faults.Refused why)) stop last is unread on = unread
@@ -232,8 +232,8 @@ module _ (tells : Type 0) {N : Type 0} (disk : N → Disk) (profile : Profile) (
   last_by (Err (New fault)) None last unread by on = absurd by
   last_by (Err (New fault)) (Some stop) last unread by on = absurd (cc)
 
-  committed : (records : List (List ℕ)) (here : ScanState) (last : Following) (middle after : Kept N) → TakenOver tells disk profile clients_max holds records first here F last before middle
-      → mid ≡ middle → Puts disk tells (Ok tt) [] mid after → TakenOver tells disk profile clients_max holds records first here F last before after
+  committed : (records : List (List ℕ)) (here : ScanState) (last : Following) (middle after : Kept N) → TakenOver tells disk profile clients_max holds records (copy_state first F before) (copy_state here last middle)
+      → mid ≡ middle → Puts disk tells (Ok tt) [] mid after → TakenOver tells disk profile clients_max holds records (copy_state first F before) (copy_state here last after)
   committed records here last middle after taken is puts = record {
     leads = taken.leads;
     usable = puts.0;
@@ -246,7 +246,7 @@ module _ (tells : Type 0) {N : Type 0} (disk : N → Disk) (profile : Profile) (
   module _ (after : Kept N) (puts : Puts disk tells (Ok tt) [] mid after) (none : after.waiting ≡ []) where
     whole_by : (taken : Result (Unit {0}) CopyLogFault) (stop : Option LogStartFault) (all : All taken) → mid ≡ all.middle → StopsCopyBy (Ok stop) taken later reached.extent
         → ((file : List ℕ) (read : List (List ℕ)) → holds file → HasRead read file first → StopsCopyBehind stop profile clients_max (read ++ all.records) all.last file)
-        → TakesWhole tells disk profile clients_max holds reached stop first F G before after
+        → TakesWhole tells disk profile clients_max holds reached stop (copy_state first F before) (copy_state next G after)
     whole_by taken stop all is by stops = record {
       records = all.records;
       here = all.here;
@@ -261,7 +261,7 @@ module _ (tells : Type 0) {N : Type 0} (disk : N → Disk) (profile : Profile) (
     }
 
     pub behind_done : (taken : Result (Unit {0}) CopyLogFault) (stop : Option LogStartFault) → All taken → StopsCopyBy (Ok stop) taken later reached.extent
-        → TakesWhole tells disk profile clients_max holds reached stop first F G before after
+        → TakesWhole tells disk profile clients_max holds reached stop (copy_state first F before) (copy_state next G after)
     behind_done (Ok done) stop all by =
         whole_by (Ok done) stop all all.ends.0 by
         (λ file read of has.
@@ -292,10 +292,10 @@ module _ (tells : Type 0) {N : Type 0} (disk : N → Disk) (profile : Profile) (
 
   pub behind_uncommitted : (taken : Result (Unit {0}) CopyLogFault) (stop : Option LogStartFault) (f : JournalFault) (fault : CopyLogFault) (after : Kept N) → All taken
       → StopsCopyBy (Ok stop) taken later reached.extent → fault ≡ New (open_faults.Device f) → Puts disk tells (Err f) [] mid after
-      → TakesPart tells disk profile clients_max holds fault first F before after
+      → TakesPart tells disk profile clients_max holds fault (copy_state first F before) (copy_state next G after)
   behind_uncommitted taken stop f fault after all by named breaks =
       let is = journal_at taken stop all by in
-      subst (λ (g : CopyLogFault). TakesPart tells disk profile clients_max holds g first F before after) (sym named) (record {
+      subst (λ (g : CopyLogFault). TakesPart tells disk profile clients_max holds g (copy_state first F before) (copy_state next G after)) (sym named) (record {
         records = all.records;
         here = all.here;
         last = all.last;
@@ -307,7 +307,7 @@ module _ (tells : Type 0) {N : Type 0} (disk : N → Disk) (profile : Profile) (
 
   part_by : (taken : Result (Unit {0}) CopyLogFault) (fault : CopyLogFault) (all : All taken) → IsRecordUntaken tells disk profile clients_max holds fault all.middle mid
       → ((file : List ℕ) (read : List (List ℕ)) → holds file → HasRead read file first → IsUncopied fault file)
-      → TakesPart tells disk profile clients_max holds fault first F before mid
+      → TakesPart tells disk profile clients_max holds fault (copy_state first F before) (copy_state next G mid)
   part_by taken fault all untaken uncopied = record {
     records = all.records;
     here = all.here;
@@ -318,9 +318,9 @@ module _ (tells : Type 0) {N : Type 0} (disk : N → Disk) (profile : Profile) (
     uncopied = uncopied;
   }
 
-  -- the old file is not read on, or the new one was not written to
+  -- the old file could not be read on, or the new one could not be written
   pub behind_not : (taken : Result (Unit {0}) CopyLogFault) (fault : CopyLogFault) → All taken → StopsCopyBy (Err fault) taken later reached.extent
-      → TakesPart tells disk profile clients_max holds fault first F before mid
+      → TakesPart tells disk profile clients_max holds fault (copy_state first F before) (copy_state next G mid)
   behind_not (Ok done) (Old (start.Journal (open_faults.Device f))) all by = part_by (Ok done) (Old (start.Journal (open_faults.Device f))) all all.ends.0 (λ file read of has. tt)
   behind_not (Ok done) (Old (start.Journal (open_faults.Refused why))) all by = absurd by
   behind_not (Ok done) (Old start.Plain) all by = absurd by
@@ -332,12 +332,12 @@ module _ (tells : Type 0) {N : Type 0} (disk : N → Disk) (profile : Profile) (
   behind_not (Ok done) (Old (start.TornTooLong at bytes)) all by = absurd by
   behind_not (Ok done) (New f) all by = absurd by
   behind_not (Err (Old other)) fault all by =
-      subst (λ (g : CopyLogFault). TakesPart tells disk profile clients_max holds g first F before mid) (sym by.0)
+      subst (λ (g : CopyLogFault). TakesPart tells disk profile clients_max holds g (copy_state first F before) (copy_state next G mid)) (sym by.0)
       (part_by (Err (Old other)) (Old other) all all.ends.0
       (λ file read of has.
       other_behind profile clients_max (read ++ all.records) all.last file other by.1 (all.ends.1 file (read ++ all.records) of (all.taken.read file read of has))))
   behind_not (Err (New other)) fault all by =
-      subst (λ (g : CopyLogFault). TakesPart tells disk profile clients_max holds g first F before mid) (sym by.0)
+      subst (λ (g : CopyLogFault). TakesPart tells disk profile clients_max holds g (copy_state first F before) (copy_state next G mid)) (sym by.0)
       (part_by (Err (New other)) (New other) all all.ends (λ file read of has. tt))
 
 -- and the cause, by the old file's device before, after the records, and after the call for its length

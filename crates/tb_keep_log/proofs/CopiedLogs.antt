@@ -24,7 +24,7 @@ use Rattle.tb_keep_log.specs.declared.faults.LogStartFault.{LogStartFault}
 use Rattle.tb_keep_log.specs.declared.faults.LogStartFault.TheVariants as start
 use Rattle.tb_keep_log.specs.Copying.{IsCopied, IsUncopied, HasSomeFirst, MayBeCopied, new_log_part}
 use Rattle.tb_keep_log.specs.Keeping.{Leads}
-use Rattle.tb_keep_log.specs.private.CopySteps.{IsNewJournal, HasWriteCause, TakenOver, TakesWhole, TakesPart}
+use Rattle.tb_keep_log.specs.private.CopySteps.{IsNewJournal, HasWriteCause, TakenOver, TakesWhole, TakesPart, copy_state}
 use Rattle.tb_keep_log.proofs.Copied.{leads_first}
 
 -- after a journal without records
@@ -39,7 +39,7 @@ module _ (tells : Type 0) {N : Type 0} (disk : N → Disk) (profile : Profile) (
       ap (λ (l : List (List ℕ)). (l ++ created.waiting) ++ records) (new.no_records t)
       ∙ ap (λ (l : List (List ℕ)). l ++ records) new.none_waits
 
-  module _ (records : List (List ℕ)) (here : ScanState) (G : Following) (after : Kept N) (taken : TakenOver tells disk profile clients_max holds records first here F G created after) where
+  module _ (records : List (List ℕ)) (here : ScanState) (G : Following) (after : Kept N) (taken : TakenOver tells disk profile clients_max holds records (copy_state first F created) (copy_state here G after)) where
     leading : Leads profile clients_max (begun_following profile clients_max) records G
     leading = subst (λ (K : Following). Leads profile clients_max K records G) is_begun taken.leads
 
@@ -64,9 +64,9 @@ module _ (tells : Type 0) {N : Type 0} (disk : N → Disk) (profile : Profile) (
         (subst (λ (l : List (List ℕ)). LeavesOnly (disk created.device) to (IsBetween [] l)) (lines records t)
         (subst (λ (r : List (List ℕ)). LeavesOnly (disk created.device) to (IsBetween r (line disk created ++ records))) (new.no_records t) leaves))
 
-  pub copied_all : (reached : Reached) (stop : Option LogStartFault) (G : Following) → TakesWhole tells disk profile clients_max holds reached stop first F G created last
+  pub copied_all : (reached : Reached) (stop : Option LogStartFault) (next : ScanState) (G : Following) → TakesWhole tells disk profile clients_max holds reached stop (copy_state first F created) (copy_state next G last)
       → IsCopied tells disk reads profile clients_max (record { journal = last; follower = G; reached = reached; stop = stop })
-  copied_all reached stop G takes = record {
+  copied_all reached stop next G takes = record {
     records = takes.records;
     last = takes.last;
     kept = leading takes.records takes.here takes.last last takes.taken;
@@ -85,30 +85,30 @@ module _ (tells : Type 0) {N : Type 0} (disk : N → Disk) (profile : Profile) (
         record { begins = at.begins; end_is = takes.end ∙ at.end; count_is = takes.count ∙ at.count; stops = takes.stops file [] of.0 of.1 };
   }
 
-  pub moments_whole : (reached : Reached) (stop : Option LogStartFault) (G : Following) → TakesWhole tells disk profile clients_max holds reached stop first F G created last
+  pub moments_whole : (reached : Reached) (stop : Option LogStartFault) (next : ScanState) (G : Following) → TakesWhole tells disk profile clients_max holds reached stop (copy_state first F created) (copy_state next G last)
       → tells → LeavesOnly (disk created.device) (disk last.device) (HasSomeFirst reads profile clients_max)
-  moments_whole reached stop G takes t = all_moments takes.records takes.here takes.last last takes.taken t (disk last.device) (takes.taken.queues t).any_moment
+  moments_whole reached stop next G takes t = all_moments takes.records takes.here takes.last last takes.taken t (disk last.device) (takes.taken.queues t).any_moment
 
-  pub uncopied_part : (fault : CopyLogFault) → TakesPart tells disk profile clients_max holds fault first F created last → (file : List ℕ) → reads file → IsUncopied fault file
-  uncopied_part fault takes file of = takes.uncopied file [] of.0 of.1
+  pub uncopied_part : (fault : CopyLogFault) (next : ScanState) (G : Following) → TakesPart tells disk profile clients_max holds fault (copy_state first F created) (copy_state next G last) → (file : List ℕ) → reads file → IsUncopied fault file
+  uncopied_part fault next G takes file of = takes.uncopied file [] of.0 of.1
 
-  pub moments_part : (fault : CopyLogFault) → TakesPart tells disk profile clients_max holds fault first F created last → tells
+  pub moments_part : (fault : CopyLogFault) (next : ScanState) (G : Following) → TakesPart tells disk profile clients_max holds fault (copy_state first F created) (copy_state next G last) → tells
       → LeavesOnly (disk created.device) (disk last.device) (HasSomeFirst reads profile clients_max)
-  moments_part (Old fault) takes t =
+  moments_part (Old fault) next G takes t =
       subst (λ (j : Kept N). LeavesOnly (disk created.device) (disk j.device) (HasSomeFirst reads profile clients_max)) (sym takes.untaken)
       (all_moments takes.records takes.here takes.last takes.middle takes.taken t (disk takes.middle.device) (takes.taken.queues t).any_moment)
-  moments_part (New fault) takes t =
+  moments_part (New fault) next G takes t =
       all_moments takes.records takes.here takes.last takes.middle takes.taken t (disk last.device)
       (subst (λ (r : List (List ℕ)). LeavesOnly (disk created.device) (disk last.device) (IsBetween (recorded (disk created.device).seen) (line disk created ++ r)))
       (append-nil takes.records) (breaks_then disk created takes.middle last takes.records [] (takes.taken.queues t) takes.untaken.own (takes.untaken.breaks t)).any_moment)
 
-  pub cause_part : (fault : CopyLogFault) → TakesPart tells disk profile clients_max holds fault first F created last → tells
+  pub cause_part : (fault : CopyLogFault) (next : ScanState) (G : Following) → TakesPart tells disk profile clients_max holds fault (copy_state first F created) (copy_state next G last) → tells
       → HasWriteCause (new_log_part fault) (disk created.device) (disk last.device)
-  cause_part (Old fault) takes t = record {
+  cause_part (Old fault) next G takes t = record {
     ok = subst (λ (j : Kept N). FailsNone (disk created.device) (disk j.device)) (sym takes.untaken) (takes.taken.queues t).none;
     cause = tt;
   }
-  cause_part (New fault) takes t = record {
+  cause_part (New fault) next G takes t = record {
     ok = tt;
     cause = record {
       own = takes.untaken.own;
@@ -141,7 +141,7 @@ start_uncopied (open_faults.Device f) file starts refused = tt
 start_uncopied (open_faults.Refused refusals.NotAJournal) file starts refused = starts
 start_uncopied (open_faults.Refused (refusals.Damaged at)) file starts refused = absurd refused
 
--- by another file that the reads are of
+-- for another file that the reads return
 
 module _ (holds less : List ℕ → Type 0) (so : (file : List ℕ) → less file → holds file) (profile : Profile) (clients_max : ℕ) where
   pub ok_of : (tells : Type 0) {N : Type 0} (disk : N → Disk) (result : Result (CopiedLog N) (NotCopiedLog N)) → IfOk result (IsCopied tells disk holds profile clients_max)

@@ -48,7 +48,7 @@ module _ (tells : Type 0) {D : Type 0} (disk : D → Disk) (profile : Profile) (
     committed put = subst (λ (bs : List ℕ). IsPut tells disk (bs ∷ []) old new) own put
 
     pub entered : (result : Result (Unit {0}) KeepLogFault) → CommitsAndAnswers tells disk result bytes held old new start written
-        → EntersEntry tells disk profile clients_max result F G old new before after start written
+        → EntersEntry tells disk profile clients_max result (point F old before start) (point G new after written)
     entered (Ok done) puts = record {
       pairs = ps;
       whole = whole;
@@ -71,7 +71,7 @@ module _ (tells : Type 0) {D : Type 0} (disk : D → Disk) (profile : Profile) (
     is_read : (ps : List Pair) → ReadsWholeEntry tells disk profile clients_max ps F b c → IsItemRead tells disk profile clients_max (Entry ps) (point F old a start) c
     is_read ps whole = record { fit = whole.fit; read = entry_read (content_of ps) whole.read; answered = whole.answered }
 
-    pub entry_turn : KeepsLogEntry tells disk profile clients_max F G old new b c start written
+    pub entry_turn : KeepsLogEntry tells disk profile clients_max (point F old b start) (point G new c written)
         → (item : Item) × ItemTurn tells disk profile clients_max item (point F old a start) (point G new c written)
     entry_turn keeps = (
       Entry keeps.pairs,
@@ -109,7 +109,7 @@ module _ (tells : Type 0) {D : Type 0} (disk : D → Disk) (profile : Profile) (
     }))))
     refused fault (inr (content, read, pairs, inr none)) = inr (inr (inr (inl (halted fault content read pairs none))))
 
-    pub entry_halt : (fault : KeepLogFault) → FailsEntry tells disk profile clients_max fault F old new b c start written
+    pub entry_halt : (fault : KeepLogFault) → FailsEntry tells disk profile clients_max fault (point F old b start) (point G new c written)
         → HaltsServing tells disk profile clients_max (Err fault) (point F old a start) (point G new c written)
     entry_halt (keep.Journal fault) (ps, whole, unput, silent) = record {
       item = Entry ps;

@@ -1,5 +1,5 @@
--- What is written of the entries of a log: of the records behind those that were read, and of the entries that they make, those above a commit
--- number, or all.
+-- What is written of the entries of a log: the entries that the records after those that were read make, those above a commit number, or
+-- all.
 use Rattle.std.specs.Prelude.{ℕ, Bool, true, ◌≡◌, nat_lt, List, [], ◌∷◌, ◌++◌, drop, flat_map, Option, Some, None, Result, Ok, Err, if◌then◌else◌, refl}
 use Rattle.tb_records.specs.declared.limits.Profile.{Profile}
 use Rattle.tb_records.specs.Inputs.{IsTimed}
@@ -21,7 +21,7 @@ use Rattle.tb_keep_log.specs.declared.faults.DumpLogFault.TheVariants as dump
 use Rattle.tb_keep_log.specs.Dumping.{AreTimely, HasLogDumpCause, StopsDump}
 use Rattle.tb_keep_log.specs.Rereading.{fixed_bytes, HasMark}
 
--- an entry of this commit number is written: one above a number, or each
+-- whether an entry of this commit number is written
 abbrev pub is_wanted : Option ℕ → ℕ → Bool
 is_wanted None commit = true
 is_wanted (Some above) commit = nat_lt above commit
@@ -31,7 +31,7 @@ abbrev pub shown : Option ℕ → Entry → List ℕ
 shown None = dumped
 shown (Some above) = λ e. if nat_lt above e.commit then dumped e else []
 
--- pairs with which the contents of the records begin that come behind these in a file
+-- pairs that the contents of the records after these in a file begin with
 pub record AreNext (read : List (List ℕ)) (file : List ℕ) (ps : List Pair) : Type 0 where
   pub records : List (List ℕ)
   pub rest : List ℕ
@@ -40,21 +40,21 @@ pub record AreNext (read : List (List ℕ)) (file : List ℕ) (ps : List Pair) :
   pub fit : Each IsTimed ps
 
 module _ (above : Option ℕ) where
-  -- the entries of pairs went out
+  -- the entries of pairs were written
   pub record DumpsPairs (ps : List Pair) (S T : State) (before after : Output) : Type 0 where
     pub fit : Each IsTimed ps
     pub timely : AreTimely S ps
     pub state : T ≡ state_from S ps
     pub sent : Sent (flat_map (shown above) (entries_from S ps)) before after
 
-  -- what went out before a fault, of pairs that are first in some way
+  -- what was written before a fault: the entries of some first pairs
   abbrev pub HaltsDump : (List Pair → Type 0) → DumpLogFault → State → Output → Output → Type 0
   HaltsDump AreFirst dump.TimeExhausted S before after =
       (ps : List Pair) × (p : Pair) × AreFirst (ps ++ p ∷ []) × IsUntimely (state_from S ps) p × Sent (flat_map (shown above) (entries_from S ps)) before after
   HaltsDump AreFirst dump.Writer S before after = (ps : List Pair) × AreFirst ps × CutOff (flat_map (shown above) (entries_from S ps)) before after
   HaltsDump AreFirst fault S before after = (ps : List Pair) × AreFirst ps × Sent (flat_map (shown above) (entries_from S ps)) before after
 
-  -- these records were read behind others, and the entries of their pairs went out
+  -- these records were read after others, and the entries of their pairs were written
   pub record Dumped (profile : Profile) (clients_max : ℕ) (read : List (List ℕ)) (file : List ℕ) (scan : ScanState) (S T : State) (before after : Output) : Type 0 where
     pub records : List (List ℕ)
     pub pairs : List Pair
@@ -63,22 +63,39 @@ module _ (above : Option ℕ) where
     pub marked : Each (HasMark profile clients_max) records
     pub dumps : DumpsPairs pairs S T before after
 
-  -- all records that are left were read, and the entries of their pairs went out; or why not, and what did
+  -- all records that are left were read, and the entries of their pairs were written; or a fault ended that
   abbrev pub DumpsAll : Result (Unit {0}) DumpLogFault → Profile → ℕ → List (List ℕ) → List ℕ → ScanState → State → State → Output → Output → Type 0
   DumpsAll (Ok done) profile clients_max read file scan S T before after =
       (dumped : Dumped profile clients_max read file scan S T before after) × (contents file ≡ Records (read ++ dumped.records))
   DumpsAll (Err fault) profile clients_max read file scan S T before after = StopsDump fault profile clients_max file × HaltsDump (AreNext read file) fault S before after
 
--- the same by the rules of a file, over a writer
-abbrev pub DumpsAllOver : Option ℕ → Rules → {W : Type 0} → (W → Output) → Result (Unit {0}) DumpLogFault → ScanState → State → State → W → W → List (List ℕ) → List ℕ → Type 0
-DumpsAllOver above rules output result scan S T writer later read file =
-    DumpsAll above result rules.profile rules.clients_max read file scan S T (output writer) (output later)
+-- the rules of a log, and which of its entries are written: those above a commit number, or all
+pub record Selection : Type 0 where
+  pub rules : Rules
+  pub above : Option ℕ
 
--- the cause of a fault, where some records were read before
+abbrev pub selection : Rules → Option ℕ → Selection
+selection rules above = record { rules = rules; above = above }
+
+-- the state after the entries that were read, and what was written, at one moment
+pub record DumpPoint : Type 0 where
+  pub state : State
+  pub sink : Output
+
+abbrev pub dump_point : State → Output → DumpPoint
+dump_point state sink = record { state = state; sink = sink }
+
+-- the records after those that were read were read too, and the wanted entries of their pairs were written; or a fault ended that, and
+-- those of some first pairs were written. The scan is the one after the call
+abbrev pub DumpsRest : Result (Unit {0}) DumpLogFault → Selection → ScanState → DumpPoint → DumpPoint → List (List ℕ) → List ℕ → Type 0
+DumpsRest result wanted scan before after read file =
+    DumpsAll wanted.above result wanted.rules.profile wanted.rules.clients_max read file scan before.state after.state before.sink after.sink
+
+-- the cause of a fault, if some records were read before
 abbrev pub DumpReadCause : {T : Type 0} → Result T DumpLogFault → ScanState → Disk → Disk → Type 0
 DumpReadCause result scan before after = (read : List (List ℕ)) → HasRead read before.seen scan → HasLogDumpCause result before after
 
--- rows
+-- examples
 
 pub the_next_is_wanted : is_wanted (Some 6) 7 ≡ true
 the_next_is_wanted = refl

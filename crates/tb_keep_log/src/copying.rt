@@ -12,7 +12,7 @@ ghost use Rattle.tb_keep.specs.private.Taking.{HoldsRead, Puts};
 ghost use Rattle.tb_keep_log.specs.Copying.{HasNewLogCause, IsCopied, IsUncopied, MayBeCopied, SaysWhyNotCopied, copied_device, reads_on, why_new_log, why_old_log};
 ghost use Rattle.tb_keep_log.specs.Keeping.{By};
 ghost use Rattle.tb_keep_log.specs.Rereading.{HasLogCause};
-ghost use Rattle.tb_keep_log.specs.private.CopySteps.{HasWriteCause, IsNewJournal, LeavesSomeRecords, StaysUnread, StopsCopyBy, CopiesAllRecords, CopiesNext, CopiesRecord, CopiesRest, of_old_log, log_stop_of};
+ghost use Rattle.tb_keep_log.specs.private.CopySteps.{HasWriteCause, IsNewJournal, LeavesSomeRecords, StaysUnread, StopsCopyBy, CopiesAllRecords, CopiesNext, CopiesRecord, CopiesRest, copy_state, of_old_log, log_stop_of};
 ghost use Rattle.tb_keep_log.specs.private.Steps.{LogReadCause};
 
 use crate::checking::{Reached, torn_stop};
@@ -140,7 +140,8 @@ fn take_next<D: Device, N: Device, A: Allocator + Clone>(
 ) -> Result<bool, CopyLogFault>
     requires usable { journal.old.usable ≡ true }
     requires ready { N.tells → IsReady N.disk journal.old }
-    ensures takes { By rules.now (CopiesNext N.tells N.disk) (D.holds from.old) result scan.old scan.new follower.old follower.new journal.old journal.new }
+    ensures takes { By rules.now (CopiesNext N.tells N.disk) (D.holds from.old) result (copy_state scan.old follower.old journal.old)
+        (copy_state scan.new follower.new journal.new) }
     ensures same { OfHeld (D.holds from.old) (D.holds from.new) }
     ensures stays { D.tells → StaysKept (D.disk from.old) (D.disk from.new) }
     ensures cause { D.tells → LogReadCause (of_old_log result) scan.old (D.disk from.old) (D.disk from.new) }
@@ -169,7 +170,8 @@ fn take_all<D: Device, N: Device, A: Allocator + Clone>(
 ) -> (Reached, Result<(), CopyLogFault>)
     requires usable { journal.old.usable ≡ true }
     requires ready { N.tells → IsReady N.disk journal.old }
-    ensures takes { By rules.now (CopiesAllRecords N.tells N.disk) (D.holds from.old) result.0 result.1 scan.old follower.old follower.new journal.old journal.new }
+    ensures takes { By rules.now (CopiesAllRecords N.tells N.disk) (D.holds from.old) result.0 result.1 (copy_state scan.old follower.old journal.old)
+        (copy_state scan.new follower.new journal.new) }
     ensures same { OfHeld (D.holds from.old) (D.holds from.new) }
     ensures stays { D.tells → StaysKept (D.disk from.old) (D.disk from.new) }
     ensures cause { D.tells → LogReadCause (of_old_log result.1) scan.old (D.disk from.old) (D.disk from.new) }
@@ -245,7 +247,8 @@ fn take_rest<D: Device, N: Device, A: Allocator + Clone>(
 ) -> Result<(Reached, Option<LogStartFault>), CopyLogFault>
     requires usable { journal.old.usable ≡ true }
     requires ready { N.tells → IsReady N.disk journal.old }
-    ensures takes { By rules.now (CopiesRest N.tells N.disk) (D.holds from.old) result scan.old follower.old follower.new journal.old journal.new }
+    ensures takes { By rules.now (CopiesRest N.tells N.disk) (D.holds from.old) result (copy_state scan.old follower.old journal.old)
+        (copy_state scan.new follower.new journal.new) }
     ensures same { OfHeld (D.holds from.old) (D.holds from.new) }
     ensures stays { D.tells → StaysKept (D.disk from.old) (D.disk from.new) }
     ensures cause { D.tells → LogReadCause (of_old_log result) scan.old (D.disk from.old) (D.disk from.new) }

@@ -6,7 +6,7 @@ ghost use Rattle.tb_log.specs.Format.{content_max};
 ghost use Rattle.tb_keep.specs.private.Entering.{StaysKept};
 ghost use Rattle.tb_keep.specs.Creating.{IsDiskUntouched};
 ghost use Rattle.tb_keep_log.specs.Dumping.{DumpsBy, HasLogDumpCause, no_pair};
-ghost use Rattle.tb_keep_log.specs.Parts.{DumpsAllOver, DumpReadCause, is_wanted};
+ghost use Rattle.tb_keep_log.specs.Parts.{DumpReadCause, DumpsRest, dump_point, is_wanted, selection};
 ghost use Rattle.tb_keep_log.specs.private.DumpSteps.{SendsOver, DumpsOne, DumpsPairsOf, DumpsRecordOver, DumpsNextOver};
 ghost use Rattle.tb_keep_log.specs.Keeping.{By, OfEachRead, OfUnread};
 
@@ -133,7 +133,8 @@ fn dump_record<W: Sink>(
     bytes: &[u8],
     writer: &mut W,
 ) -> Result<(), DumpLogFault>
-    ensures { DumpsRecordOver above W.output rules.now result last machine.old machine.new bytes.now writer.old writer.new }
+    ensures { DumpsRecordOver result (selection rules.now above) last bytes.now (dump_point machine.old (W.output writer.old))
+        (dump_point machine.new (W.output writer.new)) }
 {
     match check_mark(bytes, rules, last) {
         Ok(_) => dump_content(global, machine, above, &bytes[FIXED_BYTES..], writer),
@@ -151,7 +152,8 @@ fn dump_next<D: Device, W: Sink>(
     device: &mut D,
     writer: &mut W,
 ) -> Result<bool, DumpLogFault>
-    ensures dumps { OfEachRead (D.holds device.old) scan.old (DumpsNextOver above W.output rules.now result scan.new machine.old machine.new writer.old writer.new) }
+    ensures dumps { OfEachRead (D.holds device.old) scan.old (DumpsNextOver result (selection rules.now above) scan.new (dump_point machine.old (W.output writer.old))
+        (dump_point machine.new (W.output writer.new))) }
     ensures same { OfHeld (D.holds device.old) (D.holds device.new) }
     ensures stays { D.tells → StaysKept (D.disk device.old) (D.disk device.new) }
     ensures cause { D.tells → DumpReadCause result scan.old (D.disk device.old) (D.disk device.new) }
@@ -183,7 +185,8 @@ pub fn write_log_entries<D: Device, W: Sink>(
     device: &mut D,
     writer: &mut W,
 ) -> Result<(), DumpLogFault>
-    ensures dumps { OfEachRead (D.holds device.old) scan.old (DumpsAllOver above rules.now W.output result scan.new machine.old machine.new writer.old writer.new) }
+    ensures dumps { OfEachRead (D.holds device.old) scan.old (DumpsRest result (selection rules.now above) scan.new (dump_point machine.old (W.output writer.old))
+        (dump_point machine.new (W.output writer.new))) }
     ensures same { OfHeld (D.holds device.old) (D.holds device.new) }
     ensures stays { D.tells → StaysKept (D.disk device.old) (D.disk device.new) }
     ensures cause { D.tells → DumpReadCause result scan.old (D.disk device.old) (D.disk device.new) }

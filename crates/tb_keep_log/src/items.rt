@@ -1,9 +1,9 @@
 //! The serving of a kept log: an item is read, its record is committed, and then its answer is sent.
 ghost use Rattle.std.specs.Prelude.{◌≡◌, true, false, [], IfOk, IfErr, OnOk, OnErr};
 ghost use Rattle.tb_journal.specs.Ready.{IsReady};
-ghost use Rattle.tb_keep_log.specs.Keeping.{IsUsableLog};
-ghost use Rattle.tb_keep_log.specs.Items.{KeepsLog};
-ghost use Rattle.tb_keep_log.specs.private.Steps.{TakesFrom, MissesFrom, PassesBytesOn, AnswersStanding, PutsRecord, CommitsAndAnswers, EntersEntryOn, NextOn, ServedOn};
+ghost use Rattle.tb_keep_log.specs.Keeping.{By, IsUsableLog};
+ghost use Rattle.tb_keep_log.specs.Items.{KeepsLog, ServesSomeItems, point};
+ghost use Rattle.tb_keep_log.specs.private.Steps.{TakesFrom, MissesFrom, PassesBytesOn, AnswersStanding, PutsRecord, CommitsAndAnswers, EntersEntry, ServesNextItem};
 
 use crate::entries::serve_entry;
 use crate::faults::KeepLogFault;
@@ -76,7 +76,7 @@ fn put<D: Device>(journal: &mut Journal<D>, bytes: &[u8]) -> Result<(), JournalF
     }
 }
 
-/// Commits the record of an entry, and then sends its answers.
+/// Commits the record of an entry, and then sends its replies.
 fn commit_and_reply<D: Device, W: Sink>(
     journal: &mut Journal<D>,
     bytes: &[u8],
@@ -107,7 +107,8 @@ fn keep_entry<D: Device, A: Allocator + Clone, R: Source, W: Sink>(
     requires usable { journal.old.usable ≡ true }
     requires none_waits { journal.old.waiting ≡ [] }
     requires ready { D.tells → IsReady D.disk journal.old }
-    ensures { EntersEntryOn D.Device R.input W.output rules.now result follower.old journal.old reader.old writer.old follower.new journal.new reader.new writer.new }
+    ensures { By rules.now (EntersEntry D.tells D.disk) result (point follower.old journal.old (R.input reader.old) (W.output writer.old))
+        (point follower.new journal.new (R.input reader.new) (W.output writer.new)) }
 {
     match take_entry(global, follower, reader) {
         Ok((content, held)) => match record_of(global, rules, follower, &content) {
@@ -130,7 +131,8 @@ fn keep_next<D: Device, A: Allocator + Clone, R: Source, W: Sink>(
     requires usable { journal.old.usable ≡ true }
     requires none_waits { journal.old.waiting ≡ [] }
     requires ready { D.tells → IsReady D.disk journal.old }
-    ensures next { NextOn D.Device R.input W.output rules.now result follower.old journal.old reader.old writer.old follower.new journal.new reader.new writer.new }
+    ensures next { By rules.now (ServesNextItem D.tells D.disk) result (point follower.old journal.old (R.input reader.old) (W.output writer.old))
+        (point follower.new journal.new (R.input reader.new) (W.output writer.new)) }
     ensures usable { OnOk result (journal.new.usable ≡ true) }
     ensures none_waits { OnOk result (journal.new.waiting ≡ []) }
     ensures ready { D.tells → OnOk result (IsReady D.disk journal.new) }
@@ -162,7 +164,8 @@ fn keep_all<D: Device, A: Allocator + Clone, R: Source, W: Sink>(
     requires usable { journal.old.usable ≡ true }
     requires none_waits { journal.old.waiting ≡ [] }
     requires ready { D.tells → IsReady D.disk journal.old }
-    ensures served { ServedOn D.Device R.input W.output rules.now result follower.old journal.old reader.old writer.old follower.new journal.new reader.new writer.new }
+    ensures served { By rules.now (ServesSomeItems D.tells D.disk) result (point follower.old journal.old (R.input reader.old) (W.output writer.old))
+        (point follower.new journal.new (R.input reader.new) (W.output writer.new)) }
     ensures usable { OnOk result (journal.new.usable ≡ true) }
     ensures none_waits { OnOk result (journal.new.waiting ≡ []) }
     ensures ready { D.tells → OnOk result (IsReady D.disk journal.new) }

@@ -7,7 +7,7 @@ ghost use Rattle.tb_keep.specs.Creating.{IsDiskUntouched};
 ghost use Rattle.tb_keep.specs.private.Entering.{StaysKept};
 ghost use Rattle.tb_keep_log.specs.Keeping.{By};
 ghost use Rattle.tb_keep_log.specs.ReadingOn.{HasLog, HasLongerLog, IsLogReadOn};
-ghost use Rattle.tb_keep_log.specs.private.BehindDamage.{HaltedBy, LooksBehind, StaysOrTakes, TakesBehind, TakesStanding, TakesThrough};
+ghost use Rattle.tb_keep_log.specs.private.BehindDamage.{HaltedBy, LooksBehind, StaysOrTakes, TakesBehind, TakesStanding, TakesThrough, seek_copy};
 
 use crate::checking::Reached;
 use crate::copying::{commit_waiting, new_fault, stop_of, take_record};
@@ -133,7 +133,8 @@ fn take_standing<D: Device, N: Device, A: Allocator + Clone>(
     requires near { seek.old.at < 2 ^ 62 }
     requires some { 0 < len }
     requires short { len < 2 ^ 24 }
-    ensures takes { By rules.now (TakesStanding N.tells N.disk) (D.holds from.old) result seek.old seek.new len follower.old follower.new journal.old journal.new }
+    ensures takes { By rules.now (TakesStanding N.tells N.disk) (D.holds from.old) result len (seek_copy seek.old follower.old journal.old)
+        (seek_copy seek.new follower.new journal.new) }
     ensures same { OfHeld (D.holds from.old) (D.holds from.new) }
     ensures stays { D.tells → StaysKept (D.disk from.old) (D.disk from.new) }
     ensures at { OnOk result (seek.new.at ≡ seek.old.at) }
@@ -181,7 +182,8 @@ fn take_or_stay<D: Device, N: Device, A: Allocator + Clone>(
     requires near { seek.old.at < 2 ^ 62 }
     requires some { 0 < len }
     requires short { len < 2 ^ 24 }
-    ensures takes { By rules.now (StaysOrTakes N.tells N.disk) (D.holds from.old) result seek.old seek.new follower.old follower.new journal.old journal.new }
+    ensures takes { By rules.now (StaysOrTakes N.tells N.disk) (D.holds from.old) result (seek_copy seek.old follower.old journal.old)
+        (seek_copy seek.new follower.new journal.new) }
     ensures same { OfHeld (D.holds from.old) (D.holds from.new) }
     ensures stays { D.tells → StaysKept (D.disk from.old) (D.disk from.new) }
     ensures further { OnOk result (seek.old.at ≤ seek.new.at) }
@@ -210,7 +212,8 @@ fn take_paired<D: Device, N: Device, A: Allocator + Clone>(
     requires usable { journal.old.usable ≡ true }
     requires ready { N.tells → IsReady N.disk journal.old }
     requires near { seek.old.at < 2 ^ 62 }
-    ensures takes { By rules.now (TakesBehind N.tells N.disk) (D.holds from.old) result seek.old seek.new follower.old follower.new journal.old journal.new }
+    ensures takes { By rules.now (TakesBehind N.tells N.disk) (D.holds from.old) result (seek_copy seek.old follower.old journal.old)
+        (seek_copy seek.new follower.new journal.new) }
     ensures same { OfHeld (D.holds from.old) (D.holds from.new) }
     ensures stays { D.tells → StaysKept (D.disk from.old) (D.disk from.new) }
     ensures further { OnOk result (seek.old.at ≤ seek.new.at) }
@@ -240,7 +243,8 @@ fn take_named<D: Device, N: Device, A: Allocator + Clone>(
     requires usable { journal.old.usable ≡ true }
     requires ready { N.tells → IsReady N.disk journal.old }
     requires near { seek.old.at + 3 < 2 ^ 62 }
-    ensures takes { By rules.now (TakesBehind N.tells N.disk) (D.holds from.old) result seek.old seek.new follower.old follower.new journal.old journal.new }
+    ensures takes { By rules.now (TakesBehind N.tells N.disk) (D.holds from.old) result (seek_copy seek.old follower.old journal.old)
+        (seek_copy seek.new follower.new journal.new) }
     ensures further { OnOk result (seek.old.at < seek.new.at) }
     ensures same { OfHeld (D.holds from.old) (D.holds from.new) }
     ensures stays { D.tells → StaysKept (D.disk from.old) (D.disk from.new) }
@@ -267,7 +271,8 @@ fn look_here<D: Device, N: Device, A: Allocator + Clone>(
     requires usable { journal.old.usable ≡ true }
     requires ready { N.tells → IsReady N.disk journal.old }
     requires near { seek.old.at + 3 < 2 ^ 62 }
-    ensures takes { By rules.now (TakesBehind N.tells N.disk) (D.holds from.old) result seek.old seek.new follower.old follower.new journal.old journal.new }
+    ensures takes { By rules.now (TakesBehind N.tells N.disk) (D.holds from.old) result (seek_copy seek.old follower.old journal.old)
+        (seek_copy seek.new follower.new journal.new) }
     ensures further { OnOk result (seek.old.at < seek.new.at) }
     ensures same { OfHeld (D.holds from.old) (D.holds from.new) }
     ensures stays { D.tells → StaysKept (D.disk from.old) (D.disk from.new) }
@@ -292,7 +297,8 @@ fn look_on<D: Device, N: Device, A: Allocator + Clone>(
 ) -> Result<bool, CopyLogFault>
     requires usable { journal.old.usable ≡ true }
     requires ready { N.tells → IsReady N.disk journal.old }
-    ensures looks { By rules.now (LooksBehind N.tells N.disk) (D.holds from.old) result seek.old seek.new follower.old follower.new journal.old journal.new }
+    ensures looks { By rules.now (LooksBehind N.tells N.disk) (D.holds from.old) result (seek_copy seek.old follower.old journal.old)
+        (seek_copy seek.new follower.new journal.new) }
     ensures further { IfOk result (λ more. more ≡ true → (seek.old.at < 2 ^ 62) × (seek.old.at < seek.new.at)) }
     ensures same { OfHeld (D.holds from.old) (D.holds from.new) }
     ensures stays { D.tells → StaysKept (D.disk from.old) (D.disk from.new) }
@@ -327,7 +333,7 @@ fn look_through<D: Device, N: Device, A: Allocator + Clone>(
 ) -> (LogReadOn, Result<(), CopyLogFault>)
     requires usable { journal.old.usable ≡ true }
     requires ready { N.tells → IsReady N.disk journal.old }
-    ensures takes { By rules.now (TakesThrough N.tells N.disk) (D.holds from.old) result.0 result.1 extent seek.old follower.old journal.old journal.new }
+    ensures takes { By rules.now (TakesThrough N.tells N.disk) (D.holds from.old) result extent (seek_copy seek.old follower.old journal.old) journal.new }
     ensures same { OfHeld (D.holds from.old) (D.holds from.new) }
     ensures stays { D.tells → StaysKept (D.disk from.old) (D.disk from.new) }
 {

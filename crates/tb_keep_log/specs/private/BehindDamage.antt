@@ -1,4 +1,4 @@
--- The steps by which records of a log behind damage are taken over: for private functions alone.
+-- The steps that copy the records of a log after damage. Only contracts of private functions use them.
 use Rattle.std.specs.Prelude.{ℕ, Bool, true, false, ◌≡◌, List, length, Result, Ok, Err}
 use Rattle.tb_records.specs.declared.limits.Profile.{Profile}
 use Rattle.tb_journal.specs.declared.reading.Extent.{Extent}
@@ -15,7 +15,7 @@ use Rattle.tb_keep_log.specs.Checking.{reached_by}
 use Rattle.tb_keep_log.specs.Keeping.{Leads}
 use Rattle.tb_keep_log.specs.private.CopySteps.{IsRecordUntaken, CopiesRecord}
 
--- a record that is refused ends the reading, and any other fault stays one
+-- a refused record ends the reading, and any other fault stays a fault
 abbrev pub HaltedBy : Result (Unit {0}) CopyLogFault → Result (Unit {0}) CopyLogFault → Type 0
 HaltedBy (Ok done) (Ok all) = Unit {0}
 HaltedBy (Ok done) (Err (Old fault)) = Unit {0}
@@ -23,53 +23,64 @@ HaltedBy (Ok done) (Err (New fault)) = ⊥
 HaltedBy (Err other) (Ok all) = ⊥
 HaltedBy (Err other) (Err fault) = other ≡ fault
 
+-- what reading on works on, at one moment: the seek in the old file, the follower, and the journal of the new file
+pub record SeekCopy (N : Type 0) : Type 0 where
+  pub seek : SeekState
+  pub now : Following
+  pub journal : Kept N
+
+abbrev pub seek_copy : {N : Type 0} → SeekState → Following → Kept N → SeekCopy N
+seek_copy seek now journal = record { seek = seek; now = now; journal = journal }
+
 module _ (tells : Type 0) {N : Type 0} (disk : N → Disk) (profile : Profile) (clients_max : ℕ) (holds : List ℕ → Type 0) where
   -- a seek stayed at its place, and may have read ahead
   abbrev pub SeekStays : SeekState → SeekState → Type 0
   SeekStays first here = (here.at ≡ first.at) × ((file : List ℕ) → holds file → IsSeeking file first → IsSeeking file here)
 
-  -- these records were taken over, and a seek is behind them that was at a place before
-  pub record TakenBehind (records : List (List ℕ)) (first here : SeekState) (F G : Following) (before after : Kept N) : Type 0 where
-    pub leads : Leads profile clients_max F records G
-    pub usable : after.usable ≡ true
-    pub queues : tells → Queues disk records before after
-    pub stand : (file : List ℕ) → holds file → IsSeeking file first → StandBetween first.at records here.at file × IsSeeking file here
+  -- these records were copied, and the seek is after them
+  pub record TakenBehind (records : List (List ℕ)) (before after : SeekCopy N) : Type 0 where
+    pub leads : Leads profile clients_max before.now records after.now
+    pub usable : after.journal.usable ≡ true
+    pub queues : tells → Queues disk records before.journal after.journal
+    pub stand : (file : List ℕ) → holds file → IsSeeking file before.seek → StandBetween before.seek.at records after.seek.at file × IsSeeking file after.seek
 
-  -- the record of so many bytes at the place of a seek was taken over; or there is none; or it is refused, or nothing more is written
-  abbrev pub TakesStanding : Result Bool CopyLogFault → SeekState → SeekState → ℕ → Following → Following → Kept N → Kept N → Type 0
-  TakesStanding (Ok true) first here len F G before after =
-      (bytes : List ℕ) × (length bytes ≡ len) × CopiesRecord tells disk profile clients_max (Ok tt) bytes F G before after × (here.at ≡ first.at)
-      × ((file : List ℕ) → holds file → IsSeeking file first → StandsAt first.at bytes file × IsSeeking file here)
-  TakesStanding (Ok false) first here len F G before after = (G ≡ F) × (after ≡ before) × SeekStays first here
-  TakesStanding (Err fault) first here len F G before after = IsRecordUntaken tells disk profile clients_max holds fault before after
+  -- the record of this length at the place of a seek was copied, or there is none; after a fault nothing more is written
+  abbrev pub TakesStanding : Result Bool CopyLogFault → ℕ → SeekCopy N → SeekCopy N → Type 0
+  TakesStanding (Ok true) len before after =
+      (bytes : List ℕ) × (length bytes ≡ len) × CopiesRecord tells disk profile clients_max (Ok tt) bytes before.now after.now before.journal after.journal
+      × (after.seek.at ≡ before.seek.at)
+      × ((file : List ℕ) → holds file → IsSeeking file before.seek → StandsAt before.seek.at bytes file × IsSeeking file after.seek)
+  TakesStanding (Ok false) len before after = (after.now ≡ before.now) × (after.journal ≡ before.journal) × SeekStays before.seek after.seek
+  TakesStanding (Err fault) len before after = IsRecordUntaken tells disk profile clients_max holds fault before.journal after.journal
 
-  -- the same, and the seek is behind the record
-  abbrev pub StaysOrTakes : Result Bool CopyLogFault → SeekState → SeekState → Following → Following → Kept N → Kept N → Type 0
-  StaysOrTakes (Ok true) first here F G before after = (records : List (List ℕ)) × TakenBehind records first here F G before after
-  StaysOrTakes (Ok false) first here F G before after = (G ≡ F) × (after ≡ before) × SeekStays first here
-  StaysOrTakes (Err fault) first here F G before after = IsRecordUntaken tells disk profile clients_max holds fault before after
+  -- records were copied, and the seek is after them; or there is none here, and the seek stays
+  abbrev pub StaysOrTakes : Result Bool CopyLogFault → SeekCopy N → SeekCopy N → Type 0
+  StaysOrTakes (Ok true) before after = (records : List (List ℕ)) × TakenBehind records before after
+  StaysOrTakes (Ok false) before after = (after.now ≡ before.now) × (after.journal ≡ before.journal) × SeekStays before.seek after.seek
+  StaysOrTakes (Err fault) before after = IsRecordUntaken tells disk profile clients_max holds fault before.journal after.journal
 
-  -- some were taken over, or none; at a fault none
-  abbrev pub TakesBehind : Result (Unit {0}) CopyLogFault → SeekState → SeekState → Following → Following → Kept N → Kept N → Type 0
-  TakesBehind (Ok done) first here F G before after = (records : List (List ℕ)) × TakenBehind records first here F G before after
-  TakesBehind (Err fault) first here F G before after = IsRecordUntaken tells disk profile clients_max holds fault before after
+  -- any number of records was copied; after a fault nothing more is written
+  abbrev pub TakesBehind : Result (Unit {0}) CopyLogFault → SeekCopy N → SeekCopy N → Type 0
+  TakesBehind (Ok done) before after = (records : List (List ℕ)) × TakenBehind records before after
+  TakesBehind (Err fault) before after = IsRecordUntaken tells disk profile clients_max holds fault before.journal after.journal
 
-  -- nothing more is taken over: the file ends, or a record is refused, or nothing more is written
+  -- nothing more is copied: the file ends, or a record is refused, or nothing more is written
   abbrev pub HaltsBehind : Result (Unit {0}) CopyLogFault → Kept N → Kept N → Type 0
   HaltsBehind (Ok done) before after = after ≡ before
   HaltsBehind (Err fault) before after = IsRecordUntaken tells disk profile clients_max holds fault before after
 
-  abbrev pub LooksBehind : Result Bool CopyLogFault → SeekState → SeekState → Following → Following → Kept N → Kept N → Type 0
-  LooksBehind (Ok true) first here F G before after = TakesBehind (Ok tt) first here F G before after
-  LooksBehind (Ok false) first here F G before after = HaltsBehind (Ok tt) before after
-  LooksBehind (Err fault) first here F G before after = HaltsBehind (Err fault) before after
+  -- one step at the place of a seek: false at the end of the file
+  abbrev pub LooksBehind : Result Bool CopyLogFault → SeekCopy N → SeekCopy N → Type 0
+  LooksBehind (Ok true) before after = TakesBehind (Ok tt) before after
+  LooksBehind (Ok false) before after = HaltsBehind (Ok tt) before.journal after.journal
+  LooksBehind (Err fault) before after = HaltsBehind (Err fault) before.journal after.journal
 
-  -- all records up to a place were taken over, and no more
-  pub record TakesThrough (on : LogReadOn) (result : Result (Unit {0}) CopyLogFault) (extent : Extent) (first : SeekState) (F : Following) (before after : Kept N) : Type 0 where
+  -- all records up to a place were copied, and no more: how far that is, and how it ended
+  pub record TakesThrough (looked : LogReadOn × Result (Unit {0}) CopyLogFault) (extent : Extent) (before : SeekCopy N) (after : Kept N) : Type 0 where
     pub records : List (List ℕ)
     pub here : SeekState
     pub last : Following
     pub middle : Kept N
-    pub taken : TakenBehind records first here F last before middle
-    pub reached_is : on.reached ≡ reached_by last extent
-    pub ends : HaltsBehind result middle after
+    pub taken : TakenBehind records before (seek_copy here last middle)
+    pub reached_is : looked.0.reached ≡ reached_by last extent
+    pub ends : HaltsBehind looked.1 middle after

@@ -1,4 +1,4 @@
--- The steps of a dump: for private functions alone.
+-- The steps of a dump. Only contracts of private functions use them.
 use Rattle.std.specs.Prelude.{ℕ, Bool, true, false, ◌≡◌, ◌⊎◌, List, [], ◌∷◌, ◌++◌, drop, flat_map, Option, Result, Ok, Err}
 use Rattle.tb_records.specs.declared.limits.Profile.{Profile}
 use Rattle.tb_records.specs.Inputs.{IsTimed}
@@ -15,9 +15,8 @@ use Rattle.tb_keep.specs.Rounds.{entered}
 use Rattle.tb_keep_log.specs.declared.faults.DumpLogFault.{DumpLogFault}
 use Rattle.tb_keep_log.specs.declared.faults.DumpLogFault.TheVariants as dump
 use Rattle.tb_keep_log.specs.Dumping.{HasNoPair, StopsRecord, StopsDump}
-use Rattle.tb_keep_log.specs.Parts.{AreNext, DumpsPairs, HaltsDump, shown}
+use Rattle.tb_keep_log.specs.Parts.{AreNext, DumpPoint, DumpsPairs, HaltsDump, Selection, shown}
 use Rattle.tb_keep_log.specs.Rereading.{fixed_bytes, HasMark}
-use Rattle.tb_keep.specs.declared.recovering.Rules.{Rules}
 
 -- pairs with which a content begins
 pub record AreFront (content : List ℕ) (ps : List Pair) : Type 0 where
@@ -32,14 +31,14 @@ StopsContent dump.NoPairs content = HasNoPair content
 StopsContent fault content = Unit {0}
 
 module _ (above : Option ℕ) where
-  -- an entry went out, if it is wanted; or not
+  -- an entry was written, if it is wanted; or a fault ended that
   abbrev pub SendsShown : Result (Unit {0}) DumpLogFault → Entry → Output → Output → Type 0
   SendsShown (Ok done) e before after = Sent (shown above e) before after
   SendsShown (Err dump.NoMemory) e before after = after ≡ before
   SendsShown (Err dump.Writer) e before after = CutOff (shown above e) before after
   SendsShown (Err fault) e before after = ⊥
 
-  -- the entry of a pair went out, if it makes one that is wanted; or not
+  -- the entry of a pair was written, if the pair makes one that is wanted; or a fault ended that
   abbrev pub DumpsWantedPair : Result (Unit {0}) DumpLogFault → State → State → Pair → Output → Output → Type 0
   DumpsWantedPair (Ok done) S T p before after = IsTimely S p × (T ≡ after_pair S p) × Sent (flat_map (shown above) (entered S p)) before after
   DumpsWantedPair (Err dump.TimeExhausted) S T p before after = IsUntimely S p × (after ≡ before)
@@ -66,7 +65,7 @@ module _ (above : Option ℕ) where
   DumpsNextRecord (Err fault) profile clients_max read file scan S T before after =
       StopsDump fault profile clients_max file × HaltsDump above (AreNext read file) fault S before after
 
-  -- the same of one entry, of one pair, and of the pairs of a content, over a writer
+  -- the same of one entry, of one pair, and of the pairs of a content, with a writer
   module _ {W : Type 0} (output : W → Output) where
     abbrev pub SendsOver : Result (Unit {0}) DumpLogFault → Entry → W → W → Type 0
     SendsOver result e writer later = SendsShown result e (output writer) (output later)
@@ -77,9 +76,11 @@ module _ (above : Option ℕ) where
     abbrev pub DumpsPairsOf : Result (Unit {0}) DumpLogFault → State → State → List ℕ → W → W → Type 0
     DumpsPairsOf result S T content writer later = DumpsContent result S T content (output writer) (output later)
 
-    -- and by the rules of a file
-    abbrev pub DumpsNextOver : Rules → Result Bool DumpLogFault → ScanState → State → State → W → W → List (List ℕ) → List ℕ → Type 0
-    DumpsNextOver rules result scan S T writer later read file = DumpsNextRecord result rules.profile rules.clients_max read file scan S T (output writer) (output later)
+-- the same of one record, and of the next record of a file, by a selection
+abbrev pub DumpsRecordOver : Result (Unit {0}) DumpLogFault → Selection → ℕ → List ℕ → DumpPoint → DumpPoint → Type 0
+DumpsRecordOver result wanted last bytes before after =
+    DumpsRecord wanted.above result wanted.rules.profile wanted.rules.clients_max last before.state after.state bytes before.sink after.sink
 
-    abbrev pub DumpsRecordOver : Rules → Result (Unit {0}) DumpLogFault → ℕ → State → State → List ℕ → W → W → Type 0
-    DumpsRecordOver rules result last S T bytes writer later = DumpsRecord result rules.profile rules.clients_max last S T bytes (output writer) (output later)
+abbrev pub DumpsNextOver : Result Bool DumpLogFault → Selection → ScanState → DumpPoint → DumpPoint → List (List ℕ) → List ℕ → Type 0
+DumpsNextOver result wanted scan before after read file =
+    DumpsNextRecord wanted.above result wanted.rules.profile wanted.rules.clients_max read file scan before.state after.state before.sink after.sink

@@ -1,9 +1,8 @@
--- The steps of reading and of serving: for private functions alone.
+-- The steps of reading and of serving. Only contracts of private functions use them.
 use Rattle.std.specs.Prelude.{ℕ, Bool, true, false, ◌≡◌, ◌⊎◌, List, [], ◌∷◌, ◌++◌, Result, Ok, Err, OnOk, IfErr, Vec}
 use Rattle.std.specs.declared.alloc.Global.{Global}
 use Rattle.tb_records.specs.declared.limits.Profile.{Profile}
 use Rattle.tb_records.specs.Transport.{Input, Output, Sent, CutOff}
-use Rattle.tb_journal.specs.declared.devices.Device as devices
 use Rattle.tb_journal.specs.declared.faults.JournalFault.{JournalFault}
 use Rattle.tb_journal.specs.declared.faults.JournalFault.TheVariants.{NotEmpty}
 use Rattle.tb_journal.specs.declared.opening.OpenFault.TheVariants as open_faults
@@ -34,9 +33,9 @@ use Rattle.tb_keep_log.specs.declared.beginning.NotStarted.{NotStarted}
 use Rattle.tb_keep_log.specs.Keeping.{By, IsUsableLog, LogKeeping, KeepsLogRecords, Leads, record_bytes, record_of}
 use Rattle.tb_keep_log.specs.Rereading.{EntersRecord, HasLogCause, IsHaltedContent, IsFollowerRestored, StopsFollowerAt}
 use Rattle.tb_keep_log.specs.Beginning.{IsCreatedCause, IsNotOfLog}
-use Rattle.tb_keep_log.specs.Items.{Point, ItemTurn, HaltsServing, point, ServesSomeItems}
+use Rattle.tb_keep_log.specs.Items.{Point, ItemTurn, HaltsServing}
 
--- a writer into memory fails only when out of memory
+-- a writer into memory fails only if an allocation fails
 abbrev pub in_memory : LogFault → LogFault
 in_memory log.Device = log.NoMemory
 in_memory fault = fault
@@ -46,7 +45,7 @@ abbrev pub of_log : LogFault → LogStartFault
 of_log log.NoMemory = start.NoMemory
 of_log fault = start.Entry fault
 
--- the pairs of a content were served, and their answers are held
+-- the pairs of a content were served, and the replies are held
 pub record HoldsEntry (content held : List ℕ) (F G : Following) : Type 0 where
   pub pairs : List Pair
   pub spelled : content ≡ content_of pairs
@@ -55,7 +54,7 @@ pub record HoldsEntry (content held : List ℕ) (F G : Following) : Type 0 where
   pub now : G ≡ with_item F (Entry pairs)
   pub holds : held ≡ given_to F (Entry pairs)
 
--- or they are not: there is no memory, or one that is new has no time
+-- or they were not: an allocation failed, or there is no time for a new pair
 abbrev pub DropsEntry : LogFault → List ℕ → Following → Type 0
 DropsEntry fault content F = (fault ≡ log.NoMemory) ⊎ IsHaltedContent fault F content
 
@@ -65,7 +64,7 @@ abbrev pub FollowsRecord : Result (Unit {0}) LogStartFault → Profile → ℕ �
 FollowsRecord (Ok done) profile clients_max bytes F G = EntersRecord profile clients_max bytes F G
 FollowsRecord (Err fault) profile clients_max bytes F G = StopsFollowerAt fault profile clients_max F bytes
 
--- behind the records that were read one more was read and entered, or there is none
+-- after the records that were read one more was read and entered, or there is no more
 abbrev pub FollowsNextRecord : Result Bool LogStartFault → Profile → ℕ → List (List ℕ) → List ℕ → ScanState → Following → Following → Type 0
 FollowsNextRecord (Ok true) profile clients_max read file after F G =
     (bytes : List ℕ) × HasRead (read ++ bytes ∷ []) file after × EntersRecord profile clients_max bytes F G
@@ -80,7 +79,7 @@ pub record Entered (profile : Profile) (clients_max : ℕ) (read : List (List �
   pub has : HasRead (read ++ records) file scan
   pub leads : Leads profile clients_max F records G
 
--- behind some of them one is refused
+-- some were, and the next record is refused
 pub record EntersSome (fault : LogStartFault) (profile : Profile) (clients_max : ℕ) (read : List (List ℕ)) (file : List ℕ) (F : Following) : Type 0 where
   pub records : List (List ℕ)
   pub bytes : List ℕ
@@ -89,7 +88,7 @@ pub record EntersSome (fault : LogStartFault) (profile : Profile) (clients_max :
   pub leads : Leads profile clients_max F records here
   pub stops : StopsFollowerAt fault profile clients_max here bytes
 
--- all records behind those that were read, or those before the first one that is refused
+-- all records after those that were read, or those before the first one that is refused
 abbrev pub FollowsAllRecords : Result (Unit {0}) LogStartFault → Profile → ℕ → List (List ℕ) → List ℕ → ScanState → Following → Following → Type 0
 FollowsAllRecords (Ok done) profile clients_max read file after F G =
     (entered : Entered profile clients_max read file after F G) × (contents file ≡ Records (read ++ entered.records))
@@ -98,18 +97,18 @@ FollowsAllRecords (Err fault) profile clients_max read file after F G = EntersSo
 
 -- serving
 
--- an entry was read behind its kind, and its pairs were served in memory
+-- an entry was read after its kind, and its pairs were served in memory
 pub record TakesLogEntry (content held : List ℕ) (F G : Following) (before after : Input) : Type 0 where
   pub read : ReadsEntry content F.position before after
   pub holds : HoldsEntry content held F G
 
--- or not
+-- or the entry is refused, or its pairs could not be served
 abbrev pub MissesEntry : LogFault → Following → Input → Input → Type 0
 MissesEntry fault F before after =
     RefusesEntry fault F.position before after
     ⊎ ((content : List ℕ) × ReadsEntry content F.position before after × IsPairs content × DropsEntry fault content F)
 
--- the same over a reader
+-- the same with a reader
 module _ {R : Type 0} (input : R → Input) where
   abbrev pub TakesFrom : Following → Following → R → R → Vec ℕ Global × Vec ℕ Global → Type 0
   TakesFrom F G reader rest taken = TakesLogEntry taken.0.items taken.1.items F G (input reader) (input rest)
@@ -117,13 +116,13 @@ module _ {R : Type 0} (input : R → Input) where
   abbrev pub MissesFrom : Following → R → R → LogFault → Type 0
   MissesFrom F reader rest fault = MissesEntry fault F (input reader) (input rest)
 
--- bytes were sent, and passed on, or the writer failed and left a prefix of them
+-- all bytes were sent and passed on, or the writer failed after a prefix of them
 abbrev pub PassesBytesOn : Result (Unit {0}) KeepLogFault → List ℕ → Output → Output → Type 0
 PassesBytesOn (Ok done) bytes before after = Sent bytes before after × (after.held ≡ false)
 PassesBytesOn (Err (keep.Log fault)) bytes before after = (fault ≡ log.Device) × CutOff bytes before after
 PassesBytesOn (Err fault) bytes before after = ⊥
 
--- a question was answered, and the answer passed on
+-- the answer to a question was written and passed on
 abbrev pub AnswersStanding : Result (Unit {0}) LogFault → Following → Output → Output → Type 0
 AnswersStanding (Ok done) F before after = WritesStanding (Ok tt) F before after × (after.held ≡ false)
 AnswersStanding (Err fault) F before after = WritesStanding (Err fault) F before after
@@ -136,7 +135,7 @@ module _ (tells : Type 0) {D : Type 0} (disk : D → Disk) where
     pub ready : tells → IsReady disk after
     pub commits : tells → Commits records (disk before.device) (disk after.device)
 
-  -- or a record was refused, or its commit failed
+  -- a record was refused, or its commit failed
   abbrev pub IsUnput : JournalFault → List ℕ → Kept D → Kept D → Type 0
   IsUnput fault bytes before after =
       ((after ≡ before) × RefusesRecord fault before bytes)
@@ -155,35 +154,38 @@ module _ (tells : Type 0) {D : Type 0} (disk : D → Disk) where
       IsPut (bytes ∷ []) before after × PassesBytesOn (Err (keep.Log fault)) held start written
 
   module _ (profile : Profile) (clients_max : ℕ) where
-    -- an entry was read behind its kind, with its pairs
+    -- an entry was read after its kind, with its pairs
     pub record ReadsWholeEntry (pairs : List Pair) (F : Following) (before after : Input) : Type 0 where
       pub read : ReadsEntry (content_of pairs) F.position before after
       pub fit : ItemFits (Entry pairs)
       pub answered : IsItemAnswered F (Entry pairs)
 
-    -- its record was committed, and then it was answered
-    pub record KeepsLogEntry (F G : Following) (old new : Kept D) (before after : Input) (start written : Output) : Type 0 where
+    -- its record was committed, and then the answers were sent
+    pub record KeepsLogEntry (before after : Point D) : Type 0 where
       pub pairs : List Pair
-      pub whole : ReadsWholeEntry pairs F before after
-      pub now : G ≡ with_item F (Entry pairs)
-      pub put : IsPut (record_of profile clients_max F (Entry pairs)) old new
-      pub told : PassesBytesOn (Ok tt) (given_to F (Entry pairs)) start written
+      pub whole : ReadsWholeEntry pairs before.now before.input after.input
+      pub now : after.now ≡ with_item before.now (Entry pairs)
+      pub put : IsPut (record_of profile clients_max before.now (Entry pairs)) before.journal after.journal
+      pub told : PassesBytesOn (Ok tt) (given_to before.now (Entry pairs)) before.output after.output
 
-    -- or it was refused; or its record was not committed, and nothing was sent; or it was, and the writer failed
-    abbrev pub FailsEntry : KeepLogFault → Following → Kept D → Kept D → Input → Input → Output → Output → Type 0
-    FailsEntry (keep.Journal fault) F old new before after start written =
-        (pairs : List Pair) × ReadsWholeEntry pairs F before after
-        × IsUnput fault (record_bytes profile clients_max (with_item F (Entry pairs)) (content_of pairs)) old new × (written ≡ start)
-    FailsEntry (keep.Log fault) F old new before after start written =
-        (MissesEntry fault F before after × (new ≡ old) × (written ≡ start))
-        ⊎ ((pairs : List Pair) × ReadsWholeEntry pairs F before after × IsPut (record_of profile clients_max F (Entry pairs)) old new
-        × PassesBytesOn (Err (keep.Log fault)) (given_to F (Entry pairs)) start written)
+    -- or the entry was refused; or its record was not committed, and nothing was sent; or it was committed, and the writer failed
+    abbrev pub FailsEntry : KeepLogFault → Point D → Point D → Type 0
+    FailsEntry (keep.Journal fault) before after =
+        (pairs : List Pair) × ReadsWholeEntry pairs before.now before.input after.input
+        × IsUnput fault (record_bytes profile clients_max (with_item before.now (Entry pairs)) (content_of pairs)) before.journal after.journal
+        × (after.output ≡ before.output)
+    FailsEntry (keep.Log fault) before after =
+        (MissesEntry fault before.now before.input after.input × (after.journal ≡ before.journal) × (after.output ≡ before.output))
+        ⊎ ((pairs : List Pair) × ReadsWholeEntry pairs before.now before.input after.input
+        × IsPut (record_of profile clients_max before.now (Entry pairs)) before.journal after.journal
+        × PassesBytesOn (Err (keep.Log fault)) (given_to before.now (Entry pairs)) before.output after.output)
 
-    abbrev pub EntersEntry : Result (Unit {0}) KeepLogFault → Following → Following → Kept D → Kept D → Input → Input → Output → Output → Type 0
-    EntersEntry (Ok done) F G old new before after start written = KeepsLogEntry F G old new before after start written
-    EntersEntry (Err fault) F G old new before after start written = FailsEntry fault F old new before after start written
+    -- an entry was read, committed and answered, or not
+    abbrev pub EntersEntry : Result (Unit {0}) KeepLogFault → Point D → Point D → Type 0
+    EntersEntry (Ok done) before after = KeepsLogEntry before after
+    EntersEntry (Err fault) before after = FailsEntry fault before after
 
-    -- one item, or why there is none
+    -- one item was served, or there is no more, or a fault ended serving
     abbrev pub ServesNextItem : Result Bool KeepLogFault → Point D → Point D → Type 0
     ServesNextItem (Ok true) first last = (item : Item) × ItemTurn tells disk profile clients_max item first last
     ServesNextItem (Ok false) first last = HaltsServing tells disk profile clients_max (Ok first.now.position) first last
@@ -191,11 +193,11 @@ module _ (tells : Type 0) {D : Type 0} (disk : D → Disk) where
 
 -- opening
 
--- the cause of a fault, where some records were read before
+-- the cause of a fault, if some records were read before
 abbrev pub LogReadCause : {T : Type 0} → Result T LogStartFault → ScanState → Disk → Disk → Type 0
 LogReadCause result scan before after = (read : List (List ℕ)) → HasRead read before.seen scan → HasLogCause result before after
 
--- a fault that names nothing of the file
+-- a fault of the device
 abbrev pub IsOfLogDevice : LogStartFault → Type 0
 IsOfLogDevice (start.Journal (open_faults.Device fault)) = Unit {0}
 IsOfLogDevice fault = ⊥
@@ -209,7 +211,7 @@ OpensAs (Err failed) rules F cut = IsOfLogDevice failed.fault
 abbrev pub IsCreated : {D : Type 0} → (D → Disk) → List ℕ → LogKeeping D → Type 0
 IsCreated disk file keeper = (is_blank file ≡ true) × KeepsLogRecords disk [] keeper × (keeper.cut ≡ 0)
 
--- where something is in the file none is created, the file is as it was, and no sync has failed that had not
+-- no log is created: if the file has data it is unchanged, and no further sync has failed
 abbrev pub IsNotCreated : LogStartFault → Disk → Disk → Type 0
 IsNotCreated (start.Journal (open_faults.Device NotEmpty)) before after = IsDiskUntouched before after × (after.sound ≡ before.sound)
 IsNotCreated (start.Journal (open_faults.Device fault)) before after = Unit {0}
@@ -220,13 +222,13 @@ pub record HasCreatedCause {T : Type 0} (result : Result T LogStartFault) (befor
   pub ok : OnOk result (FailsNone before after)
   pub cause : IfErr result (IsCreatedCause before after)
 
--- by the file that the reads are of
+-- the same for the file that the reads return
 abbrev pub CreatesLogIn : {D : Type 0} → (D → List ℕ → Type 0) → Result (LogKeeping D) (NotStarted D) → Profile → ℕ → List ℕ → Type 0
 CreatesLogIn holds (Ok keeper) profile clients_max file = (is_blank file ≡ true) × (keeper.now ≡ begun_following profile clients_max) × (keeper.cut ≡ 0)
 CreatesLogIn holds (Err failed) profile clients_max file =
     (failed.fault ≡ start.Journal (open_faults.Device NotEmpty) → (is_blank file ≡ false) × holds failed.device file) × IsNotOfLog failed.fault
 
--- a file on a disk was read to this extent; what was read is durable, where no sync has failed
+-- a file on a disk was read to this extent; what was read is durable, if no sync has failed
 abbrev pub IsReadTo : Rules → Following → Extent → Disk → Type 0
 IsReadTo rules F extent disk = (disk.sound ≡ true → IsOnDisk disk) × By rules IsFollowerRestored disk.seen F extent
 
@@ -234,23 +236,9 @@ IsReadTo rules F extent disk = (disk.sound ≡ true → IsOnDisk disk) × By rul
 abbrev pub IsUsableBy : {D : Type 0} → Rules → LogKeeping D → Type 0
 IsUsableBy rules keeper = IsUsableLog keeper × (keeper.rules ≡ rules)
 
--- the same by the rules of a file, of the records that were read of it
+-- reading by the rules of a file
 abbrev pub EntersNextBy : Rules → Result Bool LogStartFault → ScanState → Following → Following → List (List ℕ) → List ℕ → Type 0
 EntersNextBy rules result scan F G read file = FollowsNextRecord result rules.profile rules.clients_max read file scan F G
 
 abbrev pub EntersAllBy : Rules → Result (Unit {0}) LogStartFault → ScanState → Following → Following → List (List ℕ) → List ℕ → Type 0
 EntersAllBy rules result scan F G read file = FollowsAllRecords result rules.profile rules.clients_max read file scan F G
-
--- the same by the rules of a file, over a device that reports what its calls do or not, a reader and a writer
-module _ {D : Type 0} (its : devices.Ghosts D) {R : Type 0} (input : R → Input) {W : Type 0} (output : W → Output) (rules : Rules) where
-  abbrev pub EntersEntryOn : Result (Unit {0}) KeepLogFault → Following → Kept D → R → W → Following → Kept D → R → W → Type 0
-  EntersEntryOn result F old reader writer G new rest later =
-      EntersEntry its.tells its.disk rules.profile rules.clients_max result F G old new (input reader) (input rest) (output writer) (output later)
-
-  abbrev pub NextOn : Result Bool KeepLogFault → Following → Kept D → R → W → Following → Kept D → R → W → Type 0
-  NextOn result F old reader writer G new rest later =
-      ServesNextItem its.tells its.disk rules.profile rules.clients_max result (point F old (input reader) (output writer)) (point G new (input rest) (output later))
-
-  abbrev pub ServedOn : Result ℕ KeepLogFault → Following → Kept D → R → W → Following → Kept D → R → W → Type 0
-  ServedOn result F old reader writer G new rest later =
-      ServesSomeItems its.tells its.disk rules.profile rules.clients_max result (point F old (input reader) (output writer)) (point G new (input rest) (output later))

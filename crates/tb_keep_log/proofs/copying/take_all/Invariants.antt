@@ -3,7 +3,7 @@ use Rattle.tb_journal.specs.Device.{FailsNone}
 use Rattle.tb_journal.specs.Ready.{IsReady}
 use Rattle.tb_journal.specs.Scans.{HasRead}
 use Rattle.tb_keep.specs.private.Entering.{StaysKept}
-use Rattle.tb_keep_log.specs.private.CopySteps.{TakenOver}
+use Rattle.tb_keep_log.specs.private.CopySteps.{TakenOver, copy_state}
 use Rattle.tb_keep_log.proofs.copying.take_all.Given as goal
 
 -- the records so far were copied, and no call on the old file's device has failed
@@ -14,7 +14,7 @@ invariant-loop-fault g l = record {
   none : g.D.Device.tells → (read : List (List ℕ)) → HasRead read (g.D.Device.disk l.fn.from).seen l.fn.scan → FailsNone (g.D.Device.disk l.fn.from) (g.D.Device.disk l.from);
   usable : l.journal.usable ≡ true;
   ready : g.N.Device.tells → IsReady g.N.Device.disk l.journal;
-  taken : (records : List (List ℕ)) × TakenOver g.N.Device.tells g.N.Device.disk l.fn.rules.profile l.fn.rules.clients_max (g.D.Device.holds l.fn.from) records l.fn.scan l.scan l.fn.follower l.follower l.fn.journal l.journal;
+  taken : (records : List (List ℕ)) × TakenOver g.N.Device.tells g.N.Device.disk l.fn.rules.profile l.fn.rules.clients_max (g.D.Device.holds l.fn.from) records (copy_state l.fn.scan l.fn.follower l.fn.journal) (copy_state l.scan l.follower l.journal);
 }
 
 abbrev pub decreases-loop-fault : goal.decreases-loop-fault

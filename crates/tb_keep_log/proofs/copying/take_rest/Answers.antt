@@ -5,19 +5,19 @@ use Rattle.tb_keep_log.proofs.copying.take_rest.Goals as goal
 pub returns-in-Ok-commit_waiting-clause-takes : goal.returns-in-Ok-commit_waiting-clause-takes
 returns-in-Ok-commit_waiting-clause-takes g c =
     behind_done g.N.Device.tells g.N.Device.disk c.args.rules.now.profile c.args.rules.now.clients_max (g.D.Device.holds c.args.from.now) (g.D.Device.holds c.take_all-taken.new.from) c.take_all-taken.ensures.same
-    c.take_all-taken.result.0 c.args.scan.now c.args.follower.now c.take_all-taken.new.follower c.args.journal.now c.take_all-taken.new.journal c.commit_waiting.new.journal c.in-Ok-commit_waiting.ensures.puts
+    c.take_all-taken.result.0 c.args.scan.now c.take_all-taken.new.scan c.args.follower.now c.take_all-taken.new.follower c.args.journal.now c.take_all-taken.new.journal c.commit_waiting.new.journal c.in-Ok-commit_waiting.ensures.puts
     c.in-Ok-commit_waiting.ensures.emptied c.take_all-taken.result.1 c.in-Ok.stop c.take_all-taken.ensures.takes c.in-Ok.ensures.stops
 
 pub returns-in-Err-commit_waiting-clause-takes : goal.returns-in-Err-commit_waiting-clause-takes
 returns-in-Err-commit_waiting-clause-takes g c =
     behind_uncommitted g.N.Device.tells g.N.Device.disk c.args.rules.now.profile c.args.rules.now.clients_max (g.D.Device.holds c.args.from.now) (g.D.Device.holds c.take_all-taken.new.from) c.take_all-taken.ensures.same
-    c.take_all-taken.result.0 c.args.scan.now c.args.follower.now c.take_all-taken.new.follower c.args.journal.now c.take_all-taken.new.journal c.take_all-taken.result.1 c.in-Ok.stop c.in-Err-commit_waiting.fault _
+    c.take_all-taken.result.0 c.args.scan.now c.take_all-taken.new.scan c.args.follower.now c.take_all-taken.new.follower c.args.journal.now c.take_all-taken.new.journal c.take_all-taken.result.1 c.in-Ok.stop c.in-Err-commit_waiting.fault _
     c.commit_waiting.new.journal c.take_all-taken.ensures.takes c.in-Ok.ensures.stops c.new_fault.ensures c.in-Err-commit_waiting.ensures.puts
 
 pub returns-in-Err-clause-takes : goal.returns-in-Err-clause-takes
 returns-in-Err-clause-takes g c =
     behind_not g.N.Device.tells g.N.Device.disk c.args.rules.now.profile c.args.rules.now.clients_max (g.D.Device.holds c.args.from.now) (g.D.Device.holds c.take_all-taken.new.from) c.take_all-taken.ensures.same
-    c.take_all-taken.result.0 c.args.scan.now c.args.follower.now c.take_all-taken.new.follower c.args.journal.now c.take_all-taken.new.journal c.take_all-taken.result.1 c.in-Err.fault c.take_all-taken.ensures.takes c.in-Err.ensures.stops
+    c.take_all-taken.result.0 c.args.scan.now c.take_all-taken.new.scan c.args.follower.now c.take_all-taken.new.follower c.args.journal.now c.take_all-taken.new.journal c.take_all-taken.result.1 c.in-Err.fault c.take_all-taken.ensures.takes c.in-Err.ensures.stops
 
 pub returns-in-Ok-commit_waiting-clause-stays : goal.returns-in-Ok-commit_waiting-clause-stays
 returns-in-Ok-commit_waiting-clause-stays g c t =
@@ -55,9 +55,9 @@ returns-in-Err-clause-cause g c t read has =
 pub commit_waiting-requires-clause-usable : goal.commit_waiting-requires-clause-usable
 commit_waiting-requires-clause-usable g c =
     usable_at g.N.Device.tells g.N.Device.disk c.args.rules.now.profile c.args.rules.now.clients_max (g.D.Device.holds c.args.from.now) (g.D.Device.holds c.take_all-taken.new.from) c.take_all-taken.ensures.same
-    c.take_all-taken.result.0 c.args.scan.now c.args.follower.now c.take_all-taken.new.follower c.args.journal.now c.take_all-taken.new.journal c.take_all-taken.result.1 c.in-Ok.stop c.take_all-taken.ensures.takes c.in-Ok.ensures.stops
+    c.take_all-taken.result.0 c.args.scan.now c.take_all-taken.new.scan c.args.follower.now c.take_all-taken.new.follower c.args.journal.now c.take_all-taken.new.journal c.take_all-taken.result.1 c.in-Ok.stop c.take_all-taken.ensures.takes c.in-Ok.ensures.stops
 
 pub commit_waiting-requires-clause-ready : goal.commit_waiting-requires-clause-ready
 commit_waiting-requires-clause-ready g c =
     ready_at g.N.Device.tells g.N.Device.disk c.args.rules.now.profile c.args.rules.now.clients_max (g.D.Device.holds c.args.from.now) (g.D.Device.holds c.take_all-taken.new.from) c.take_all-taken.ensures.same
-    c.take_all-taken.result.0 c.args.scan.now c.args.follower.now c.take_all-taken.new.follower c.args.journal.now c.take_all-taken.new.journal c.take_all-taken.result.1 c.in-Ok.stop c.take_all-taken.ensures.takes c.in-Ok.ensures.stops
+    c.take_all-taken.result.0 c.args.scan.now c.take_all-taken.new.scan c.args.follower.now c.take_all-taken.new.follower c.args.journal.now c.take_all-taken.new.journal c.take_all-taken.result.1 c.in-Ok.stop c.take_all-taken.ensures.takes c.in-Ok.ensures.stops

@@ -1,7 +1,7 @@
 use Rattle.std.proofs.Common.{ℕ, List, ◌≡◌, ◌-◌, ◌^◌, true}
 use Rattle.tb_journal.specs.Ready.{IsReady}
 use Rattle.tb_keep.specs.private.Entering.{StaysKept}
-use Rattle.tb_keep_log.specs.private.BehindDamage.{TakenBehind}
+use Rattle.tb_keep_log.specs.private.BehindDamage.{TakenBehind, seek_copy}
 use Rattle.tb_keep_log.proofs.reading_on.look_through.Given as goal
 
 -- the records so far were copied
@@ -11,7 +11,7 @@ invariant-loop-on g l = record {
   stays : g.D.Device.tells → StaysKept (g.D.Device.disk l.fn.from) (g.D.Device.disk l.from);
   usable : l.journal.usable ≡ true;
   ready : g.N.Device.tells → IsReady g.N.Device.disk l.journal;
-  taken : (records : List (List ℕ)) × TakenBehind g.N.Device.tells g.N.Device.disk l.fn.rules.profile l.fn.rules.clients_max (g.D.Device.holds l.fn.from) records l.fn.seek l.seek l.fn.follower l.follower l.fn.journal l.journal;
+  taken : (records : List (List ℕ)) × TakenBehind g.N.Device.tells g.N.Device.disk l.fn.rules.profile l.fn.rules.clients_max (g.D.Device.holds l.fn.from) records (seek_copy l.fn.seek l.fn.follower l.fn.journal) (seek_copy l.seek l.follower l.journal);
 }
 
 abbrev pub decreases-loop-on : goal.decreases-loop-on
