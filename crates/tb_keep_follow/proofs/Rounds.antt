@@ -11,7 +11,7 @@ use Rattle.tb_log.specs.Format.{content_of}
 use Rattle.tb_keep.specs.Rounds.{entries_from}
 use Rattle.tb_keep_log.specs.declared.faults.DumpLogFault.TheVariants as dump
 use Rattle.tb_keep_log.specs.declared.faults.LogStartFault.TheVariants as start_faults
-use Rattle.tb_keep_log.specs.Parts.{AreNext, Dumped, shown}
+use Rattle.tb_keep_log.specs.Parts.{AreNext, Dumped, DumpsRest, Selection, dump_point, shown}
 use Rattle.tb_keep_log.proofs.Dumped.{dumped_rest}
 use Rattle.tb_keep_commands.specs.declared.faults.Failed.TheVariants.{Output as OutputFailed}
 use Rattle.tb_keep_commands.specs.declared.faults.KeepCommandFault.TheVariants.{Device, NoMemory}
@@ -20,7 +20,7 @@ use Rattle.tb_keep_commands.specs.Following.{start_of}
 use Rattle.tb_keep_commands.proofs.Rounds.{grows_same, sent_held, then_cut}
 use Rattle.tb_keep_follow.specs.declared.faults.FollowFault.{FollowFault}
 use Rattle.tb_keep_follow.specs.declared.faults.FollowFault.TheVariants.{Kept}
-use Rattle.tb_keep_follow.specs.Parts.{DumpsRest, EndsLogRounds, WritesGrownLog, GrowsLogBy, HeadGoes, Selection, SendsLogRound, WritesLogPart, dump_point}
+use Rattle.tb_keep_follow.specs.Parts.{EndsLogRounds, WritesGrownLog, GrowsLogBy, HeadGoes, SendsLogRound, WritesLogPart}
 
 module _ (wanted : Selection) where
   -- one round, of the records after those that were read
@@ -34,8 +34,8 @@ module _ (wanted : Selection) where
       fit = d.dumps.fit;
     }
 
-    -- what was held back went out
-    pub round_done : DumpsRest (Ok tt) wanted read file scan (dump_point S a) (dump_point T b) → Sent [] b c
+    -- what was held back was sent
+    pub round_done : DumpsRest (Ok tt) wanted scan (dump_point S a) (dump_point T b) read file → Sent [] b c
         → SendsLogRound (Ok tt) wanted read file scan (dump_point S a) (dump_point T c)
     round_done (d, reads) held = (
       record {
@@ -50,7 +50,7 @@ module _ (wanted : Selection) where
     )
 
     -- or it was lost
-    pub round_lost : (fault : FollowFault) → fault ≡ Kept (Device OutputFailed) → DumpsRest (Ok tt) wanted read file scan (dump_point S a) (dump_point T b) → CutOff [] b c
+    pub round_lost : (fault : FollowFault) → fault ≡ Kept (Device OutputFailed) → DumpsRest (Ok tt) wanted scan (dump_point S a) (dump_point T b) read file → CutOff [] b c
         → SendsLogRound (Err fault) wanted read file scan (dump_point S a) (dump_point T c)
     round_lost fault is (d, reads) held = (
       dump.Writer,
@@ -85,7 +85,7 @@ module _ (wanted : Selection) where
         }
 
   module _ (here : List ℕ → Type 0) (S : State) (file : List ℕ) (scan : ScanState) (T : State) (a b : Output) where
-    -- no round more: the file could not be read on
+    -- no further round: the file could not be read on
     pub no_more : (cause : JournalFault) (fault : FollowFault) → fault ≡ Kept (disk_fault cause) → (g : WritesGrownLog here wanted file scan (dump_point S a) (dump_point T b))
         → EndsLogRounds here (Err fault) true wanted file (dump_point S a) b
     no_more cause fault is g = record {
@@ -99,7 +99,7 @@ module _ (wanted : Selection) where
       };
     }
 
-    -- nor is there memory
+    -- or an allocation failed
     pub no_end : (fault : FollowFault) → fault ≡ Kept NoMemory → (g : WritesGrownLog here wanted file scan (dump_point S a) (dump_point T b)) → EndsLogRounds here (Err fault) true wanted file (dump_point S a) b
     no_end fault is g = record {
       later = g.later;
@@ -116,7 +116,7 @@ module _ (wanted : Selection) where
     pub reached : WritesGrownLog here wanted file scan (dump_point S a) (dump_point T b) → EndsLogRounds here (Ok tt) true wanted file (dump_point S a) b
     reached g = record { later = g.later; since = g.since; held = g.held; scan = scan; now = T; dumps = g.dumps }
 
-    -- the first round, of a file of which nothing was read
+    -- the first round: nothing of the file was read before
     pub first_round : here file → SendsLogRound (Ok tt) wanted [] file scan (dump_point S a) (dump_point T b) → WritesGrownLog here wanted file scan (dump_point S a) (dump_point T b)
     first_round held round = record { later = file; since = later_same file; held = held; dumps = round }
 

@@ -19,6 +19,7 @@ use Rattle.tb_keep_log.specs.Beginning as log
 use Rattle.tb_keep_log.specs.Beginning.{HasLogStartCause, IsOpenedLog, IsLogStartRefused, IsLogStarted, LogMayBeOpened, LogMayBeStarted, OpensLog, StartsLogFile, log_device_left, why_log_left}
 use Rattle.tb_keep_log.specs.Rereading.{HasLogCause}
 use Rattle.tb_keep_log.specs.Items.{ServesSomeItems, point}
+use Rattle.tb_keep_log.specs.Parts.{selection}
 use Rattle.tb_keep_commands.specs.declared.asides.Reason.{Reason}
 use Rattle.tb_keep_commands.specs.declared.faults.KeepCommandFault.{KeepCommandFault}
 use Rattle.tb_keep_commands.specs.declared.faults.KeepCommandFault.TheVariants.{Opening, Gone}
@@ -33,7 +34,7 @@ use Rattle.tb_keep_commands.specs.declared.following.Part.{Part}
 use Rattle.tb_keep_follow.specs.Faults.{started_log_fault, kept_log_fault, dumped_log_fault, wanted_line}
 use Rattle.tb_keep_follow.specs.Heads.{FindsRules}
 use Rattle.tb_keep_follow.specs.Naming.{NamesLogFault}
-use Rattle.tb_keep_follow.specs.Parts.{WritesLogPart, selection}
+use Rattle.tb_keep_follow.specs.Parts.{WritesLogPart}
 
 -- done, or not to its end
 abbrev pub LogOutcome : Type 0

@@ -1,5 +1,6 @@
 use Rattle.std.proofs.Common.{ℕ, List}
-use Rattle.tb_keep_follow.specs.Parts.{DumpPoint, WritesGrownLog, point_at, selected}
+use Rattle.tb_keep_log.specs.Parts.{DumpPoint}
+use Rattle.tb_keep_follow.specs.Parts.{WritesGrownLog, point_at, selected}
 use Rattle.tb_keep_follow.proofs.parts.send_on.Given as goal
 
 abbrev pub invariant-loop : goal.invariant-loop
