@@ -19,6 +19,10 @@ BEGUN = none(
     "ends before its first record; restore a backup if it had one, or start without --existing"
 )
 NO_RECORD = none("has no record yet; tbd run makes a ledger in it, and tbd follow a log")
+CLOSED_FIRST = none(
+    "has a closed first latch at byte 8 and bytes after it; restore a backup if it had a record:"
+    " tbd salvage finds none, and tbd run may cut these bytes off and begin a new ledger"
+)
 NO_HEAD = none("has a first record that is no ledger's head; restore a backup")
 A_LOG = none("is a log; tbd follow serves it")
 A_LEDGER = 5, "tbd: Plain: ledger is a ledger without positions; tbd run serves it\n"
@@ -28,6 +32,8 @@ READS = "check ledger", "dump ledger", "salvage ledger new", "backup ledger new"
 LOG_RECORD = b"TBF1\1\2" + (1).to_bytes(8, "little") + bytes(65)
 ROTTEN_LOG = changed(MAGIC + block(LOG_RECORD) + CLOSED, 60)
 ROTTEN_LEDGER = changed(LEDGER, 23)
+# A whole file, except that the first latch reads closed.
+CLOSED_LEDGER = MAGIC + CLOSED + LEDGER[12:]
 HEAD_AT = (
     6,
     "tbd: Damaged: ledger: the block at byte 8 (the head) is not what was written; restore a"
@@ -44,6 +50,8 @@ ROWS = [
     *((MAGIC, words, BEGUN) for words in (RUN, FOLLOW, *READS)),
     *((MAGIC + CLOSED[:2], words, BEGUN) for words in (RUN, FOLLOW, *READS)),
     *((MAGIC + CLOSED, words, NO_RECORD) for words in READS),
+    *((MAGIC + CLOSED + b"\0", words, CLOSED_FIRST) for words in READS),
+    *((CLOSED_LEDGER, words, CLOSED_FIRST) for words in READS),
     *((MAGIC + block(b"\1\2\3") + CLOSED, words, NO_HEAD) for words in (RUN, *READS)),
     (MAGIC + block(LOG_RECORD) + CLOSED, RUN, A_LOG),
     (ROTTEN_LOG, RUN, A_LOG),

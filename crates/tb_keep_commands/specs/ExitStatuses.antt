@@ -298,6 +298,8 @@ kind_text kind.Empty path = codes "NotAJournal: " ++ (printable path ++ codes " 
 kind_text kind.Former path = codes "NotAJournal: " ++ (printable path ++ codes " has the former format TBJRNL01; tools/convert_journal.py makes a new file of it")
 kind_text kind.Dump path = codes "NotAJournal: " ++ (printable path ++ codes " is a dump; tbs replay and telovamish dump read it")
 kind_text kind.NoRecord path = codes "NotAJournal: " ++ (printable path ++ codes " has no record yet; tbd run makes a ledger in it, and tbd follow a log")
+kind_text kind.Closed path =
+    codes "NotAJournal: " ++ (printable path ++ codes " has a closed first latch at byte 8 and bytes after it; restore a backup if it had a record: tbd salvage finds none, and tbd run may cut these bytes off and begin a new ledger")
 kind_text kind.Begun path =
     codes "NotAJournal: " ++ (printable path ++ codes " ends before its first record; restore a backup if it had one, or start without --existing")
 kind_text kind.Ledger path = codes "NotAJournal: " ++ (printable path ++ codes " is a ledger; tbd run serves it")

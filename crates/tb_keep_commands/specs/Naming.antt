@@ -20,7 +20,7 @@ use Rattle.tb_keep_commands.specs.declared.faults.Damage.TheVariants.{Block}
 use Rattle.tb_keep_commands.specs.declared.faults.KeepCommandFault.TheVariants.{NotAJournal, NoHead, Damaged, OtherRules}
 use Rattle.tb_keep_commands.specs.declared.faults.Mismatch.{Mismatch}
 use Rattle.tb_keep_commands.specs.declared.kinds.Kind.{Kind}
-use Rattle.tb_keep_commands.specs.declared.kinds.Kind.TheVariants.{NoRecord, Begun, Log}
+use Rattle.tb_keep_commands.specs.declared.kinds.Kind.TheVariants.{NoRecord, Closed, Begun, Log}
 use Rattle.tb_keep_commands.specs.Kinds.{kind_by}
 use Rattle.tb_keep_commands.specs.ExitStatuses.{is_of_head, numbers_of, started_fault}
 
@@ -44,6 +44,7 @@ entry_by at (Err fault) = None
 -- the fault of a journal that has no record, or whose first one is no ledger's head: what it is instead
 abbrev pub headless_fault : Kind → KeepCommandFault
 headless_fault NoRecord = NotAJournal NoRecord
+headless_fault Closed = NotAJournal Closed
 headless_fault Log = NotAJournal Log
 headless_fault kind = NoHead
 

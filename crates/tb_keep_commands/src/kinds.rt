@@ -1,12 +1,12 @@
 //! What a file is that holds no ledger, by its first bytes.
 ghost use Rattle.std.specs.Prelude.{◌≡◌};
 ghost use Rattle.std.specs.List.{list_all};
-ghost use Rattle.tb_keep_commands.specs.Kinds.{begins, begins_at, is_text, journal_kind, file_kind};
+ghost use Rattle.tb_keep_commands.specs.Kinds.{begins, begins_at, is_text, unrecorded_kind, journal_kind, file_kind};
 
 /// What a file is that holds no ledger.
 #[derive(Clone, Copy, Debug, PartialEq, Eq)]
 pub enum Kind {
-    /// It was not looked at, or not read.
+    /// It was not read.
     Unread,
     /// It has no byte.
     Empty,
@@ -14,15 +14,17 @@ pub enum Kind {
     Former,
     /// A dump, by its head.
     Dump,
-    /// A journal without a record.
+    /// A journal without a record, and nothing after its latch.
     NoRecord,
+    /// A journal whose first latch is closed, with bytes after it.
+    Closed,
     /// The first bytes of a journal, up to a place before its first record.
     Begun,
     /// A ledger, by its first record.
     Ledger,
     /// A log, by its first record.
     Log,
-    /// Moments with request frames, of which the first one registers a client.
+    /// Moments with request frames, the first of which registers a client.
     Script,
     /// Text.
     Text,
@@ -48,30 +50,30 @@ pub const HEAD: &[u8] = b"TBK1";
 /// The bytes that a log's first record begins with.
 pub const MARK: &[u8] = b"TBF1";
 
-/// The bytes that the header of a request to register has behind its client.
+/// The bytes of the header of a request to register after its client.
 pub const REGISTER: &[u8] = b"\0\0\0\0\0\0\0\0\0\0\0\0\x02\0\0\0\0\0\0\0\0\0\0\0\0\0\0\0\0\0\0\0";
 
-/// Where the first record of a journal is: behind its first bytes, a latch, a length and a checksum.
+/// The offset of a journal's first record: after its first bytes, a latch, a length and a checksum.
 const RECORD_AT: usize = 19;
 
-/// The first bytes of a file that are looked at: a moment and the header of a request.
+/// How many of a file's first bytes are read: those of a moment and the header of a request.
 pub(crate) const FIRST_BYTES: usize = 56;
 
-/// Says that a byte is one of a text: a space, a tab, an end of a line, or none that controls a terminal.
+/// Returns whether a byte may be in a text: a tab, an end of a line, or any byte that is no control character.
 fn is_text(byte: u8) -> bool
     ensures { result ≡ is_text byte }
 {
     byte >= 32 && byte != 127 || byte == 9 || byte == 10 || byte == 13
 }
 
-/// Says that bytes begin with a prefix.
+/// Returns whether bytes begin with a prefix.
 fn begins(prefix: &[u8], bytes: &[u8]) -> bool
     ensures { result ≡ begins prefix.now bytes.now }
 {
     bytes.starts_with(prefix)
 }
 
-/// Says that bytes begin with a prefix behind so many others.
+/// Returns whether a prefix is at this offset of bytes.
 fn begins_at(at: usize, prefix: &[u8], bytes: &[u8]) -> bool
     ensures { result ≡ begins_at at prefix.now bytes.now }
 {
@@ -81,19 +83,29 @@ fn begins_at(at: usize, prefix: &[u8], bytes: &[u8]) -> bool
     begins(prefix, &bytes[at..])
 }
 
-/// Says that these bytes are a text.
+/// Returns whether all bytes may be in a text.
 fn is_all_text(first: &[u8]) -> bool
     ensures { result ≡ list_all is_text first.now }
 {
     first.iter().all(|byte| is_text(*byte))
 }
 
-/// What a journal with these first bytes is, which are its first 8 or fewer, or go on behind them.
+/// The kind of a journal without a record, which begins with these bytes.
+fn unrecorded_kind(first: &[u8]) -> Kind
+    ensures { result ≡ unrecorded_kind first.now }
+{
+    if first.len() > NO_RECORD.len() {
+        return Kind::Closed;
+    }
+    Kind::NoRecord
+}
+
+/// The kind of a journal with these first bytes: a part of its first 8, or all 8 and bytes after them.
 fn journal_kind(first: &[u8]) -> Kind
     ensures { result ≡ journal_kind first.now }
 {
     if begins(NO_RECORD, first) {
-        return Kind::NoRecord;
+        return unrecorded_kind(first);
     }
     if begins(first, NO_RECORD) {
         return Kind::Begun;
@@ -107,7 +119,7 @@ fn journal_kind(first: &[u8]) -> Kind
     Kind::Other
 }
 
-/// What a file with these first bytes is, which holds no ledger.
+/// The kind of a file with these first bytes, which holds no ledger.
 pub(crate) fn kind_of(first: &[u8]) -> Kind
     ensures { result ≡ file_kind first.now }
 {

@@ -334,6 +334,12 @@ fn put_kind<E: Sink>(faults: &mut E, kind: Kind, path: &str) -> Result<(), Frame
             path,
             " has no record yet; tbd run makes a ledger in it, and tbd follow a log",
         ),
+        Kind::Closed => put_named(
+            faults,
+            "NotAJournal: ",
+            path,
+            " has a closed first latch at byte 8 and bytes after it; restore a backup if it had a record: tbd salvage finds none, and tbd run may cut these bytes off and begin a new ledger",
+        ),
         Kind::Begun => put_named(
             faults,
             "NotAJournal: ",

@@ -68,6 +68,7 @@ fn headless_fault(kind: Kind) -> KeepCommandFault
 {
     match kind {
         Kind::NoRecord => KeepCommandFault::NotAJournal(Kind::NoRecord),
+        Kind::Closed => KeepCommandFault::NotAJournal(Kind::Closed),
         Kind::Log => KeepCommandFault::NotAJournal(Kind::Log),
         _ => KeepCommandFault::NoHead,
     }

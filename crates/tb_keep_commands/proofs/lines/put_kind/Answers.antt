@@ -15,6 +15,9 @@ returns-in-Dump g c = rw c.in-Dump.is c.put_named-in-Dump.ensures
 pub returns-in-NoRecord : goal.returns-in-NoRecord
 returns-in-NoRecord g c = rw c.in-NoRecord.is c.put_named-in-NoRecord.ensures
 
+pub returns-in-Closed : goal.returns-in-Closed
+returns-in-Closed g c = rw c.in-Closed.is c.put_named-in-Closed.ensures
+
 pub returns-in-Begun : goal.returns-in-Begun
 returns-in-Begun g c = rw c.in-Begun.is c.put_named-in-Begun.ensures
 
