@@ -26,24 +26,24 @@ use Rattle.tb_keep_commands.specs.declared.faults.Damage.TheVariants.{Block}
 use Rattle.tb_keep_commands.specs.declared.faults.KeepCommandFault.{KeepCommandFault}
 use Rattle.tb_keep_commands.specs.declared.faults.KeepCommandFault.TheVariants.{Damaged, Opening, Making, NotAJournal}
 use Rattle.tb_keep_commands.specs.declared.mending.Mended.{Mended}
-use Rattle.tb_keep_commands.specs.Ends.{FileOutput, KnownFiles, KnownReading, reading_of}
+use Rattle.tb_keep_commands.specs.Ends.{FileOutput, KnownFiles, KnownReading, OpenerOutput, opener_output, reading_of}
 use Rattle.tb_keep_commands.specs.Mending.{mended_device, mended_reading}
 use Rattle.tb_keep_commands.specs.Naming.{Names}
 use Rattle.tb_keep_commands.specs.Outcomes.{FileOutcome, PrintsWhole, PrintsText, IsMeasured, IsRefused, Opens}
 use Rattle.tb_keep_commands.specs.ExitStatuses.{damage_text, disk_fault, new_fault, started_fault}
 use Rattle.tb_keep_commands.specs.Summaries.{line_before, behind_text}
 
--- what is damaged, where that is the fault
+-- what is damaged, if that is the fault
 abbrev pub damage_by : KeepCommandFault → Option Damage
 damage_by (Damaged damage) = Some damage
 damage_by fault = None
 
--- what is damaged where a copy ends: nothing at the end of a whole file
+-- what is damaged at the end of a copy: nothing at the end of a whole file
 abbrev pub damage_of : Option StartFault → Option Damage
 damage_of None = None
 damage_of (Some fault) = damage_by (started_fault fault)
 
--- the last line: the bytes behind the entries of a whole file; or those that are lost from the damage on, and where and what that is
+-- the last line: the bytes after the entries of a whole file; or those that are lost from the damage on, and where and what that is
 abbrev pub last_line : Copied → Option Damage → List ℕ
 last_line c None = codes "bytes behind " ++ (decimal c.behind ++ (behind_text c.behind ++ 10 ∷ []))
 last_line c (Some damage) =
@@ -66,7 +66,7 @@ copied_of len salvaged = record {
   damage = damage_of salvaged.stop;
 }
 
--- a line more, where entries were read on behind the damage: how many, and from which offset on
+-- one more line if entries were read on after the damage: how many, and from which offset on
 abbrev pub read_on_line : ℕ → ℕ → List ℕ
 read_on_line zero first = []
 read_on_line (suc n) first = codes "read on " ++ (decimal (suc n) ++ (codes " of the entries from byte " ++ (decimal first ++ 10 ∷ [])))
@@ -74,7 +74,7 @@ read_on_line (suc n) first = codes "read on " ++ (decimal (suc n) ++ (codes " of
 abbrev pub rescued_text : Rescued → List ℕ
 rescued_text r = copied_text r.copied ++ read_on_line r.more r.first
 
--- what is reported then, by the state behind all entries: the bytes of the blocks that were read on are not lost
+-- what is reported then, by the state after all entries: the bytes of the blocks that were read on are not lost
 abbrev pub rescued_of : Copied → State → ReadOn → Rescued
 rescued_of c S on = record {
   copied = record c { entries = S.commit; time = S.books.time; behind = c.behind - on.bytes };
@@ -82,8 +82,8 @@ rescued_of c S on = record {
   first = on.first;
 }
 
--- the new file keeps a history of which the records were copied, up to where no more can be, and this is reported of it: how many entries
--- it has, the time of the last, where they end, and what is behind that in a file of so many bytes
+-- the new file keeps a history whose records were copied, up to the first that cannot be, and this is reported: how many entries it has, the
+-- time of the last, where they end, and how much is after them in a file of so many bytes
 pub record IsCopy {N : Type 0} (its : devices.Ghosts N) (holds : List ℕ → Type 0) (len : ℕ) (salvaged : Salvaged N) (c : Copied) : Type 0 where
   pub history : History
   pub keeper : IsNewKeeper its.tells its.disk history salvaged.keeper
@@ -94,7 +94,7 @@ pub record IsCopy {N : Type 0} (its : devices.Ghosts N) (holds : List ℕ → Ty
   pub behind : c.behind ≡ len - salvaged.end - 4
   pub damage : c.damage ≡ damage_of salvaged.stop
 
--- why a copy that ended so is refused: none, where the file needs not be whole
+-- why a copy that ended so is refused: it is not, if the file need not be whole
 abbrev pub refused_by : {F : Type 0} → Bool → Option F → Option F
 refused_by true stop = stop
 refused_by false stop = None
@@ -105,55 +105,55 @@ module _ {E : Type 0} (its : devices.Ghosts E) where
   EndsCopy None c outcome before after = PrintsText (copied_text c) outcome before.sink after.sink × (after.file ≡ before.file)
   EndsCopy (Some fault) c outcome before after = IsRefused its fault outcome before.file after.file × (after.sink ≡ before.sink)
 
-  -- a fault of the file, with what there is to say of it; or one of the new file
+  -- a fault of the file, with what is known of it; or one of the new file
   abbrev pub NamesCopy : SalvageFault → KeepCommandFault → E → E → Type 0
   NamesCopy (Old fault) named from after = Names its (started_fault fault) named from after
   NamesCopy (New fault) named from after = (named ≡ new_fault (started_fault fault)) × (after ≡ from)
 
-  -- the first record of a file was read, which stays
+  -- the first record of a file was read, which is as it was
   pub record IsHeadRead (rules : Result Rules StartFault) (from after : E) : Type 0 where
     pub rules_are : (file : List ℕ) → its.holds from file → RulesAnswer rules file
     pub same : (file : List ℕ) → its.holds from file → its.holds after file
     pub untouched : its.tells → IsDiskUntouched (its.disk from) (its.disk after)
     pub cause : its.tells → HasStartCause rules (its.disk from) (its.disk after)
 
-module _ {E : Type 0} (its : devices.Ghosts E) (whole_read : E → List ℕ → Type 0) {D : Type 0} (new_file : devices.Ghosts D) where
-  -- a file was read once, and stays; what a crash at any moment may leave of the new one, and why it is not read or written on
+module _ {E : Type 0} (its : KnownReading E) {D : Type 0} (new_file : devices.Ghosts D) where
+  -- a file was read once, and is as it was; what a crash at any moment may leave of the new one, and why it is not read or written further
   pub record IsCopying (result : Result (Salvaged D) (NotSalvaged D)) (into : D) (from after : E) : Type 0 where
-    pub unsalvaged : (file : List ℕ) → its.holds from file → IfErr result (λ failed. IsUnsalvaged failed.fault file)
-    pub any_moment : new_file.tells → LeavesOnly (new_file.disk into) (new_file.disk (salvaged_device result)) (MayBeSalvaged (its.holds from) (new_file.disk into))
+    pub unsalvaged : (file : List ℕ) → its.device.holds from file → IfErr result (λ failed. IsUnsalvaged failed.fault file)
+    pub any_moment : new_file.tells → LeavesOnly (new_file.disk into) (new_file.disk (salvaged_device result)) (MayBeSalvaged (its.device.holds from) (new_file.disk into))
     pub cause_new : new_file.tells → HasNewCause (why_new result) (new_file.disk into) (new_file.disk (salvaged_device result))
-    pub same : (file : List ℕ) → its.holds from file → its.holds after file
-    pub untouched : its.tells → IsDiskUntouched (its.disk from) (its.disk after)
-    pub cause_old : its.tells → HasStartCause (why_old result) (its.disk from) (its.disk after)
+    pub same : (file : List ℕ) → its.device.holds from file → its.device.holds after file
+    pub untouched : its.device.tells → IsDiskUntouched (its.device.disk from) (its.device.disk after)
+    pub cause_old : its.device.tells → HasStartCause (why_old result) (its.device.disk from) (its.device.disk after)
 
-  -- a file of so many bytes was read on behind its damage, also behind its closed latch: the new one goes on with each next entry that stands
-  -- there, and what was taken over was printed; or why it is not read or written on
+  -- a file of so many bytes was read on after its damage, also after its closed latch: the new one goes on with each next entry that is there,
+  -- and what was copied was printed; or why it is not read or written further
   pub record Rescues (len : ℕ) (salvaged : Salvaged D) (outcome : FileOutcome) (before after : FileOutput E) : Type 0 where
     pub looked : E
-    pub looks : (file : List ℕ) → whole_read before.file file → whole_read looked file
-    pub all : (file : List ℕ) → its.holds looked file → whole_read looked file
+    pub looks : (file : List ℕ) → its.whole before.file file → its.whole looked file
+    pub all : (file : List ℕ) → its.device.holds looked file → its.whole looked file
     pub between : E
     pub result : Result ReadOn SalvageFault
     pub keeper : Keeping D
-    pub on : OnOk result (IsReadOn new_file.tells new_file.disk (its.holds looked) salvaged.end salvaged.keeper keeper)
+    pub on : OnOk result (IsReadOn new_file.tells new_file.disk (its.device.holds looked) salvaged.end salvaged.keeper keeper)
     pub any_moment : new_file.tells → (h : History) → Keeps new_file.disk h salvaged.keeper
         → LeavesLonger h (new_file.disk salvaged.keeper.journal.device) (new_file.disk keeper.journal.device)
     pub ends : MatchResult result
         (λ it. PrintsText (rescued_text (rescued_of (copied_of len salvaged) keeper.state it)) outcome before.sink after.sink × (after.file ≡ between))
-        (λ fault. (named : KeepCommandFault) × (outcome ≡ Err named) × NamesCopy its fault named between after.file × (after.sink ≡ before.sink))
+        (λ fault. (named : KeepCommandFault) × (outcome ≡ Err named) × NamesCopy its.device fault named between after.file × (after.sink ≡ before.sink))
 
   -- a copy of a file that is to be whole ends there, and any other is read on
   abbrev pub EndsOrReadsOn : Bool → ℕ → Salvaged D → FileOutcome → FileOutput E → FileOutput E → Type 0
-  EndsOrReadsOn true len salvaged outcome before after = EndsCopy its (refused_by true salvaged.stop) (copied_of len salvaged) outcome before after
+  EndsOrReadsOn true len salvaged outcome before after = EndsCopy its.device (refused_by true salvaged.stop) (copied_of len salvaged) outcome before after
   EndsOrReadsOn false len salvaged outcome before after = Rescues len salvaged outcome before after
 
   -- the new file keeps what was copied, which was printed, or the file is refused; or why there is no new file, or one not to its end
   abbrev pub CopiesBy : Result (Salvaged D) (NotSalvaged D) → ℕ → Bool → FileOutcome → E → FileOutput E → FileOutput E → Type 0
   CopiesBy (Ok salvaged) len whole outcome from before after =
-      IsCopy new_file (its.holds from) len salvaged (copied_of len salvaged) × EndsOrReadsOn whole len salvaged outcome before after
+      IsCopy new_file (its.device.holds from) len salvaged (copied_of len salvaged) × EndsOrReadsOn whole len salvaged outcome before after
   CopiesBy (Err failed) len whole outcome from before after =
-      (named : KeepCommandFault) × (outcome ≡ Err named) × NamesCopy its failed.fault named before.file after.file × (after.sink ≡ before.sink)
+      (named : KeepCommandFault) × (outcome ≡ Err named) × NamesCopy its.device failed.fault named before.file after.file × (after.sink ≡ before.sink)
 
   -- a file of so many bytes was copied
   pub record CopiesLong (len : ℕ) (whole : Bool) (outcome : FileOutcome) (into : D) (before after : FileOutput E) : Type 0 where
@@ -166,16 +166,16 @@ module _ {E : Type 0} (its : devices.Ghosts E) (whole_read : E → List ℕ → 
   pub record CopiesFile (whole : Bool) (outcome : FileOutcome) (into : D) (before after : FileOutput E) : Type 0 where
     pub len : Result ℕ JournalFault
     pub between : E
-    pub asked : IsMeasured its whole_read len before.file between
+    pub asked : IsMeasured its.device its.whole len before.file between
     pub copies : MatchResult len (λ n. CopiesLong n whole outcome into (record before { file = between }) after)
         (λ fault. (outcome ≡ Err (disk_fault fault)) × (after ≡ record before { file = between }))
 
--- a file that is not to be whole, and is no journal by its first bytes, is read as one
+-- a file that need not be whole, and is no journal by its first bytes, is read as one
 abbrev pub is_mended : Bool → KeepCommandFault → Bool
 is_mended false (NotAJournal kind) = true
 is_mended whole fault = false
 
--- of such a file it is reported last that its first bytes are not a journal's, where it was copied
+-- if such a file was copied, it is reported last that its first bytes are not a journal's
 abbrev pub mended_line : List ℕ
 mended_line = codes "damaged magic: the first 8 bytes are not a journal's\n"
 
@@ -188,10 +188,10 @@ module _ {O D E : Type 0} (its : KnownFiles O D E) (new : List ℕ) where
   abbrev pub MakesCopy : {F : Type 0} → KnownReading F → O → O → Bool → FileOutcome → FileOutput F → FileOutput F → Type 0
   MakesCopy reading before left whole outcome first last =
       Opens Making (its.opener.makes_new before new) left outcome (last ≡ first)
-      (λ into. CopiesFile reading.device reading.whole its.file whole outcome into first last)
+      (λ into. CopiesFile reading its.file whole outcome into first last)
 
-  -- a file was read whole, with the first bytes of a journal over its own; where it begins as a ledger's then it was copied so
-  pub record CopiesMended (before left : O) (refused : KeepCommandFault) (outcome : FileOutcome) (from : E) (start written : Output) : Type 0 where
+  -- a file was read whole, with the first bytes of a journal in place of its own; if it begins as a ledger's then, it was copied so
+  pub record CopiesMended (refused : KeepCommandFault) (outcome : FileOutcome) (from : E) (first last : OpenerOutput O) : Type 0 where
     pub looked : E
     pub looks : (file : List ℕ) → its.whole from file → its.whole looked file
     pub all : (file : List ℕ) → its.reading.holds looked file → its.whole looked file
@@ -204,35 +204,35 @@ module _ {O D E : Type 0} (its : KnownFiles O D E) (new : List ℕ) where
     pub after : Mended E
     pub middle : Output
     pub copies : MatchResult rules
-        (λ read. MakesCopy (mended_reading its.reading) before left false copied (record { file = between; sink = start }) (record { file = after; sink = middle })
-        × NotesMended copied outcome middle written)
-        (λ fault. (outcome ≡ Err refused) × (left ≡ before) × (written ≡ start))
+        (λ read. MakesCopy (mended_reading its.reading) first.opener last.opener false copied (record { file = between; sink = first.sink }) (record { file = after; sink = middle })
+        × NotesMended copied outcome middle last.sink)
+        (λ fault. (outcome ≡ Err refused) × (last.opener ≡ first.opener) × (last.sink ≡ first.sink))
 
-  abbrev pub CopiesIf : Bool → O → O → KeepCommandFault → FileOutcome → E → Output → Output → Type 0
-  CopiesIf true before left refused outcome from start written = CopiesMended before left refused outcome from start written
-  CopiesIf false before left refused outcome from start written = (outcome ≡ Err refused) × (left ≡ before) × (written ≡ start)
+  abbrev pub CopiesIf : Bool → KeepCommandFault → FileOutcome → E → OpenerOutput O → OpenerOutput O → Type 0
+  CopiesIf true refused outcome from first last = CopiesMended refused outcome from first last
+  CopiesIf false refused outcome from first last = (outcome ≡ Err refused) × (last.opener ≡ first.opener) × (last.sink ≡ first.sink)
 
-  -- a file that does not begin as a ledger's is refused, and no new one was made; but of one that may have other first bytes alone
-  pub record CopiesRefused (before left : O) (fault : StartFault) (whole : Bool) (outcome : FileOutcome) (from : E) (start written : Output) : Type 0 where
+  -- a file that does not begin as a ledger's is refused, and no new one was made, except if only its first bytes may be wrong
+  pub record CopiesRefused (fault : StartFault) (whole : Bool) (outcome : FileOutcome) (from : E) (first last : OpenerOutput O) : Type 0 where
     pub refused : KeepCommandFault
     pub after : E
     pub names : Names its.reading (started_fault fault) refused from after
-    pub copies : CopiesIf (is_mended whole refused) before left refused outcome after start written
+    pub copies : CopiesIf (is_mended whole refused) refused outcome after first last
 
   -- the first record of a file was read, and then it was copied into a new one
-  pub record CopiesHeaded (before left : O) (whole : Bool) (outcome : FileOutcome) (from : E) (start written : Output) : Type 0 where
+  pub record CopiesHeaded (whole : Bool) (outcome : FileOutcome) (from : E) (first last : OpenerOutput O) : Type 0 where
     pub rules : Result Rules StartFault
     pub between : E
     pub head : IsHeadRead its.reading rules from between
     pub copies : MatchResult rules (λ read. (after : E)
-        × MakesCopy (reading_of its) before left whole outcome (record { file = between; sink = start }) (record { file = after; sink = written }))
-        (λ fault. CopiesRefused before left fault whole outcome between start written)
+        × MakesCopy (reading_of its) first.opener last.opener whole outcome (record { file = between; sink = first.sink }) (record { file = after; sink = last.sink }))
+        (λ fault. CopiesRefused fault whole outcome between first last)
 
   -- the file of a name was opened and copied into a new one; or it was not opened, and none was made
   pub record CopiesOver (name : List ℕ) (before left : O) (whole : Bool) (outcome : FileOutcome) (start written : Output) : Type 0 where
     pub middle : O
     pub copies : Opens Opening (its.opener.opens before name) middle outcome ((left ≡ middle) × (written ≡ start))
-        (λ from. CopiesHeaded middle left whole outcome from start written)
+        (λ from. CopiesHeaded whole outcome from (opener_output middle start) (opener_output left written))
 
 -- rows
 

@@ -63,6 +63,18 @@ abbrev pub OnDevice : {D W : Type 0} → sinks.Ghosts W → (FileOutput D → Fi
 OnDevice sink Does device writer =
     Does (record { file = old device; sink = sink.output (old writer) }) (record { file = new device; sink = sink.output (new writer) })
 
+-- what opens files, and what a writer took, at one moment
+pub record OpenerOutput (O : Type 0) : Type 0 where
+  pub opener : O
+  pub sink : Output
+
+abbrev pub opener_output : {O : Type 0} → O → Output → OpenerOutput O
+opener_output opener sink = record { opener = opener; sink = sink }
+
+-- of both, before a call and after it
+abbrev pub OnOpener : {O W : Type 0} → sinks.Ghosts W → (OpenerOutput O → OpenerOutput O → Type 0) → Change O → Change W → Type 0
+OnOpener sink Does opener writer = Does (opener_output (old opener) (sink.output (old writer))) (opener_output (new opener) (sink.output (new writer)))
+
 -- the file that a ledger or a log is kept in: its path, whether there has to be one, and the rules
 pub record KeptFile : Type 0 where
   pub path : List ℕ

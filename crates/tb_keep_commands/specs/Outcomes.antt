@@ -34,39 +34,39 @@ use Rattle.tb_keep_commands.specs.Summaries.{ReadsQuick, ReadsWhole, summary_of,
 abbrev pub FileOutcome : Type 0
 FileOutcome = Result (Unit {0}) KeepCommandFault
 
--- a text went out whole, or a prefix of it and the writer failed
+-- a text was sent, or a prefix of it and the writer failed
 abbrev pub PrintsWhole : List ℕ → FileOutcome → Output → Output → Type 0
 PrintsWhole text (Ok done) start written = Sent text start written
 PrintsWhole text (Err fault) start written = (fault ≡ Device failed.Output) × CutOff text start written
 
--- or there is no memory for it
+-- or an allocation for it failed
 abbrev pub PrintsText : List ℕ → FileOutcome → Output → Output → Type 0
 PrintsText text (Err NoMemory) start written = written ≡ start
 PrintsText text outcome start written = PrintsWhole text outcome start written
 
 module _ {D : Type 0} (its : devices.Ghosts D) where
-  -- of the file that the reads of a device are of
+  -- it holds of the file that a device reads
   abbrev pub OfFile : D → (List ℕ → Type 0) → Type 0
   OfFile device Is = (file : List ℕ) → its.holds device file → Is file
 
-  -- a device was read to the end of its file, as one history, or it is reported why not; the file stays
+  -- a device was read to the end of its file, as one history, or it is reported why not; the file is as it was
   pub record IsReadWhole (found : Result Found StartFault) (device after : D) : Type 0 where
     pub found_is : OfFile device (ReadsWhole found)
     pub same : OfFile device (its.holds after)
     pub cause : its.tells → HasStartCause found (its.disk device) (its.disk after)
 
-  -- a dump of a file of these rules was written, or as much of it as the answer says
+  -- a dump of a file of these rules was written, or as much of it as the result says
   pub record IsLedgerDumped (result : Result (Unit {0}) DumpFault) (rules : Rules) (before after : FileOutput D) : Type 0 where
     pub dumps : OfFile before.file (λ file. Dumps result rules file before.sink after.sink)
     pub cause : its.tells → HasDumpCause result (its.disk before.file) (its.disk after.file)
 
-  -- a file that was read is refused, with what there is to say of it
+  -- a file that was read is refused, with what is known of it
   pub record IsRefused (fault : StartFault) (outcome : FileOutcome) (device after : D) : Type 0 where
     pub named : KeepCommandFault
     pub outcome_is : outcome ≡ Err named
     pub names : Names its (started_fault fault) named device after
 
-  -- where a file was found to be one history its dump was written, or why not; else nothing was
+  -- if a file was found to be one history, its dump was written, or why not; otherwise nothing was
   abbrev pub DumpsFound : Result Found StartFault → FileOutcome → FileOutput D → FileOutput D → Type 0
   DumpsFound (Err fault) outcome before after = IsRefused fault outcome before.file after.file × (after.sink ≡ before.sink)
   DumpsFound (Ok found) outcome before after =
@@ -79,8 +79,8 @@ module _ {D : Type 0} (its : devices.Ghosts D) where
     pub whole : IsReadWhole found before.file between
     pub dumps : DumpsFound found outcome (record before { file = between }) after
 
-  -- a part of a dump of a file of these rules was written, and as long as more was waited for what came later, or as much of it as the outcome
-  -- says. Where that is done nobody waits for more
+  -- a part of a dump of a file of these rules was written, with what was committed while more was waited for, or as much of it as the outcome
+  -- says. It is done only once nobody waits for more
   pub record IsFollowed (Ended : Type 0) (from : Option ℕ) (follows : Bool) (outcome : FileOutcome) (rules : Rules) (before after : FileOutput D) : Type 0 where
     pub writes : OfFile before.file (λ file. WritesPart (its.holds after.file) outcome follows from rules file before.sink after.sink)
     pub ends : follows ≡ true → OnOk outcome Ended
@@ -100,7 +100,7 @@ module _ {D : Type 0} (its : devices.Ghosts D) where
   DumpsPart Ended None false outcome before after = DumpsFile outcome before after
   DumpsPart Ended from follows outcome before after = DumpsFollowing Ended from follows outcome before after
 
-  -- a device was read to the end of its file, by the numbers and times of its entries alone, or it is reported why not; the file stays
+  -- a device was read to the end of its file, only by the numbers and times of its entries, or it is reported why not; the file is as it was
   pub record IsReadQuick (found : Result Found StartFault) (device after : D) : Type 0 where
     pub found_is : OfFile device (ReadsQuick found)
     pub same : OfFile device (its.holds after)
@@ -111,7 +111,7 @@ module _ {D : Type 0} (its : devices.Ghosts D) where
   IsReadBy true = IsReadQuick
   IsReadBy false = IsReadWhole
 
-  -- a file of so many bytes was read to its end before its summary was printed. One that is refused is named, and nothing was
+  -- a file of so many bytes was read to its end before its summary was printed. One that is refused is named, and nothing was printed
   pub record ChecksLong (len : ℕ) (quick : Bool) (outcome : FileOutcome) (before after : FileOutput D) : Type 0 where
     pub found : Result Found StartFault
     pub between : D
@@ -119,13 +119,13 @@ module _ {D : Type 0} (its : devices.Ghosts D) where
     pub checks : MatchResult found (λ it. PrintsText (summary_text (summary_of it len quick)) outcome before.sink after.sink)
         (λ fault. IsRefused fault outcome between after.file × (after.sink ≡ before.sink))
 
-  -- a device was asked for the length of its file, which stays
+  -- a device returned the length of its file, which is as it was
   pub record IsAsked (len : Result ℕ JournalFault) (device after : D) : Type 0 where
     pub long : OfFile device (λ file. IfOk len (λ n. n ≡ length file))
     pub same : OfFile device (its.holds after)
     pub looks : its.tells → Looks len (its.disk device) (its.disk after)
 
-  -- a device was asked for the length of the whole file of which it holds a part: that at some moment of the call. What it holds stays
+  -- a device returned the length of the whole file of which it holds a part: that at some moment of the call. What it holds is as it was
   pub record IsMeasured (whole : D → List ℕ → Type 0) (len : Result ℕ JournalFault) (device after : D) : Type 0 where
     pub long : MeasuresWhole whole len device after
     pub extends : OfFile device (λ file. IfOk len (IsWholeLength file))
@@ -134,7 +134,7 @@ module _ {D : Type 0} (its : devices.Ghosts D) where
     pub same : OfFile device (its.holds after)
     pub looks : its.tells → Looks len (its.disk device) (its.disk after)
 
-  -- a file's length was asked for, and then it was checked
+  -- a file's length was read, and then it was checked
   pub record ChecksFile (whole : D → List ℕ → Type 0) (quick : Bool) (outcome : FileOutcome) (before after : FileOutput D) : Type 0 where
     pub len : Result ℕ JournalFault
     pub between : D
@@ -142,8 +142,8 @@ module _ {D : Type 0} (its : devices.Ghosts D) where
     pub checks : MatchResult len (λ n. ChecksLong n quick outcome (record before { file = between }) after)
         (λ fault. (outcome ≡ Err (disk_fault fault)) × (after.sink ≡ before.sink))
 
-  -- that its start made a file where there were no bytes was reported, and what it cut off behind the records of one of so many bytes, and that
-  -- it is done, where that is reported; then a ledger was kept
+  -- it was reported if the start made a file or found it empty, how much it cut off after the records of a file of so many bytes, and, if its
+  -- progress is reported, that it is done; then a ledger was kept
   pub record ServesKept (outcome : FileOutcome) (keeper : Keeping D) (path : List ℕ) (reports : Bool) (len : ℕ) (before after : Streams) : Type 0 where
     pub noted : Output
     pub made : PrintsMade len path before.faults noted
@@ -155,15 +155,15 @@ module _ {D : Type 0} (its : devices.Ghosts D) where
     pub served : Served its.tells its.disk result keeper left before.source after.source before.sink after.sink
     pub outcome_is : outcome ≡ outcome_by (kept_fault (failed_pipe before.source.failed after.source.failed)) result
 
-  -- what a start over a device answers, of one that reports what its calls do; of one that is kept, where no sync has failed before
+  -- what a start returns over a device that reports what its calls do; of a ledger that is kept, if no sync has failed before
   pub record Starts (result : Result (Keeping D) (NotKept D)) (rules : Rules) (device : D) : Type 0 where
     pub answers : MatchResult result (λ keeper. (its.disk device).sound ≡ true → IsStarted its.disk rules.profile rules.clients_max (its.disk device).seen keeper)
         (λ failed. IsStartRefused rules.profile rules.clients_max failed.fault (its.disk device) (its.disk failed.device))
     pub cause : HasEitherCause (why_left result) (its.disk device) (its.disk (keeper_device_left result))
-    -- a crash at any moment of it, where none has
+    -- a crash at any moment of it, if no sync has failed before
     pub any_moment : (its.disk device).sound ≡ true → LeavesOnly (its.disk device) (its.disk (keeper_device_left result)) (MayBeStarted rules.profile rules.clients_max (its.disk device))
 
-  -- the same of one over a file in which a ledger is to be: none is created
+  -- the same if the file has to have a ledger: none is created
   pub record TakesFile (result : Result (Keeping D) (NotKept D)) (rules : Rules) (device : D) : Type 0 where
     pub answers : MatchResult result (λ keeper. (its.disk device).sound ≡ true → IsOpenedLedger its.disk rules.profile rules.clients_max (its.disk device).seen keeper)
         (λ failed. kept.IsOpenRefused rules.profile rules.clients_max failed.fault (its.disk device) (its.disk failed.device))
@@ -174,16 +174,16 @@ module _ {D : Type 0} (its : devices.Ghosts D) where
   StartsBy true result rules device = TakesFile result rules device
   StartsBy false result rules device = Starts result rules device
 
-  -- by the file that the reads of a device are of
+  -- the same, by the file that a device reads
   abbrev pub HandsBy : Bool → Result (Keeping D) (NotKept D) → Rules → D → Type 0
   HandsBy true result rules device = OfFile device (OpensFile result rules.profile rules.clients_max)
   HandsBy false result rules device = OfFile device (StartsFile result rules.profile rules.clients_max)
 
-  -- what a start cut off was set aside before
+  -- what a start cut off was copied before
   abbrev pub IsAside : Result (Keeping D) (NotKept D) → D → Type 0
   IsAside result device = OfFile device (λ file. IfOk result (λ keeper. AreAside its.aside keeper.cut file))
 
-  -- a start was refused, with what there is to say of the file; nothing was read, written or reported
+  -- a start was refused, with what is known of the file; nothing was read, written or reported
   pub record IsUnstarted (failed : NotKept D) (rules : Rules) (outcome : FileOutcome) (before after : Streams) : Type 0 where
     pub named : KeepCommandFault
     pub outcome_is : outcome ≡ Err named
@@ -191,8 +191,8 @@ module _ {D : Type 0} (its : devices.Ghosts D) where
     pub names : NamesAsked its rules failed.fault named failed.device left
     pub nothing : after ≡ before
 
-  -- that the file is read was reported, where that is reported, and a ledger was started, or opened, where one is to be there; it was kept,
-  -- or is refused
+  -- it was reported, if progress is, that the file is read; a ledger was started, or opened if there has to be one; and it was kept, or is
+  -- refused
   pub record ServesLong (outcome : FileOutcome) (file : KeptFile) (reports : Bool) (len : ℕ) (device : D) (before after : Streams) : Type 0 where
     pub noted : Output
     pub reading : PrintsReading reports file.path len before.faults noted
@@ -203,7 +203,7 @@ module _ {D : Type 0} (its : devices.Ghosts D) where
     pub serves : MatchResult started (λ keeper. ServesKept outcome keeper file.path reports len (record before { faults = noted }) after)
         (λ failed. IsUnstarted failed file.rules outcome (record before { faults = noted }) after)
 
-  -- the length of a file was asked for, and then a ledger was started over it, and kept
+  -- the length of a file was read, and then a ledger was started over it, and kept
   pub record ServesFile (outcome : FileOutcome) (file : KeptFile) (reports : Bool) (device : D) (before after : Streams) : Type 0 where
     pub len : Result ℕ JournalFault
     pub between : D
@@ -211,34 +211,41 @@ module _ {D : Type 0} (its : devices.Ghosts D) where
     pub serves : MatchResult len (λ n. ServesLong outcome file reports n between before after)
         (λ fault. (outcome ≡ Err (disk_fault fault)) × (after ≡ before))
 
--- an opening may answer so, and leave what opens like this: with a device that was done; at a fault, which has this name, nothing was
+-- an opening may return this, and leave what opens so: with a device that was done; at a fault, which has this name, nothing was
 pub record Opens {D O F : Type 0} (named : OpeningFault → F) (may : Result D OpeningFault → O → Type 0) (left : O) (outcome : Result (Unit {0}) F) (Nothing : Type 0)
     (Does : D → Type 0) : Type 0 where
   pub answer : Result D OpeningFault
   pub answered : may answer left
   pub done : MatchResult answer Does (λ fault. (outcome ≡ Err (named fault)) × Nothing)
 
--- an outcome, of which a fault has the name of the reason, where one is known
+-- an outcome whose fault has the name of the reason, if one is known
 abbrev pub named_by : {F : Type 0} → (KeepCommandFault → F) → Option Reason → Result (Unit {0}) F → Result (Unit {0}) F
 named_by name (Some reason) (Err fault) = Err (name (reason_fault reason))
 named_by name reason outcome = outcome
 
 module _ {D : Type 0} (its : devices.Ghosts D) {O : Type 0} (may : Result D OpeningFault → O → Type 0) (left : O) where
-  -- a ledger was served over what an opening answered
+  -- a ledger was served over what an opening returned
   abbrev pub ServesOpened : FileOutcome → KeptFile → Bool → Streams → Streams → Type 0
   ServesOpened outcome file reports before after =
       Opens Opening may left outcome (after ≡ before) (λ device. ServesFile its outcome file reports device before after)
 
-  -- where requests would come from a terminal it is reported first where words are read; where it is known why a call on the file
-  -- failed, the outcome is named by that
-  pub record RunsOver (may_be_for : Option Reason → Type 0) (outcome : FileOutcome) (file : KeptFile) (reports talks : Bool) (before after : Streams) : Type 0 where
-    pub noted : Output
-    pub frames : PrintsFrames talks before.faults noted
-    pub served : FileOutcome
-    pub reason : Option Reason
-    pub asked : may_be_for reason
-    pub outcome_is : outcome ≡ named_by (λ fault. fault) reason served
-    pub runs : ServesOpened served file reports (record before { faults = noted }) after
+-- what a start reports: how much of the file it has read, and that requests are read from a terminal
+pub record StartNotes : Type 0 where
+  pub progress : Bool
+  pub frames : Bool
+
+abbrev pub start_notes : Bool → Bool → StartNotes
+start_notes progress frames = record { progress = progress; frames = frames }
+
+-- if requests are read from a terminal, that is reported first; if it is known why a call on the file failed, the outcome is named by that
+pub record RunsOver {O D E : Type 0} (its : KnownFiles O D E) (before left : O) (outcome : FileOutcome) (file : KeptFile) (notes : StartNotes) (first last : Streams) : Type 0 where
+  pub noted : Output
+  pub frames : PrintsFrames notes.frames first.faults noted
+  pub served : FileOutcome
+  pub reason : Option Reason
+  pub asked : its.opener.reasons left reason
+  pub outcome_is : outcome ≡ named_by (λ fault. fault) reason served
+  pub runs : ServesOpened its.file (made_by its file.existing before file.path) left served file notes.progress (record first { faults = noted }) last
 
 module _ {O D E : Type 0} (its : KnownFiles O D E) (name : List ℕ) (before left : O) where
   abbrev pub DumpsOver : Option ℕ → Bool → FileOutcome → Output → Output → Type 0
@@ -260,5 +267,4 @@ module _ {O D E R W L : Type 0} (its : KnownEnds O D E R W L) (rules : Rules) (s
   -- a ledger of these rules was served over the file of a start, between the ends of a command
   abbrev pub RunsOn : Bool → FileOutcome → Change O → Change R → Change W → Change L → Type 0
   RunsOn talks outcome opener =
-      OnEnds its (RunsOver its.files.file (made_by its.files start.existing (old opener) start.path.now) (new opener) (its.files.opener.reasons (new opener))
-      outcome (file_of rules start) start.reports talks)
+      OnEnds its (RunsOver its.files (old opener) (new opener) outcome (file_of rules start) (start_notes start.reports talks))

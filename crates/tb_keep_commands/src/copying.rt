@@ -124,7 +124,7 @@ fn rescue<D: Live, N: Device + Drop, W: Sink>(
 ) -> Result<(), KeepCommandFault>
     requires usable { IsUsable salvaged.keeper }
     requires fresh { N.tells → IsFresh N.disk salvaged.keeper }
-    ensures { OnDevice W.Sink (Rescues D.Device D.whole N.Device len salvaged result) from writer }
+    ensures { OnDevice W.Sink (Rescues (known_reading D.Device D.whole) N.Device len salvaged result) from writer }
 {
     let copied = copied_of(&salvaged, len);
     let end = salvaged.end as usize;
@@ -154,7 +154,7 @@ fn end_by<D: Live, N: Device + Drop, W: Sink>(
 ) -> Result<(), KeepCommandFault>
     requires usable { IsUsable salvaged.keeper }
     requires fresh { N.tells → IsFresh N.disk salvaged.keeper }
-    ensures { OnDevice W.Sink (EndsOrReadsOn D.Device D.whole N.Device whole len salvaged result) from writer }
+    ensures { OnDevice W.Sink (EndsOrReadsOn (known_reading D.Device D.whole) N.Device whole len salvaged result) from writer }
 {
     if whole {
         return end_copy(alloc, from, salvaged, len, true, writer);
@@ -172,7 +172,7 @@ fn copy_long<D: Live, N: Device + Drop, W: Sink>(
     writer: &mut W,
 ) -> Result<(), KeepCommandFault>
     requires { N.tells → (N.disk into).sound ≡ true }
-    ensures { OnDevice W.Sink (CopiesLong D.Device D.whole N.Device len whole result into) from writer }
+    ensures { OnDevice W.Sink (CopiesLong (known_reading D.Device D.whole) N.Device len whole result into) from writer }
 {
     match salvage(alloc, from, into) {
         Ok(salvaged) => end_by(alloc, from, len, salvaged, whole, writer),
@@ -190,7 +190,7 @@ pub(crate) fn copy<D: Live, N: Device + Drop, W: Sink>(
     writer: &mut W,
 ) -> Result<(), KeepCommandFault>
     requires { N.tells → (N.disk into).sound ≡ true }
-    ensures { OnDevice W.Sink (CopiesFile D.Device D.whole N.Device whole result into) from writer }
+    ensures { OnDevice W.Sink (CopiesFile (known_reading D.Device D.whole) N.Device whole result into) from writer }
 {
     match from.file_len() {
         Ok(len) => copy_long(alloc, from, len, into, whole, writer),

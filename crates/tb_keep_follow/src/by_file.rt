@@ -1,6 +1,7 @@
 //! The forms that exist over a ledger and over a log: a file's first bytes say which of the two it is.
 ghost use Rattle.std.specs.Prelude.{◌≡◌};
-ghost use Rattle.tb_keep_follow.specs.Exits.{ChecksEither, CopiesEither, DumpsEither, over_ledger, over_log};
+ghost use Rattle.tb_keep_commands.specs.Ends.{OnOpener};
+ghost use Rattle.tb_keep_follow.specs.Exits.{ChecksEither, CopiesEither, DumpsEither, known_looker, over_ledger, over_log};
 
 use crate::commands::{check_over, copy_over, dump_over};
 use crate::faults::{CommandFault, FollowFault};
@@ -37,8 +38,7 @@ pub(crate) fn dump<O: Looker, W: Outlet>(
     writer: &mut W,
     part: Part,
 ) -> Result<(), CommandFault>
-    ensures { DumpsEither ⟦<O as Files>⟧.its O.looks opener.old path.now opener.new part.after part.follows result
-        (W.output writer.old) (W.output writer.new) }
+    ensures { OnOpener W.Sink (DumpsEither (known_looker ⟦<O as Files>⟧.its O.looks) path.now part.after part.follows result) opener writer }
 {
     match is_log(opener, path) {
         Ok(true) => over_log(dump_over(alloc, opener, path, writer, part)),
@@ -55,8 +55,7 @@ pub(crate) fn check<O: Looker, W: Outlet>(
     quick: bool,
     writer: &mut W,
 ) -> Result<(), CommandFault>
-    ensures { ChecksEither ⟦<O as Files>⟧.its O.looks opener.old path.now opener.new quick result
-        (W.output writer.old) (W.output writer.new) }
+    ensures { OnOpener W.Sink (ChecksEither (known_looker ⟦<O as Files>⟧.its O.looks) path.now quick result) opener writer }
 {
     match is_log(opener, path) {
         Ok(true) => over_log(check_over(alloc, opener, path, writer)),
@@ -74,8 +73,7 @@ pub(crate) fn copy<O: Looker, W: Outlet>(
     whole: bool,
     writer: &mut W,
 ) -> Result<(), CommandFault>
-    ensures { CopiesEither ⟦<O as Files>⟧.its O.looks opener.old path.now opener.new new.now whole result
-        (W.output writer.old) (W.output writer.new) }
+    ensures { OnOpener W.Sink (CopiesEither (known_looker ⟦<O as Files>⟧.its O.looks) path.now new.now whole result) opener writer }
 {
     match is_log(opener, path) {
         Ok(true) => over_log(copy_over(alloc, opener, path, new, whole, writer)),

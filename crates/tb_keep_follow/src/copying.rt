@@ -5,7 +5,7 @@ ghost use Rattle.tb_keep_log.specs.Copying.{reads_on};
 ghost use Rattle.tb_keep_commands.specs.Copies.{refused_by};
 ghost use Rattle.tb_keep_commands.specs.Ends.{OnDevice, OnWriter, known_reading};
 ghost use Rattle.tb_keep_commands.specs.Outcomes.{PrintsText};
-ghost use Rattle.tb_keep_follow.specs.Copies.{CopiesBegunOn, CopiesLog, CopiesFoundOn, CopiesLongLog, CopiesMendedLogOn, CopiesRefusedLogOn, EndsLog, EndsTaken, IsBegun, MakesLogCopyOn, NotesMendedLog, RescuesLog, is_log_mended, log_copied_of, log_copied_text, log_damage_of, log_rescued_of, log_rescued_text, uncopied_fault};
+ghost use Rattle.tb_keep_follow.specs.Copies.{CopiesBegunOn, CopiesLog, CopiesFoundOn, CopiesLongLog, CopiesMendedLogOn, CopiesRefusedLogOn, EndsLog, EndsTaken, IsBegun, MakesLogCopyOn, NotesMendedLog, RescuesLog, copy_terms, is_log_mended, log_copied_of, log_copied_text, log_damage_of, log_rescued_of, log_rescued_text, uncopied_fault};
 
 use crate::checking::printed_outcome;
 use crate::faults::{FollowFault, journal_fault, started_fault};
@@ -200,7 +200,7 @@ fn rescue<D: Live, N: Device + Drop, W: Sink>(
 ) -> Result<(), FollowFault>
     requires usable { copied.journal.usable ≡ true }
     requires ready { N.tells → IsReady N.disk copied.journal }
-    ensures { OnDevice W.Sink (RescuesLog D.Device D.whole N.Device len rules.now copied result) from writer }
+    ensures { OnDevice W.Sink (RescuesLog (known_reading D.Device D.whole) N.Device len rules.now copied result) from writer }
 {
     let it = LogCopied::of(&copied, len);
     let mut copied = copied;
@@ -231,7 +231,7 @@ fn end_by<D: Live, N: Device + Drop, W: Sink>(
 ) -> Result<(), FollowFault>
     requires usable { copied.journal.usable ≡ true }
     requires ready { N.tells → IsReady N.disk copied.journal }
-    ensures { OnDevice W.Sink (EndsLog D.Device D.whole N.Device whole (reads_on copied.stop) len rules.now copied result) from writer }
+    ensures { OnDevice W.Sink (EndsLog (known_reading D.Device D.whole) N.Device (copy_terms whole rules.now) (reads_on copied.stop) len copied result) from writer }
 {
     if whole {
         return end_copy(alloc, from, copied, len, true, writer);
@@ -253,7 +253,7 @@ fn copy_long<D: Live, N: Device + Drop, W: Sink>(
     writer: &mut W,
 ) -> Result<(), FollowFault>
     requires { N.tells → (N.disk into).sound ≡ true }
-    ensures { OnDevice W.Sink (CopiesLongLog D.Device D.whole N.Device len whole result rules into) from writer }
+    ensures { OnDevice W.Sink (CopiesLongLog (known_reading D.Device D.whole) N.Device len (copy_terms whole rules) result into) from writer }
 {
     match copy_log(alloc, &rules, from, into) {
         Ok(copied) => end_by(alloc, &rules, from, copied, len, whole, writer),
@@ -276,7 +276,7 @@ fn copy_file<D: Live, N: Device + Drop, W: Sink>(
     writer: &mut W,
 ) -> Result<(), FollowFault>
     requires { N.tells → (N.disk into).sound ≡ true }
-    ensures { OnDevice W.Sink (CopiesLog D.Device D.whole N.Device whole result rules into) from writer }
+    ensures { OnDevice W.Sink (CopiesLog (known_reading D.Device D.whole) N.Device (copy_terms whole rules) result into) from writer }
 {
     match from.file_len() {
         Ok(len) => copy_long(alloc, rules, from, len, into, whole, writer),
@@ -297,7 +297,7 @@ fn copy_made<O: Opener, D: Live, W: Sink>(
     whole: bool,
     writer: &mut W,
 ) -> Result<(), FollowFault>
-    ensures { MakesLogCopyOn ⟦<O as Files>⟧.its new.now W.Sink (known_reading D.Device D.whole) whole rules result opener from writer }
+    ensures { MakesLogCopyOn ⟦<O as Files>⟧.its new.now W.Sink (known_reading D.Device D.whole) (copy_terms whole rules) result opener from writer }
 {
     let made = opener.make_new(new);
     match made {
@@ -369,7 +369,7 @@ fn copy_refused<O: Opener, W: Sink>(
     whole: bool,
     writer: &mut W,
 ) -> Result<(), FollowFault>
-    ensures { CopiesRefusedLogOn ⟦<O as Files>⟧.its new.now W.Sink whole fault rules result opener from writer }
+    ensures { CopiesRefusedLogOn ⟦<O as Files>⟧.its new.now W.Sink (copy_terms whole rules) fault result opener from writer }
 {
     if is_mended(whole, fault) {
         return copy_mended(alloc, opener, rules, from, new, writer);
@@ -389,7 +389,7 @@ fn copy_begun<O: Opener, W: Sink>(
     whole: bool,
     writer: &mut W,
 ) -> Result<(), FollowFault>
-    ensures { CopiesBegunOn ⟦<O as Files>⟧.its new.now W.Sink whole rules result opener from writer }
+    ensures { CopiesBegunOn ⟦<O as Files>⟧.its new.now W.Sink (copy_terms whole rules) result opener from writer }
 {
     let mut from = from;
     match begun(alloc, &mut from) {

@@ -1,6 +1,7 @@
 //! The way from a program's input and output to a command.
 ghost use Rattle.std.specs.Prelude.{◌≡◌};
-ghost use Rattle.tb_keep_follow.specs.Hosts.{input_size, output_size, HostedOn, ServesStreamsOn};
+ghost use Rattle.tb_keep_follow.specs.Exits.{known_looker};
+ghost use Rattle.tb_keep_follow.specs.Hosts.{input_size, output_size, known_host, HostedOn, ServesStreamsOn};
 
 use crate::executing::{Terminals, execute};
 use crate::heads::Looker;
@@ -39,8 +40,8 @@ fn between<O: Looker, R: Read + Drop, W: Write + Drop, E: Sink>(
     output: BufWriter<W>,
     faults: &mut E,
 ) -> u8
-    ensures { HostedOn ⟦<O as Files>⟧.its O.looks ends command.now R.remaining W.contents E.Sink
-        opener.old opener.new result input output faults.old faults.new }
+    ensures { HostedOn (known_host (known_looker ⟦<O as Files>⟧.its O.looks) R.remaining W.contents E.Sink) ends command.now
+        result opener input output faults }
 {
     let mut reader = Buffered::new(input);
     let mut writer = Outgoing::new(output);
@@ -65,8 +66,8 @@ pub fn serve<O: Looker, R: Read + Drop, W: Write + Drop, E: Sink>(
     output: W,
     faults: &mut E,
 ) -> u8
-    ensures { ServesStreamsOn ⟦<O as Files>⟧.its O.looks ends command.now R.remaining W.contents E.Sink
-        opener.old opener.new result input output faults.old faults.new }
+    ensures { ServesStreamsOn (known_host (known_looker ⟦<O as Files>⟧.its O.looks) R.remaining W.contents E.Sink) ends command.now
+        result opener input output faults }
 {
     let (held_in, held_out) = capacities(command.form);
     let Ok(input) = BufReader::with_capacity(alloc, held_in, input) else {

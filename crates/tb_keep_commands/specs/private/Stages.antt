@@ -13,7 +13,7 @@ use Rattle.tb_keep_commands.specs.declared.faults.KeepCommandFault.{KeepCommandF
 use Rattle.tb_keep_commands.specs.declared.following.Part.{Part}
 use Rattle.tb_keep_commands.specs.declared.keeping.FileStart.{FileStart}
 use Rattle.tb_keep_commands.specs.Copies.{CopiesHeaded, CopiesMended, CopiesRefused, EndsCopy, MakesCopy, NotesMended, copied_of, refused_by}
-use Rattle.tb_keep_commands.specs.Ends.{FileOutput, KnownEnds, KnownFiles, KnownReading, OnDevice, OnEnds, OnWriter, made_by}
+use Rattle.tb_keep_commands.specs.Ends.{FileOutput, KnownEnds, KnownFiles, KnownReading, OnDevice, OnEnds, OnOpener, OnWriter, made_by}
 use Rattle.tb_keep_commands.specs.Following.{EndsRounds, WritesGrown, GrowsBy, HasPartCause, RoundCause, SendsRound, WritesPart}
 use Rattle.tb_keep_commands.specs.Live.{LooksAgain}
 use Rattle.tb_keep_commands.specs.Outcomes.{DumpsPart, DumpsFollowing, FileOutcome, ServesFile, ServesKept, ServesLong, ServesOpened, file_of}
@@ -44,15 +44,13 @@ module _ {D W : Type 0} (its : devices.Ghosts D) (sink : sinks.Ghosts W) (Ended 
 -- a copy, over the files of a command
 module _ {O D E W : Type 0} (its : KnownFiles O D E) (sink : sinks.Ghosts W) where
   abbrev pub CopiesHeadedOn : List ℕ → Bool → FileOutcome → E → Change O → Change W → Type 0
-  CopiesHeadedOn into whole outcome from opener writer = OnWriter sink (CopiesHeaded its into (old opener) (new opener) whole outcome from) writer
+  CopiesHeadedOn into whole outcome from opener writer = OnOpener sink (CopiesHeaded its into whole outcome from) opener writer
 
   abbrev pub CopiesRefusedOn : List ℕ → StartFault → Bool → FileOutcome → E → Change O → Change W → Type 0
-  CopiesRefusedOn into fault whole outcome from opener writer =
-      OnWriter sink (CopiesRefused its into (old opener) (new opener) fault whole outcome from) writer
+  CopiesRefusedOn into fault whole outcome from opener writer = OnOpener sink (CopiesRefused its into fault whole outcome from) opener writer
 
   abbrev pub CopiesMendedOn : List ℕ → KeepCommandFault → FileOutcome → E → Change O → Change W → Type 0
-  CopiesMendedOn into refused outcome from opener writer =
-      OnWriter sink (CopiesMended its into (old opener) (new opener) refused outcome from) writer
+  CopiesMendedOn into refused outcome from opener writer = OnOpener sink (CopiesMended its into refused outcome from) opener writer
 
 module _ {O D E F W : Type 0} (its : KnownFiles O D E) (reading : KnownReading F) (sink : sinks.Ghosts W) where
   abbrev pub MakesCopyOn : List ℕ → Bool → FileOutcome → Change O → Change F → Change W → Type 0

@@ -2,7 +2,7 @@ use Rattle.tb_keep_follow.proofs.host.between.Goals as goal
 
 pub returns : goal.returns
 returns g c = record {
-  last = c.execute.new.reader;
+  end = c.execute.new.reader;
   final = c.execute.new.writer;
   exits = rw (c.new-reader.ensures, c.new-writer.ensures) at c.execute.ensures;
 }
