@@ -51,7 +51,7 @@ class Kept:
         where = len(self.data) - 4
         return (
             f"{copied}{self.copy(torn).name}\n"
-            f"tbd: cut {len(torn)} bytes of a batch that was not committed, behind byte {where}\n"
+            f"tbd: cut {len(torn)} bytes of a batch that was not committed, after byte {where}\n"
         )
 
     def is_whole(self, torn=TORN):

@@ -49,7 +49,7 @@ FAULTS = [
     ("sync", errno.EIO, SYNC),
 ]
 NEWS = "", "tbd: made ledger\n"
-CUT = "tbd: cut {} bytes of a batch that was not committed, behind byte {}\n"
+CUT = "tbd: cut {} bytes of a batch that was not committed, after byte {}\n"
 
 
 @pytest.fixture(name="tbd")

@@ -148,7 +148,7 @@ def test_no_control_character_is_printed(tbd, tmp_path, words, said):
 
 SALVAGE = "; tbd salvage makes a new file of the entries before it"
 TORN_LONG = (
-    f"tbd: Damaged: ledger: {kinds.TOO_LONG} bytes are behind byte 191, more than one batch can"
+    f"tbd: Damaged: ledger: {kinds.TOO_LONG} bytes are after byte 191, more than one batch can"
     f" have{SALVAGE}\n"
 )
 CHANGED = (
@@ -158,14 +158,15 @@ MADE = "tbd: made ledger\n"
 READY = "tbd: ready: commit 2, time 11\n"
 CUT = (
     "tbd: copied 5 bytes, from byte 195 on, 0 whole entries, to ledger.cut-195-{}\n"
-    "tbd: cut 5 bytes of a batch that was not committed, behind byte 191\n"
+    "tbd: cut 5 bytes of a batch that was not committed, after byte 191\n"
 ).format(f"{kinds.crc32c(bytes(range(1, 6))):08x}")
-DROPPED = "tbd: cut 5 bytes of a batch that was not committed, behind byte 191\n"
+DROPPED = "tbd: cut 5 bytes of a batch that was not committed, after byte 191\n"
 
 
 def summary(behind):
     return (
-        "records 3\nentries 2\nprofile 1\nclients_max 2\nlast time 11\n" f"bytes behind {behind}\n"
+        "records 3\nentries 2\nprofile 1\nclients_max 2\nlast time 11\n"
+        f"bytes after the records {behind}\n"
     ).encode()
 
 
@@ -418,8 +419,11 @@ def test_an_input_that_fails(tbd, tmp_path):
 
 
 # What a copy prints, of which kind of file, and how much of the ledger the new file has.
-WHOLE = "entries 2\nlast commit 2\nlast time 11\nbytes behind 0\n"
-TORN = "entries 2\nlast commit 2\nlast time 11\nbytes behind 5, not committed yet or torn\n"
+WHOLE = "entries 2\nlast commit 2\nlast time 11\nbytes after the records 0\n"
+TORN = (
+    "entries 2\nlast commit 2\nlast time 11\n"
+    "bytes after the records 5, not committed yet or torn\n"
+)
 COPIES = [
     ("salvage", "a ledger", WHOLE, kinds.END),
     ("backup", "a ledger", WHOLE, kinds.END),
@@ -428,29 +432,29 @@ COPIES = [
     (
         "salvage",
         "torn long",
-        f"entries 2\nlast commit 2\nlast time 11\nbytes lost {kinds.TOO_LONG} behind byte 191:"
-        f" Damaged: {kinds.TOO_LONG} bytes behind byte 191, more than one batch can have\n",
+        f"entries 2\nlast commit 2\nlast time 11\nbytes lost {kinds.TOO_LONG} after byte 191:"
+        f" Damaged: {kinds.TOO_LONG} bytes after byte 191, more than one batch can have\n",
         kinds.END,
     ),
     (
         "salvage",
         "second entry changed",
         "entries 1\nlast commit 1\nlast time 10\n"
-        "bytes lost 91 behind byte 100: Damaged: at byte 100\n",
+        "bytes lost 91 after byte 100: Damaged: at byte 100\n",
         kinds.FIRST_END,
     ),
     (
         "salvage",
         "first entry changed",
         "entries 0\nlast commit 0\nlast time 0\n"
-        "bytes lost 166 behind byte 25: Damaged: at byte 25\n",
+        "bytes lost 166 after byte 25: Damaged: at byte 25\n",
         kinds.HEAD_END,
     ),
     (
         "salvage",
         "no entry",
         "entries 0\nlast commit 0\nlast time 0\n"
-        "bytes lost 14 behind byte 25: Damaged: record 1: Short\n",
+        "bytes lost 14 after byte 25: Damaged: record 1: Short\n",
         kinds.HEAD_END,
     ),
 ]

@@ -736,7 +736,7 @@ def test_told_of_ends(tbd, folder):
     with open(os.path.join(folder, "torn.tbk"), "wb") as file:
         file.write(data + b"\0\2\0")
     told = check(tbd, os.path.join(folder, "torn.tbk"))
-    case("what is reported of torn bytes", told["bytes behind"] == 3, told)
+    case("what is reported of torn bytes", told["bytes after the records"] == 3, told)
     told = told_of(tbd, folder, ["run", "torn.tbk", "3"])
     case(
         "torn bytes are reported",
@@ -746,7 +746,7 @@ def test_told_of_ends(tbd, folder):
             b"",
             f"tbd: copied 3 bytes, from byte {len(data)} on, 0 whole entries,"
             f" to torn.tbk.cut-{len(data)}-{COPIED}\n"
-            f"tbd: cut 3 bytes of a batch that was not committed, behind byte {len(data) - 4}\n",
+            f"tbd: cut 3 bytes of a batch that was not committed, after byte {len(data) - 4}\n",
         ),
         told,
     )
@@ -807,7 +807,7 @@ def test_told_by_check(tbd, folder):
             "profile": profile,
             "clients_max": 3,
             "last time": 5,
-            "bytes behind": 0,
+            "bytes after the records": 0,
         }
         case(f"what is reported of profile {profile}", told == wanted, told)
 
@@ -1261,7 +1261,7 @@ def test_salvages(tbd, folder, data, latches, rng):
         got = len(ends) - 1 if at - latch < 7 else taken
         left = 0 if got > taken else len(data) - latch - 4
         report = f"entries {got}\nlast commit {got}\n".encode()
-        lost = f"\nbytes lost {left} behind byte {latch}: Damaged: ".encode()
+        lost = f"\nbytes lost {left} after byte {latch}: Damaged: ".encode()
         on = f"\nread on {got - taken} of the entries from byte {latch}\n".encode()
         well = (status, line) == (0, "") and said.startswith(report) and lost in said and same
         well = well and said.endswith(on) == (got > taken)
@@ -1287,7 +1287,7 @@ def test_sound_copies(tbd, folder, data):
             with open(path, "wb") as file:
                 file.write(data + torn)
             (status, said, line), kept = copied(tbd, form, path, new)
-            behind = f"bytes behind {len(torn)}{', not committed yet or torn' if torn else ''}\n"
+            behind = f"bytes after the records {len(torn)}{', not committed yet or torn' if torn else ''}\n"
             well = (
                 (status, line) == (0, "")
                 and said.startswith(f"entries {entries}\n".encode())

@@ -150,7 +150,7 @@ def test_check(run, log, entries, torn):
     assert (done.status, done.err) == (0, "")
     assert done.out == (
         f"records {entries}\nentries {commits(entries)}\nprofile {PROFILE}\nclients_max {CLIENTS}\n"
-        f"last time {time}\nbytes behind {len(torn)}{what}\nposition {entries}\n"
+        f"last time {time}\nbytes after the records {len(torn)}{what}\nposition {entries}\n"
     )
 
 
@@ -164,7 +164,7 @@ def test_a_copy_is_the_same_log(run, made, log, form, entries, torn):
     assert copy == log.file(entries)
     assert done.lines()["position"] == str(entries)
     assert done.lines()["entries"] == done.lines()["last commit"] == str(commits(entries))
-    assert ("bytes behind 4, not committed yet or torn\n" in done.out) == bool(torn)
+    assert ("bytes after the records 4, not committed yet or torn\n" in done.out) == bool(torn)
     served = run("follow", copy, b"".join(log.items[entries:]) + QUESTION)
     assert served.status == 0 and served.err == f"tbd: has the log up to position {entries}\n"
     assert served.out.encode("latin-1")[-STANDING:] == log.records[-1][MARK : MARK + STANDING]
@@ -212,7 +212,7 @@ def test_what_is_copied_of_a_damaged_log(run, made, log, kind):
     assert (done.status, done.err) == (0, "")
     assert copy == log.file(3) and done.lines()["position"] == "3"
     lost, place = max(len(data) - len(copy), 0), log.at(3)
-    assert f"\nbytes lost {lost} behind byte {place}: Damaged: at byte {place}\n" in done.out
+    assert f"\nbytes lost {lost} after byte {place}: Damaged: at byte {place}\n" in done.out
     done, checked = run("backup", data), run("check", data)
     assert (done.status, done.out, done.err) == (checked.status, "", checked.err)
     assert made() == log.file(3)
@@ -241,7 +241,7 @@ def test_no_entry_is_lost_with_a_latch_or_a_length(run, made, log, entry, frame)
     assert (done.status, done.err, made()) == (0, "", log.file())
     assert done.lines()["position"] == str(ENTRIES)
     assert done.lines()["entries"] == done.lines()["last commit"] == str(commits(ENTRIES))
-    assert "bytes lost 0 " in done.out or "bytes behind 0\n" in done.out
+    assert "bytes lost 0 " in done.out or "bytes after the records 0\n" in done.out
     more = commits(ENTRIES) - commits(entry)
     assert f"\nread on {more} of the entries from byte {place}\nposition" in done.out
 
@@ -284,7 +284,7 @@ def test_an_entry_that_is_lost_takes_the_later_ones(run, made, log, at, count):
     done = run("salvage", put(data, place + at, rotten))
     assert (done.status, done.err, made()) == (0, "", log.file(10))
     lost = len(data) - place - LATCH
-    assert f"\nbytes lost {lost} behind byte {place}: Damaged: at byte {place}\n" in done.out
+    assert f"\nbytes lost {lost} after byte {place}: Damaged: at byte {place}\n" in done.out
     assert "read on" not in done.out and done.lines()["position"] == "10"
 
 

@@ -197,7 +197,7 @@ def damaged(why):
     return 6, f"tbd: Damaged: ledger: {why}; {next_step}\n"
 
 
-NONE = "the record behind position 0 is that of no entry"
+NONE = "the record after position 0 is that of no entry"
 OTHER = "entry 1 has another position or other hashes than it leaves"
 
 

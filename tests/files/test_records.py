@@ -104,7 +104,7 @@ TOO_LONG = [b"\xff" * (BATCH + 1), bytes(5_000_000)]
 def test_a_torn_batch_is_cut_off(tbd, tmp_path, tail):
     whole = journal([HEAD])
     (tmp_path / "ledger").write_bytes(whole + tail)
-    line = f"tbd: cut {len(tail)} bytes of a batch that was not committed, behind byte 25\n"
+    line = f"tbd: cut {len(tail)} bytes of a batch that was not committed, after byte 25\n"
     told = ran(tbd, tmp_path, ["run", "ledger", "2", "--drop-torn"])
     assert told == (0, b"", line if tail else "")
     assert (tmp_path / "ledger").read_bytes() == whole
@@ -114,7 +114,7 @@ def test_a_torn_batch_is_cut_off(tbd, tmp_path, tail):
 def test_more_than_a_batch_is_not_cut_off(tbd, tmp_path, tail):
     data = journal([HEAD]) + tail
     (tmp_path / "ledger").write_bytes(data)
-    why = f"{len(tail)} bytes are behind byte 25, more than one batch can have"
+    why = f"{len(tail)} bytes are after byte 25, more than one batch can have"
     told = ran(tbd, tmp_path, ["run", "ledger", "2", "--drop-torn"])
     assert told == (6, b"", f"tbd: {damaged(why)}\n")
     assert (tmp_path / "ledger").read_bytes() == data

@@ -82,7 +82,7 @@ def test_no_entry_is_lost_with_a_latch_or_a_length(whole, tmp_path, block, at, v
     status, printed, dump = whole.salvaged(tmp_path, put(whole.data, place + at, values))
     assert status == 0
     assert dump == whole.dump
-    lost = "bytes lost 0" in printed or "bytes behind 0" in printed
+    lost = "bytes lost 0" in printed or "bytes after the records 0" in printed
     assert lost, printed
     count = len(whole.blocks) - 1
     assert lines_of(printed)["entries"] == str(count)
@@ -119,7 +119,7 @@ def test_an_entry_that_is_lost_takes_the_later_ones(whole, tmp_path, at, count):
     assert status == 0
     assert whole.dump.startswith(dump)
     assert lines_of(printed)["entries"] == "9", printed
-    assert f"bytes lost {len(data) - place - LATCH} behind byte {place}: Damaged: " in printed
+    assert f"bytes lost {len(data) - place - LATCH} after byte {place}: Damaged: " in printed
 
 
 @pytest.mark.quick

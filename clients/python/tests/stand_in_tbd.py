@@ -311,7 +311,7 @@ def tell(word, data):
 
 def behind(count):
     """The line on the bytes after the last whole entry."""
-    return f"bytes behind {count}{', not committed yet or torn' if count else ''}\n"
+    return f"bytes after the records {count}{', not committed yet or torn' if count else ''}\n"
 
 
 def run(path, clients_max, profile, options):

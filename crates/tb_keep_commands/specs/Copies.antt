@@ -45,10 +45,10 @@ damage_of (Some fault) = damage_by (started_fault fault)
 
 -- the last line: the bytes after the entries of a whole file; or those that are lost from the damage on, and where and what that is
 abbrev pub last_line : Copied → Option Damage → List ℕ
-last_line c None = codes "bytes behind " ++ (decimal c.behind ++ (behind_text c.behind ++ 10 ∷ []))
+last_line c None = codes "bytes after the records " ++ (decimal c.behind ++ (behind_text c.behind ++ 10 ∷ []))
 last_line c (Some damage) =
     codes "bytes lost "
-    ++ (decimal c.behind ++ (codes " behind byte " ++ (decimal c.end ++ (codes ": Damaged: " ++ (damage_text damage ++ 10 ∷ [])))))
+    ++ (decimal c.behind ++ (codes " after byte " ++ (decimal c.end ++ (codes ": Damaged: " ++ (damage_text damage ++ 10 ∷ [])))))
 
 abbrev pub copied_text : Copied → List ℕ
 copied_text c =
@@ -237,16 +237,16 @@ module _ {O D E : Type 0} (its : KnownFiles O D E) (new : List ℕ) where
 -- rows
 
 pub three_rescued : rescued_text (record { copied = record { entries = 9; time = 19; end = 94; behind = 88; damage = Some (Block 94 None) }; more = 3; first = 182 })
-    ≡ codes "entries 9\nlast commit 9\nlast time 19\nbytes lost 88 behind byte 94: Damaged: at byte 94\nread on 3 of the entries from byte 182\n"
+    ≡ codes "entries 9\nlast commit 9\nlast time 19\nbytes lost 88 after byte 94: Damaged: at byte 94\nread on 3 of the entries from byte 182\n"
 unfolding digits
 three_rescued = refl
 
 pub two_copied : copied_text (record { entries = 2; time = 11; end = 182; behind = 5; damage = None })
-    ≡ codes "entries 2\nlast commit 2\nlast time 11\nbytes behind 5, not committed yet or torn\n"
+    ≡ codes "entries 2\nlast commit 2\nlast time 11\nbytes after the records 5, not committed yet or torn\n"
 unfolding digits
 two_copied = refl
 
 pub one_copied : copied_text (record { entries = 1; time = 10; end = 94; behind = 88; damage = Some (Block 94 None) })
-    ≡ codes "entries 1\nlast commit 1\nlast time 10\nbytes lost 88 behind byte 94: Damaged: at byte 94\n"
+    ≡ codes "entries 1\nlast commit 1\nlast time 10\nbytes lost 88 after byte 94: Damaged: at byte 94\n"
 unfolding digits
 one_copied = refl

@@ -215,7 +215,7 @@ abbrev pub damage_text : Damage → List ℕ
 damage_text (Block at entry) = codes "at byte " ++ decimal at
 damage_text (Record place fault) = codes "record " ++ decimal place ++ (codes ": " ++ fault_name fault)
 damage_text (Entry fault) = codes "record " ++ decimal fault.place ++ (codes ": " ++ unfit_name fault.cause)
-damage_text (Torn at bytes) = (decimal bytes ++ codes " bytes behind byte ") ++ (decimal at ++ codes ", more than one batch can have")
+damage_text (Torn at bytes) = (decimal bytes ++ codes " bytes after byte ") ++ (decimal at ++ codes ", more than one batch can have")
 
 -- that a block is not what was written, and which entry it is of: record 0 is the head
 abbrev pub unread_text : Option ℕ → List ℕ
@@ -229,7 +229,7 @@ abbrev pub harm_text : Damage → List ℕ
 harm_text (Block at entry) = numbered (codes "the block at byte ") at ++ unread_text entry
 harm_text (Record place fault) = numbered (codes "entry ") place ++ (codes " is none: " ++ fault_name fault)
 harm_text (Entry fault) = numbered (codes "entry ") fault.place ++ (codes " may not come next: " ++ unfit_name fault.cause)
-harm_text (Torn at bytes) = counted_text bytes (codes " bytes are behind byte ") ++ counted_text at (codes ", more than one batch can have")
+harm_text (Torn at bytes) = counted_text bytes (codes " bytes are after byte ") ++ counted_text at (codes ", more than one batch can have")
 
 -- a text, what is damaged in the file of this path, and what to do about it
 abbrev pub damaged_text : List ℕ → Damage → List ℕ → List ℕ → List ℕ
@@ -363,7 +363,7 @@ PrintsMade len path before after = PrintsWhere (nat_eq len 0) (made_line path) b
 
 -- the line of a start that cut bytes off: how many, and where the records that stay end
 abbrev pub cut_line : ℕ → ℕ → List ℕ
-cut_line bytes at = numbered (codes "tbd: cut ") bytes ++ line_of (numbered (codes " bytes of a batch that was not committed, behind byte ") at)
+cut_line bytes at = numbered (codes "tbd: cut ") bytes ++ line_of (numbered (codes " bytes of a batch that was not committed, after byte ") at)
 
 -- how far a file was read, in millions of bytes
 abbrev pub read_text : ℕ → ℕ → List ℕ
@@ -481,7 +481,7 @@ pub line_of_a_new_name : file_fault_line (Making opening.Exists) (codes "new") �
 unfolding printable chars lib.Utf8.encode
 line_of_a_new_name = refl
 
-pub line_of_a_cut : cut_line 5 182 ≡ codes "tbd: cut 5 bytes of a batch that was not committed, behind byte 182\n"
+pub line_of_a_cut : cut_line 5 182 ≡ codes "tbd: cut 5 bytes of a batch that was not committed, after byte 182\n"
 unfolding digits
 line_of_a_cut = refl
 

@@ -71,16 +71,16 @@ summary_text s =
     (line_before (codes "profile ") (profile_number s.rules.profile)
     (line_before (codes "clients_max ") s.rules.clients_max
     (line_before (codes "last time ") s.time
-    (codes "bytes behind " ++ (decimal s.behind ++ (behind_text s.behind ++ 10 ∷ replayed_text s.replayed)))))))
+    (codes "bytes after the records " ++ (decimal s.behind ++ (behind_text s.behind ++ 10 ∷ replayed_text s.replayed)))))))
 
 -- rows
 
 pub two_entries : summary_text (record { rules = rules_of One 2; records = 3; entries = 2; time = 11; behind = 0; replayed = true })
-    ≡ codes "records 3\nentries 2\nprofile 1\nclients_max 2\nlast time 11\nbytes behind 0\n"
+    ≡ codes "records 3\nentries 2\nprofile 1\nclients_max 2\nlast time 11\nbytes after the records 0\n"
 unfolding digits
 two_entries = refl
 
 pub two_entries_quickly : summary_text (record { rules = rules_of One 2; records = 3; entries = 2; time = 11; behind = 0; replayed = false })
-    ≡ codes "records 3\nentries 2\nprofile 1\nclients_max 2\nlast time 11\nbytes behind 0\nnot replayed: only checksums, commit numbers and times were checked\n"
+    ≡ codes "records 3\nentries 2\nprofile 1\nclients_max 2\nlast time 11\nbytes after the records 0\nnot replayed: only checksums, commit numbers and times were checked\n"
 unfolding digits
 two_entries_quickly = refl

@@ -52,7 +52,7 @@ impl fmt::Display for Damage {
             Damage::Torn { at, bytes } => {
                 write!(
                     f,
-                    "{bytes} bytes behind byte {at}, more than one batch can have"
+                    "{bytes} bytes after byte {at}, more than one batch can have"
                 )
             }
         }
@@ -70,12 +70,12 @@ impl fmt::Display for Copied {
         match self.damage {
             None => write!(
                 f,
-                "entries {}\nlast commit {}\nlast time {}\nbytes behind {}{what}\n",
+                "entries {}\nlast commit {}\nlast time {}\nbytes after the records {}{what}\n",
                 self.entries, self.entries, self.time, self.behind
             ),
             Some(damage) => write!(
                 f,
-                "entries {}\nlast commit {}\nlast time {}\nbytes lost {} behind byte {}: Damaged: {damage}\n",
+                "entries {}\nlast commit {}\nlast time {}\nbytes lost {} after byte {}: Damaged: {damage}\n",
                 self.entries, self.entries, self.time, self.behind, self.end
             ),
         }

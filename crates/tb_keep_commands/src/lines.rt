@@ -162,7 +162,7 @@ fn put_harm<E: Sink>(faults: &mut E, damage: Damage) -> Result<(), FrameFault>
         Damage::Torn { at, bytes } => put_torn(
             faults,
             bytes,
-            " bytes are behind byte ",
+            " bytes are after byte ",
             at,
             ", more than one batch can have",
         ),
@@ -725,7 +725,7 @@ pub fn print_text<E: Sink>(first: &str, what: &str, faults: &mut E)
 }
 
 /// What is between the two numbers.
-const BEHIND: &str = " bytes of a batch that was not committed, behind byte ";
+const BEHIND: &str = " bytes of a batch that was not committed, after byte ";
 
 /// Prints how many bytes a start cut off after the records, which end at this place; nothing if it cut none off.
 #[tactic(auto, using(crate::proofs::Passing::said))]

@@ -95,7 +95,7 @@ impl fmt::Display for Summary {
         let note = replayed_text(self.replayed);
         write!(
             f,
-            "records {}\nentries {}\nprofile {profile}\nclients_max {clients_max}\nlast time {}\nbytes behind {}{what}\n{note}",
+            "records {}\nentries {}\nprofile {profile}\nclients_max {clients_max}\nlast time {}\nbytes after the records {}{what}\n{note}",
             self.records, self.entries, self.time, self.behind
         )
     }

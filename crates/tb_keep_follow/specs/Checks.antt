@@ -78,6 +78,6 @@ module _ {D : Type 0} (its : devices.Ghosts D) where
 pub two_log_entries : log_summary_text (record {
   summary = record { rules = rules_of One 2; records = 2; entries = 3; time = 11; replayed = true; behind = 0 };
   position = 2;
-}) ≡ codes "records 2\nentries 3\nprofile 1\nclients_max 2\nlast time 11\nbytes behind 0\nposition 2\n"
+}) ≡ codes "records 2\nentries 3\nprofile 1\nclients_max 2\nlast time 11\nbytes after the records 0\nposition 2\n"
 unfolding digits
 two_log_entries = refl

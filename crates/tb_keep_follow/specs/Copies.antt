@@ -261,11 +261,11 @@ module _ {O D E W : Type 0} (its : KnownFiles O D E) (new_name : List ℕ) (sink
 -- rows
 
 pub a_log_rescued : log_rescued_text (record { rescued = record { copied = record { entries = 9; time = 19; end = 94; behind = 88; damage = Some (Block 94 None) }; more = 3; first = 182 }; position = 4 })
-    ≡ codes "entries 9\nlast commit 9\nlast time 19\nbytes lost 88 behind byte 94: Damaged: at byte 94\nread on 3 of the entries from byte 182\nposition 4\n"
+    ≡ codes "entries 9\nlast commit 9\nlast time 19\nbytes lost 88 after byte 94: Damaged: at byte 94\nread on 3 of the entries from byte 182\nposition 4\n"
 unfolding digits
 a_log_rescued = refl
 
 pub a_log_copied : log_copied_text (record { copied = record { entries = 2; time = 11; end = 94; behind = 88; damage = Some (Block 94 None) }; position = 1 })
-    ≡ codes "entries 2\nlast commit 2\nlast time 11\nbytes lost 88 behind byte 94: Damaged: at byte 94\nposition 1\n"
+    ≡ codes "entries 2\nlast commit 2\nlast time 11\nbytes lost 88 after byte 94: Damaged: at byte 94\nposition 1\n"
 unfolding digits
 a_log_copied = refl

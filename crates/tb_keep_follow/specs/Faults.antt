@@ -135,7 +135,7 @@ damaged_entry_line path before number after name =
     line_of (named (codes "tbd: Damaged: ") path before ++ (counted_text number after ++ (name ++ next_step)))
 
 abbrev pub no_entry_line : ℕ → List ℕ → List ℕ
-no_entry_line last path = damaged_entry_line path (codes ": the record behind position ") last (codes " is that of no entry") []
+no_entry_line last path = damaged_entry_line path (codes ": the record after position ") last (codes " is that of no entry") []
 
 abbrev pub entry_line : LogFault → List ℕ → List ℕ
 entry_line fault path = damaged_entry_line path (codes ": entry ") (place_of fault) (codes " may not come next: ") (logs.log_fault_name fault)
@@ -180,7 +180,7 @@ line_of_a_gap = refl
 
 pub line_of_no_entry :
     follow_line (NoEntry 2) (codes "log")
-    ≡ codes "tbd: Damaged: log: the record behind position 2 is that of no entry; tbd salvage makes a new file of the entries before it\n"
+    ≡ codes "tbd: Damaged: log: the record after position 2 is that of no entry; tbd salvage makes a new file of the entries before it\n"
 unfolding digits printable chars lib.Utf8.encode
 line_of_no_entry = refl
 

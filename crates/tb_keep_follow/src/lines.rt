@@ -110,7 +110,7 @@ fn print_no_entry<E: Sink>(last: u64, path: &str, faults: &mut E)
     ensures { SaysLine (no_entry_line last path.now) (E.output faults.old) (E.output faults.new) }
 {
     let wrong = WrongEntry {
-        before: ": the record behind position ",
+        before: ": the record after position ",
         number: last,
         after: " is that of no entry",
         name: "",

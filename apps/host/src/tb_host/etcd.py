@@ -351,7 +351,7 @@ class EtcdLog:
         revision, found = await self._keys_behind(place)
         position, trimmed = await self.trimmed()
         if trimmed > place:
-            raise LogGone(f"the log begins behind position {position}")
+            raise LogGone(f"the log begins after position {position}")
         for _, key in sorted(found):
             yield await self._kept(key)
         self.cursor = max(self.cursor, revision)

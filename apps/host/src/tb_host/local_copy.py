@@ -131,7 +131,7 @@ class Copy(Taken):
 
     def _cut(self, length: int) -> None:
         if self.end < synced_of(self.folder):
-            said = f"the record behind position {self.position}, at byte {self.end} of {self.path}"
+            said = f"the record after position {self.position}, at byte {self.end} of {self.path}"
             raise Fault("Damaged", said)
         self.cut_off = length - self.end
         os.ftruncate(self.file, self.end)

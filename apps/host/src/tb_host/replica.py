@@ -619,7 +619,7 @@ class Replica:
             self._test_place(last)
             self._test_trimmed(position, place, last)
             if position > self.copy.position:
-                said = f"the log begins behind position {position}, and the copy has "
+                said = f"the log begins after position {position}, and the copy has "
                 raise Fault("Trimmed", f"{said}{self.copy.position}: take a peer's, by copy-from")
             self.agreed = Mark() if not position else self.agreed
         except LogFull as full:
@@ -814,7 +814,7 @@ class Replica:
             except NoLog as none:
                 raise Fault("NoLog", str(none)) from None
             if position:
-                said = f"the log begins behind position {position}, and the ledger's file has "
+                said = f"the log begins after position {position}, and the ledger's file has "
                 raise Fault("Trimmed", f"{said}{self.start}: take a peer's")
             self.copy.begin_again()
         follower.is_settled.set()
