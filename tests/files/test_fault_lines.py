@@ -31,6 +31,8 @@ RUN, FOLLOW = "run ledger 2 --existing", "follow ledger 2 --existing"
 READS = "check ledger", "dump ledger", "salvage ledger new", "backup ledger new"
 LOG_RECORD = b"TBF1\1\2" + (1).to_bytes(8, "little") + bytes(65)
 ROTTEN_LOG = changed(MAGIC + block(LOG_RECORD) + CLOSED, 60)
+# Its first record has its text, and neither a profile nor a number of clients.
+UNRULED_LOG = ROTTEN_LOG[:23] + bytes(16) + ROTTEN_LOG[39:]
 ROTTEN_LEDGER = changed(LEDGER, 23)
 # A whole file, except that the first latch reads closed.
 CLOSED_LEDGER = MAGIC + CLOSED + LEDGER[12:]
@@ -54,7 +56,9 @@ ROWS = [
     *((CLOSED_LEDGER, words, CLOSED_FIRST) for words in READS),
     *((MAGIC + block(b"\1\2\3") + CLOSED, words, NO_HEAD) for words in (RUN, *READS)),
     (MAGIC + block(LOG_RECORD) + CLOSED, RUN, A_LOG),
-    (ROTTEN_LOG, RUN, A_LOG),
+    (ROTTEN_LOG, RUN, HEAD_AT),
+    *((UNRULED_LOG, words, HEAD_AT) for words in (RUN, *READS)),
+    (UNRULED_LOG, FOLLOW, FIRST_ENTRY_AT),
     (ROTTEN_LOG, FOLLOW, FIRST_ENTRY_AT),
     (LEDGER, FOLLOW, A_LEDGER),
     (ROTTEN_LEDGER, FOLLOW, A_LEDGER),

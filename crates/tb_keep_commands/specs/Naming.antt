@@ -48,10 +48,9 @@ headless_fault Closed = NotAJournal Closed
 headless_fault Log = NotAJournal Log
 headless_fault kind = NoHead
 
--- the fault of a journal whose first block is not what was written: it may end before its first record, or be a log
+-- the fault of a journal whose first block is not what was written: it may end before its first record
 abbrev pub first_block_fault : Damage → Kind → KeepCommandFault
 first_block_fault damage Begun = NotAJournal Begun
-first_block_fault damage Log = NotAJournal Log
 first_block_fault damage kind = Damaged damage
 
 module _ {D : Type 0} (its : devices.Ghosts D) where

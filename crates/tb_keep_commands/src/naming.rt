@@ -87,7 +87,6 @@ fn first_block_fault(damage: Damage, kind: Kind) -> KeepCommandFault
 {
     match kind {
         Kind::Begun => KeepCommandFault::NotAJournal(Kind::Begun),
-        Kind::Log => KeepCommandFault::NotAJournal(Kind::Log),
         _ => KeepCommandFault::Damaged(damage),
     }
 }
