@@ -342,7 +342,7 @@ func (s *Socket) connectNoMore() {
 	}
 }
 
-// connected is the connection: a new one if there is none, or if the server left it.
+// connected is the connection: a new one if it has no connection, or if the server left it.
 func (s *Socket) connected(ctx context.Context) (*connection, error) {
 	s.mu.Lock()
 	conn := s.conn

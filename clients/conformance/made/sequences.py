@@ -282,7 +282,7 @@ class Drawn:
         return self.lines[self.on[name]]
 
     def open_line(self):
-        """A transport that is not closed, made if there is none."""
+        """A transport that is not closed, made if all are closed."""
         found = [name for name, it in self.lines.items() if not it.is_closed]
         if not found or self.draw.random() < 0.1:
             name = f"t{next(self.names)}"

@@ -409,7 +409,7 @@ class Socket {
     if (this.#isClosed || this.#isEnding) throw new Closed(CLOSED);
   }
 
-  /** The connection, made again if there is none, or if the server closed it. */
+  /** The connection, made again if it is missing, or if the server closed it. */
   async #connected(deadline, signal) {
     if (this.#connection !== undefined) await news();
     this.#testOpen();

@@ -144,7 +144,7 @@ class Socket(Closing):
             raise
 
     def _connected(self, deadline: float) -> socket.socket:
-        """The connection, made again if there is none, or if the server closed it."""
+        """The connection, made again if it is missing, or if the server closed it."""
         pause = FIRST_PAUSE
         if self._socket is not None and _is_left(self._socket):
             self._lose()

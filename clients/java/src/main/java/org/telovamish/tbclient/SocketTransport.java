@@ -206,7 +206,7 @@ public final class SocketTransport implements Transport {
 
     // Connecting
 
-    /** Makes a connection if there is none, or if the server closed it. */
+    /** Makes a connection if it has no open one, or if the server closed it. */
     private void connect(Deadline until, Deadline limit) {
         if (link != null && link.isLeft(until)) {
             lose();
