@@ -73,7 +73,7 @@ SLOW = {"KEEP_SECONDS": "50", "CHECK_LONGER": "10", "KEEP_STEP": "1"}
 
 # The programs' constant for these megabytes: its file, its text, and what is there instead. The
 # tests are built before, with the text as it is.
-STEP = ("crates/tb_keep_commands/src/reports.rt", "usize = 64 * MEGABYTE;", "usize = MEGABYTE;")
+STEP = ("crates/tb_edge_file/src/reports.rt", "usize = 64 * MEGABYTE;", "usize = MEGABYTE;")
 
 SWITCH_SOURCE = """//! The switch of the planted bugs.
 #![tactic(auto)]

@@ -23,7 +23,7 @@ LICENCES = (
 
 def crates(root: Path) -> dict[str, list[str]]:
     """The crates of the product, each with those that it is built on (crates.txt)."""
-    text = (root / "crates.txt").read_text().split("\n# Tools")[0]
+    text = (root / "crates.txt").read_text().split("\n# Tests")[0]
     rows = [line.partition("#")[0].partition(":") for line in text.splitlines()]
     return {head.split()[0]: tail.split() for head, colon, tail in rows if colon}
 

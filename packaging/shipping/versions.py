@@ -15,7 +15,7 @@ PLACES = {
     "clients/node/package.json": r'^  "version": "(.*)",$',
     "clients/python/pyproject.toml": r'^version = "(.*)"$',
     "clients/python/src/tb_client/__init__.py": r'^__version__ = "(.*)"$',
-    "crates/tb_keep_commands/src/help.rt": r'"tbd (\d[\d.]*)\\n"',
+    "crates/tb_edge_file/src/help.rt": r'"tbd (\d[\d.]*)\\n"',
     "CHANGELOG.md": r"^## (\d[\d.]*)",
 }
 

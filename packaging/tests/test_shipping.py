@@ -48,7 +48,7 @@ def test_a_rewritten_copy_has_one_version(tmp_path: Path) -> None:
 
 
 def test_forms_of_tbd_are_those_of_its_usage() -> None:
-    usage = (ROOT / "crates/tb_keep_commands/src/help.rt").read_text()
+    usage = (ROOT / "crates/tb_edge_file/src/help.rt").read_text()
     shown = set(re.findall(r"^  ([a-z-]+) (?:FILE|CLIENTS_MAX)", usage, re.M))
     assert {it.name() for it in PROGRAMS["tbd"].forms} == shown
     flags = set(re.findall(r"(?<![\w-])--[a-z]+(?:-[a-z]+)*", usage))
@@ -64,7 +64,7 @@ def definitions(name: str, text: str) -> dict[str, list[str]]:
 def forms_of_the_table() -> dict[str, set[tuple[str, bool]]]:
     """The forms of tbd as usage shows them, with each option and whether it has a value: from the
     definitions that the proofs are about."""
-    text = (ROOT / "crates/tb_cli/specs/Table.antt").read_text()
+    text = (ROOT / "crates/tb_edge_words/specs/Table.antt").read_text()
     shown = {"File": "FILE", "New": "NEW", "ClientsMax": "CLIENTS_MAX", "Profile": "[PROFILE]"}
     words, operands = definitions("form_word", text), definitions("operands_of", text)
     options, flags = definitions("options_of", text), definitions("option_word", text)

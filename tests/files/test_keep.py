@@ -480,19 +480,19 @@ def test_orders(tbd, folder, shim):
 BUILDS = (
     (
         "the program as it is",
-        "crates/tb_keep/src/rounds.rt",
+        "crates/tb_file/src/rounds.rt",
         "keeper.journal.commit()?;",
         "keeper.journal.commit()?;",
     ),
     (
         "replies before it commits",
-        "crates/tb_keep/src/rounds.rt",
+        "crates/tb_file/src/rounds.rt",
         "keeper.journal.commit()?;",
         "hand_out(replies, writer)?; keeper.journal.commit()?;",
     ),
     (
         "does not sync",
-        "crates/tb_journal/src/journals.rt",
+        "crates/tb_file_journal/src/journals.rt",
         "Ok(()) => device.sync(),",
         "Ok(()) => Ok(()),",
     ),

@@ -18,8 +18,8 @@ FAULTS = (
     "tb_records/src/faults.rt",
     "tb_records/src/dumps.rt",
     "tb_machine/src/serving.rt",
-    "tb_commands/src/commands.rt",
-    "tb_storm/src/faults.rt",
+    "tb_edge_commands/src/commands.rt",
+    "tb_edge_storm/src/faults.rt",
 )
 # The place where the listener has the names that it sends.
 HOST = ("access", "command", "connections", "lines", "process", "serving", "shares")

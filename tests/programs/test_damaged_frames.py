@@ -3,10 +3,10 @@
     /usr/bin/python3 -m pytest tests/programs/test_damaged_frames.py [--frames N] [--seed N]
 
 `--frames N` (20000, and 1000000 in the long form of docs/trust/TESTED.md) is how many damaged
-frames the readers are given (tb_refusals), and how many the program is (tbs), in scripts and dumps.
-Bytes are flipped, cut off, put in and spliced; lengths, numbers, moments and commits go to their
-limits. A reader of the formats written here from docs/use/FORMATS.md and docs/use/RULES.md, apart
-from the crates, says what is right: the fault of each frame; and of each script and dump the
+frames the readers are given (tb_test_refusals), and how many the program is (tbs), in scripts and
+dumps. Bytes are flipped, cut off, put in and spliced; lengths, numbers, moments and commits go to
+their limits. A reader of the formats written here from docs/use/FORMATS.md and docs/use/RULES.md,
+apart from the crates, says what is right: the fault of each frame; and of each script and dump the
 status, the line of the fault, and of each reply all but the results. The program has room for one
 body as large as a header can claim, and no more; a signal, a minute's silence (CHECK_LONGER times
 as long) or another answer is a failure. Needs Linux.
@@ -24,7 +24,7 @@ import tried
 
 from ..conftest import found
 
-PROGRAM, READER = map(found, ("tbs", "tb_refusals"))
+PROGRAM, READER = map(found, ("tbs", "tb_test_refusals"))
 SECONDS = 60 * tried.LONGER  # that one run may take
 MAX_TIME = 2**63 - 1
 ITEMS_MAX = 8190
@@ -684,13 +684,13 @@ def count(pytestconfig):
 
 @pytest.mark.slow
 def test_worked_frames(program):
-    program("tb_refusals")
+    program("tb_test_refusals")
     assert read_worked() == 0
 
 
 @pytest.mark.slow
 def test_damaged_frames_through_readers(program, chance, count):
-    program("tb_refusals")
+    program("tb_test_refusals")
     assert through_readers(chance, count) == 0
 
 

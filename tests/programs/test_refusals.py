@@ -1,7 +1,7 @@
 """Each allocation, each read and each write of the built programs refused in turn, once each, and
 what they reply then.
 
-`tb_refusals` serves a script by each call that may run out of memory, and makes a refused call
+`tb_test_refusals` serves a script by each call that may run out of memory, and makes a refused call
 again. What is right comes from the frames of this file, from examples/first.replies, and from `tbs`
 when nothing is refused. All memory has to be given back after each run, whatever was refused. A
 loop that refuses nothing shows nothing: each case counts its refusals and has a least number of
@@ -22,7 +22,7 @@ from frames import account, ids, transfer
 from ..conftest import ROOT, found
 
 HERE = ROOT / "tests" / "programs"
-PROGRAM, AGAIN, KEEPER = map(found, ("tbs", "tb_refusals", "tbd"))
+PROGRAM, AGAIN, KEEPER = map(found, ("tbs", "tb_test_refusals", "tbd"))
 SECONDS = 60  # that one run may take
 pytestmark = pytest.mark.slow
 Ran = collections.namedtuple("Ran", "status output lines asked refused blocks")
@@ -189,7 +189,7 @@ class Refuser:
 
 @pytest.fixture(scope="module")
 def refuser(program, request, tmp_path_factory):
-    for name in ("tbs", "tb_refusals", "tbd"):
+    for name in ("tbs", "tb_test_refusals", "tbd"):
         program(name)
     return Refuser(tmp_path_factory.mktemp("refused"), request.config.getoption("--every"))
 

@@ -1,4 +1,4 @@
-"""Scripts that `tbs run` serves beyond the worked examples of crates/tb_machine_tests: each request
+"""Scripts that `tbs run` serves beyond the worked examples of crates/tb_test_machine: each request
 with the answer that docs/use/RULES.md gives it, byte for byte.
 
     python3 -m pytest tests/programs

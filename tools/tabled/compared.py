@@ -333,7 +333,9 @@ def limits(table, sources):
         (
             "clients_max",
             most,
-            lambda: r.constant(code("tb_commands"), r'concat!\(\$before, "1 to (\d+)", \$behind\)'),
+            lambda: r.constant(
+                code("tb_edge_commands"), r'concat!\(\$before, "1 to (\d+)", \$behind\)'
+            ),
         ),
         (
             "time_max",

@@ -8,7 +8,7 @@ use Rattle.tb_caller.specs.declared.callers.Phase.TheVariants.{Unregistered, Ope
 use Rattle.tb_caller.specs.declared.faults.CallFault.TheVariants as fault
 use Rattle.tb_caller.specs.declared.callers.Heard.{Heard}
 use Rattle.tb_caller.specs.declared.callers.Heard.TheVariants as hearing
-use Rattle.tb_caller.specs.Clients.{Client, request_fault, field_fault_in, made, refused_in, call_fault, called, heard, ended_in, moved}
+use Rattle.tb_caller.specs.Clients.{Client, stored_request_fault, field_fault_in, made, refused_in, call_fault, called, heard, ended_in, moved}
 use Rattle.tb_caller.specs.Endpoints.{Endpoint, Act, MayAct, acted, started, restarted}
 use Rattle.tb_caller.specs.Endpoints.Act.{Call, Send, Hear, Store, Restart}
 use Rattle.tb_caller.specs.CallLaws.{Acts, after_acts, FieldsAreRight}
@@ -80,14 +80,14 @@ right_acts : (d : Endpoint) (acts : List Act) → AreRightIn d → Acts d acts �
 right_acts d [] are may = are
 right_acts d (act ∷ acts) are may = right_acts (acted d act) acts (right_acted d act are may.0) may.1
 
-no_request_fault : (c : Client) (r : Message) → IsLast c.id c.session c.last r → request_fault c r ≡ None
-no_request_fault c r is = rw (eq-eqb r.client c.id is.client, eq-eqb r.session c.session is.session_is, eq-eqb r.request c.last is.number) refl
+no_stored_fault : (c : Client) (r : Message) → IsLast c.id c.session c.last r → stored_request_fault c r ≡ None
+no_stored_fault c r is = rw (eq-eqb r.client c.id is.client, eq-eqb r.session c.session is.session_is, eq-eqb r.request c.last is.number) refl
 
 no_fault : (phase : Phase) (c : Client) → PhaseIs c.id c.session c.last phase → field_fault_in phase c ≡ None
 no_fault Unregistered c is = rw (eq-eqb c.session 0 is.0, eq-eqb c.last 0 is.1) refl
-no_fault (Open r) c is = no_request_fault c r is
+no_fault (Open r) c is = no_stored_fault c r is
 no_fault Idle c is = refl
-no_fault (Ended r) c is = no_request_fault c r is
+no_fault (Ended r) c is = no_stored_fault c r is
 
 pub fields_are_right : FieldsAreRight
 fields_are_right id acts may =

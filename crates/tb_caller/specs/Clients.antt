@@ -41,8 +41,8 @@ open_request (Ended r) = None
 -- a stored state
 
 -- the request is the client's, of its session, and has its last number
-abbrev pub request_fault : Client → Message → Option FieldFault
-request_fault c r =
+abbrev pub stored_request_fault : Client → Message → Option FieldFault
+stored_request_fault c r =
     if not (r.client == c.id) then Some field.OtherClient
     else if not (r.session == c.session) then Some field.OtherSession
     else if not (r.request == c.last) then Some field.OtherNumber
@@ -51,9 +51,9 @@ request_fault c r =
 -- what the fields of a client may have wrong
 abbrev pub field_fault_in : Phase → Client → Option FieldFault
 field_fault_in Unregistered c = if c.session == 0 && c.last == 0 then None else Some field.RegisterNumbers
-field_fault_in (Open r) c = request_fault c r
+field_fault_in (Open r) c = stored_request_fault c r
 field_fault_in Idle c = None
-field_fault_in (Ended r) c = request_fault c r
+field_fault_in (Ended r) c = stored_request_fault c r
 
 abbrev pub field_fault : Client → Option FieldFault
 field_fault c = field_fault_in c.phase c

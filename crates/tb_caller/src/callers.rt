@@ -1,6 +1,6 @@
 //! The session of one client.
 ghost use Rattle.std.specs.Prelude.{◌≡◌, MatchOption, Some, None, Ok, Err};
-ghost use Rattle.tb_caller.specs.Clients.{client_with, fresh, open_request, request_fault, field_fault, called, names, heard_by, heard, received, ended_in, IsMade, Makes, WritesCall, WritesAgain, ReadsReply};
+ghost use Rattle.tb_caller.specs.Clients.{client_with, fresh, open_request, stored_request_fault, field_fault, called, names, heard_by, heard, received, ended_in, IsMade, Makes, WritesCall, WritesAgain, ReadsReply};
 
 use crate::faults::{CallFault, FieldFault};
 use std::alloc::{AllocError, Global};
@@ -148,15 +148,15 @@ impl Caller {
                     Some(FieldFault::RegisterNumbers)
                 }
             }
-            Phase::Open(request) => self.request_fault(request),
+            Phase::Open(request) => self.stored_request_fault(request),
             Phase::Idle => None,
-            Phase::Ended(request) => self.request_fault(request),
+            Phase::Ended(request) => self.stored_request_fault(request),
         }
     }
 
     /// Why a request is not the last one of this client.
-    fn request_fault(&self, request: &Request) -> Option<FieldFault>
-        ensures { result ≡ request_fault self.now request.now }
+    fn stored_request_fault(&self, request: &Request) -> Option<FieldFault>
+        ensures { result ≡ stored_request_fault self.now request.now }
     {
         if request.client() != self.id {
             return Some(FieldFault::OtherClient);

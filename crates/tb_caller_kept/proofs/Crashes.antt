@@ -5,14 +5,14 @@ use Rattle.tb_records.specs.Messages.{Message, Answer}
 use Rattle.tb_records.specs.Ordered.{Each}
 use Rattle.tb_records.specs.ReplyFrames.{reply_bytes, IsReply}
 use Rattle.tb_records.proofs.ByKey.{each-map}
-use Rattle.tb_journal.specs.Device.{Disk}
+use Rattle.tb_file_journal.specs.Device.{Disk}
 use Rattle.tb_machine.specs.declared.entries.Entry.{Entry}
 use Rattle.tb_machine.specs.Histories.{State}
 use Rattle.tb_machine.specs.Scripts.{Pair, after_pair}
-use Rattle.tb_keep.specs.Keeping.{History, history_state, longer, IsKeepable, IsLedger}
-use Rattle.tb_keep.specs.Rounds.{entries_from, answers_from, AreServed}
-use Rattle.tb_keep.proofs.Lasting.{lasts, served_front}
-use Rattle.tb_keep.proofs.OneHistory.{one_history}
+use Rattle.tb_file.specs.Keeping.{History, history_state, longer, IsKeepable, IsLedger}
+use Rattle.tb_file.specs.Rounds.{entries_from, answers_from, AreServed}
+use Rattle.tb_file.proofs.Lasting.{lasts, served_front}
+use Rattle.tb_file.proofs.OneHistory.{one_history}
 use Rattle.tb_caller.specs.Endpoints.{IsAmong}
 use Rattle.tb_caller.specs.Streams.{IsReadIn}
 use Rattle.tb_caller.specs.Calls.{NoneInvented, IsAnswered}

@@ -5,7 +5,7 @@ use Rattle.tb_machine.specs.declared.entries.Entry.{Entry}
 use Rattle.tb_machine.specs.Histories.{State, after, answer_to}
 use Rattle.tb_machine.specs.Scripts.{Pair, entry_of, is_entered, after_pair, accepted, replies_from, grown}
 use Rattle.tb_machine.proofs.Running.{after_with_pair}
-use Rattle.tb_keep.specs.Rounds.{entered, entries_from, answers_from}
+use Rattle.tb_file.specs.Rounds.{entered, entries_from, answers_from}
 
 module _ (profile : Profile) (clients_max : ℕ) where
   with_entered : (h : List Entry) (p : Pair) → h ++ entered (after profile clients_max h) p ≡ grown (after profile clients_max) h p

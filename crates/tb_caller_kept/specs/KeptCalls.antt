@@ -2,12 +2,12 @@
 use Rattle.std.specs.Prelude.{ℕ, ◌≡◌, ◌⊎◌, List, [], ◌∷◌, None}
 use Rattle.tb_records.specs.Messages.{Message, Answer}
 use Rattle.tb_records.specs.Ordered.{Each}
-use Rattle.tb_journal.specs.Device.{Disk}
-use Rattle.tb_journal.specs.Contents.{recorded}
+use Rattle.tb_file_journal.specs.Device.{Disk}
+use Rattle.tb_file_journal.specs.Contents.{recorded}
 use Rattle.tb_machine.specs.Scripts.{Pair}
-use Rattle.tb_keep.specs.Keeping.{History, history_state, records_of, IsKeepable, IsLedger}
-use Rattle.tb_keep.specs.Rounds.{Standing, AreServed}
-use Rattle.tb_keep.specs.Moments.{Backs}
+use Rattle.tb_file.specs.Keeping.{History, history_state, records_of, IsKeepable, IsLedger}
+use Rattle.tb_file.specs.Rounds.{Standing, AreServed}
+use Rattle.tb_file.specs.Moments.{Backs}
 use Rattle.tb_caller.specs.Endpoints.{IsAmong}
 use Rattle.tb_caller.specs.Streams.{IsReadIn}
 use Rattle.tb_caller.specs.Calls.{AreOfOne, IsTaken, NoneInvented, CallsHold}

@@ -11,7 +11,7 @@ use Rattle.tb_log.specs.declared.faults.LogFault.TheVariants.{Device, NoMemory, 
 use Rattle.tb_log.specs.declared.entries.Head.{Head}
 use Rattle.tb_log.specs.Format.{content_max, numbers, checksum_of, summed, number_bytes}
 use Rattle.tb_log.specs.Entries.{ReaderFails, head_fault, ReadsEntry, IsShort, LacksEntryMemory, IsDamaged, IsNoPairs, RefusesEntry}
-use Rattle.tb_log.specs.Steps.{IsFilledBy, ReadsOnly, EndsWithin, Misses, head_bytes, ReadsContent, MissesContent}
+use Rattle.tb_log.specs.Steps.{IsFilledBy, ReadsOnly, EndsWithin, Misses, entry_head_bytes, ReadsContent, MissesContent}
 
 -- a buffer that was filled whole
 pub all_filled : (n : ℕ) (buffer : List ℕ) (before after : Input) → length buffer ≤ n → IsFilledBy n buffer before after → ReadsOnly buffer before after
@@ -95,7 +95,7 @@ sum_missed position long fault a b c d one two misses =
     missed_since 4 16 (numbers position long) fault a c d (takes_then (number_bytes 8 position) (number_bytes 4 long) a b c one two)
     (omega (arith, length-append (number_bytes 8 position) (number_bytes 4 long), number_long 8 position, number_long 4 long)) misses
 
-pub takes_head : (head : Head) (a b c d : Input) → ReadsOnly (number_bytes 8 head.position) a b → ReadsOnly (number_bytes 4 head.length) b c → ReadsOnly (number_bytes 4 head.checksum) c d → ReadsOnly (head_bytes head) a d
+pub takes_head : (head : Head) (a b c d : Input) → ReadsOnly (number_bytes 8 head.position) a b → ReadsOnly (number_bytes 4 head.length) b c → ReadsOnly (number_bytes 4 head.checksum) c d → ReadsOnly (entry_head_bytes head) a d
 takes_head head a b c d position long sum =
     takes_then (numbers head.position head.length) (number_bytes 4 head.checksum) a c d
     (takes_then (number_bytes 8 head.position) (number_bytes 4 head.length) a b c position long) sum
@@ -114,11 +114,11 @@ sound_of None r x judged is = refl
 sound_of (Some f) r x judged is = absurd cc
 
 -- an entry by its numbers and its content
-module _ (head : Head) (last : ℕ) (a b c : Input) (numbered : ReadsOnly (head_bytes head) a b) (sound : head_fault last head.position head.length ≡ None) where
+module _ (head : Head) (last : ℕ) (a b c : Input) (numbered : ReadsOnly (entry_head_bytes head) a b) (sound : head_fault last head.position head.length ≡ None) where
   next : IsNext last head.position head.length
   next = next_entry last head.position head.length sound
 
-  whole : (content : List ℕ) → length content ≡ head.length → head_bytes head ++ content ≡ summed (last + 1) head.checksum content
+  whole : (content : List ℕ) → length content ≡ head.length → entry_head_bytes head ++ content ≡ summed (last + 1) head.checksum content
   unfolding number_bytes
   whole content long =
       append_assoc (numbers head.position head.length) (number_bytes 4 head.checksum) content
@@ -132,7 +132,7 @@ module _ (head : Head) (last : ℕ) (a b c : Input) (numbered : ReadsOnly (head_
       few = omega (arith, is.long, next.few);
       bytes = subst (Consumes a.left c.left)
           (whole content is.long ∙ ap (λ (s : ℕ). summed (last + 1) s content) (is.sum ∙ ap (λ (p : ℕ). checksum_of p content) next.next))
-          (takes_then (head_bytes head) content a b c numbered is.read).consumed;
+          (takes_then (entry_head_bytes head) content a b c numbered is.read).consumed;
       counted = is.read.counted ∙ numbered.counted;
     },
   )
@@ -141,7 +141,7 @@ module _ (head : Head) (last : ℕ) (a b c : Input) (numbered : ReadsOnly (head_
   damaged fault is = record {
     content = is.content;
     sum = head.checksum;
-    bytes = subst (Consumes a.left c.left) (whole is.content is.long) (takes_then (head_bytes head) is.content a b c numbered is.read).consumed;
+    bytes = subst (Consumes a.left c.left) (whole is.content is.long) (takes_then (entry_head_bytes head) is.content a b c numbered is.read).consumed;
     wrong = λ same. is.wrong (same ∙ ap (λ (p : ℕ). checksum_of p is.content) (sym next.next));
     fault_is = is.fault_is ∙ ap Damaged next.next;
     counted = is.read.counted ∙ numbered.counted;
@@ -151,9 +151,9 @@ module _ (head : Head) (last : ℕ) (a b c : Input) (numbered : ReadsOnly (head_
   cut_off : (fault : LogFault) → EndsWithin head.length fault b c → IsShort fault last a c
   unfolding number_bytes
   cut_off fault ends = record {
-    bytes = head_bytes head ++ ends.bytes;
+    bytes = entry_head_bytes head ++ ends.bytes;
     cut = record {
-      read = Consumes-trans a.left b.left c.left (head_bytes head) ends.bytes numbered.consumed ends.cut.read;
+      read = Consumes-trans a.left b.left c.left (entry_head_bytes head) ends.bytes numbered.consumed ends.cut.read;
       end = ends.cut.end;
       fault_is = ends.cut.fault_is;
       counted = ends.cut.counted ∙ numbered.counted;
@@ -176,7 +176,7 @@ module _ (head : Head) (last : ℕ) (a b c : Input) (numbered : ReadsOnly (head_
     sum = head.checksum;
     fits = next.few;
     bytes = subst (Consumes a.left c.left) (ap (λ (p : ℕ). numbers p head.length ++ number_bytes 4 head.checksum) next.next)
-        (subst (λ (i : Input). Consumes a.left i.left (head_bytes head)) (sym same) numbered.consumed);
+        (subst (λ (i : Input). Consumes a.left i.left (entry_head_bytes head)) (sym same) numbered.consumed);
     fault_is = is;
     counted = ap (λ (i : Input). i.failed) same ∙ numbered.counted;
   }
@@ -199,7 +199,7 @@ pub head_lost : (fault : LogFault) (last : ℕ) (a b : Input) → Misses 16 faul
 head_lost fault last a b (inl breaks) = inl breaks
 head_lost fault last a b (inr ends) = inr (inr (inr (inr (inl (record { bytes = ends.bytes; cut = ends.cut; part = inl ends.few })))))
 
-pub entry_wrong : (head : Head) (fault : LogFault) (last : ℕ) (a b : Input) → ReadsOnly (head_bytes head) a b → head_fault last head.position head.length ≡ Some fault → RefusesEntry fault last a b
+pub entry_wrong : (head : Head) (fault : LogFault) (last : ℕ) (a b : Input) → ReadsOnly (entry_head_bytes head) a b → head_fault last head.position head.length ≡ Some fault → RefusesEntry fault last a b
 entry_wrong head fault last a b numbered is = inr (inl (record {
   position = head.position;
   long = head.length;

@@ -4,7 +4,7 @@ use Rattle.tb_records.specs.Messages.{Answer}
 use Rattle.byteorder.specs.Endian.{little_bytes}
 use Rattle.tb_records.specs.ReplyFrames.{reply_bytes}
 use Rattle.tb_records.specs.Inputs.{timed_bytes}
-use Rattle.tb_journal.specs.Checksum.{checksum}
+use Rattle.tb_file_journal.specs.Checksum.{checksum}
 use Rattle.tb_machine.specs.Scripts.{Pair}
 use Rattle.sha2.specs.Sha256.{sha256}
 

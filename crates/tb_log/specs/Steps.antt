@@ -64,8 +64,8 @@ BeginsItem (Err fault) before after = ReaderFails fault before after
 abbrev pub JudgesNumbers : Result (Unit {0}) LogFault → Option LogFault → Type 0
 JudgesNumbers result wrong = MatchOption wrong (result ≡ Ok tt) (λ fault. result ≡ Err fault)
 
-abbrev pub head_bytes : Head → List ℕ
-head_bytes head = numbers head.position head.length ++ number_bytes 4 head.checksum
+abbrev pub entry_head_bytes : Head → List ℕ
+entry_head_bytes head = numbers head.position head.length ++ number_bytes 4 head.checksum
 
 -- the content after an entry's numbers was read, and its checksum is right
 pub record ReadsContent (head : Head) (content : List ℕ) (before after : Input) : Type 0 where

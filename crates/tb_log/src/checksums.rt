@@ -2,7 +2,7 @@
 ghost use Rattle.std.specs.Prelude.{◌≡◌, ◌≤◌, length};
 ghost use Rattle.tb_log.specs.Format.{content_max, checksum_of};
 
-use tb_journal::checksum_of;
+use tb_file_journal::checksum_of;
 
 /// The checksum of an entry: of its position, of the length of its content, and of its content.
 #[tactic(auto, using(crate::proofs::Numbers::eight_written, crate::proofs::Numbers::four_written))]

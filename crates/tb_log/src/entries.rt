@@ -2,7 +2,7 @@
 ghost use Rattle.std.specs.Prelude.{◌≡◌, ◌≤◌, ◌+◌, length, IfOk, IfErr, OnOk};
 ghost use Rattle.tb_log.specs.Entries.{head_fault, pair_fault, IsPairs, IsNoPairs, GivesEntry, RefusesEntry};
 ghost use Rattle.tb_log.specs.Format.{content_max};
-ghost use Rattle.tb_log.specs.Steps.{head_bytes, JudgesNumbers, ReadsValue, GivesContent, Loses};
+ghost use Rattle.tb_log.specs.Steps.{entry_head_bytes, JudgesNumbers, ReadsValue, GivesContent, Loses};
 
 use crate::checksums::entry_sum;
 use crate::faults::LogFault;
@@ -25,7 +25,7 @@ pub(crate) struct Head {
 /// Reads the numbers of an entry.
 #[tactic(auto, using(crate::proofs::Taking::takes_head, crate::proofs::Taking::position_missed, crate::proofs::Taking::length_missed, crate::proofs::Taking::sum_missed))]
 fn head_from<S: Source>(source: &mut S) -> Result<Head, LogFault>
-    ensures { ReadsValue 16 head_bytes result (S.input source.old) (S.input source.new) }
+    ensures { ReadsValue 16 entry_head_bytes result (S.input source.old) (S.input source.new) }
 {
     let position = u64_from(source)?;
     let length = u32_from(source)?;

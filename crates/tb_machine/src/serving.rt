@@ -14,7 +14,7 @@ ghost use Rattle.tb_machine.specs.Worked.{GoesOn};
 use crate::executing::{Delivery, Served};
 use crate::judgements::Judged;
 use crate::machines::Machine;
-use bumpalo::Bump;
+use crate::over_a_pool;
 use std::alloc::{AllocError, Allocator, Global};
 use std::fmt;
 use tb_records::streams::read_timed_from;
@@ -278,16 +278,9 @@ pub fn run<R: Source, W: Sink>(
         (W.output writer.old) (W.output writer.new) }
     ensures passed { IfOk result (λ _. (W.output writer.new).held ≡ false) }
 {
-    // Blocks of a pool are adjacent, and are freed all at once. Those of a pool over malloc begin 16 bytes past a cache line, as malloc's do, and
-    // each pool below moves them by 16 more: so over three others a node begins at a line.
-    let first = Bump::new(alloc);
-    let second = Bump::new(&first);
-    let third = Bump::new(&second);
-    let pool = Bump::new(&third);
-    let served = run_in(alloc, profile, clients_max, reader, writer, &pool);
-    drop(pool);
-    drop(third);
-    drop(second);
-    drop(first);
-    served
+    over_a_pool!(
+        alloc,
+        pool,
+        run_in(alloc, profile, clients_max, reader, writer, &pool)
+    )
 }

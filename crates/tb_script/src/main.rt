@@ -3,7 +3,7 @@
 #![tactic(auto)]
 
 use std::process::ExitCode;
-use tb_commands::{fault_of, refuse, serve, words};
+use tb_edge_commands::{fault_of, refuse, serve, words};
 use tb_records::Counting;
 
 fn main(rt: HostRuntime) -> ExitCode {

@@ -5,8 +5,8 @@ use std::fs::{File, OpenOptions};
 use std::io::{self, ErrorKind, Read, Write};
 use std::os::unix::fs::OpenOptionsExt;
 use std::{format, fs};
-use tb_journal::{checksum_of, sync_folder};
-use tb_keep_commands::{COPIES_MAX, Uncopied};
+use tb_edge_file::{COPIES_MAX, Uncopied};
+use tb_file_journal::{checksum_of, sync_folder};
 
 /// Why a call that was to make a copy failed.
 fn of_call(error: io::Error) -> Uncopied {

@@ -6,11 +6,9 @@ use std::cell::Cell;
 use std::io::{BufWriter, Stderr};
 use std::thread;
 use std::time::Duration;
-use tb_journal::{Device, FileFault, Real, Snapshot};
-use tb_keep_commands::{
-    Named, Opener, OpeningFault, Reason, Reported, opening_fault, unread_fault,
-};
-use tb_keep_follow::Looker;
+use tb_edge_file::{Named, Opener, OpeningFault, Reason, Reported, opening_fault, unread_fault};
+use tb_edge_log::Looker;
+use tb_file_journal::{Device, FileFault, Real, Snapshot};
 use tb_records::Counting;
 
 /// The files of the system.

@@ -1,6 +1,6 @@
 //! `tbd`: a ledger server whose history is in a file. It serves requests from standard input to standard output, and sends
 //! each reply when the entry that it rests on is durable. It follows a log in the same way, writes the history of either
-//! file as a dump, and reports what is in a file. tb_keep_commands and tb_keep_follow have what it does, over any files,
+//! file as a dump, and reports what is in a file. tb_edge_file and tb_edge_log have what it does, over any files,
 //! reader and writer.
 //!
 //! Modules:
@@ -23,8 +23,8 @@ mod wholes;
 use files::lines;
 use running::run_words;
 use std::process::ExitCode;
-use tb_commands::words;
-use tb_keep_commands::{refuse, words_fault};
+use tb_edge_commands::words;
+use tb_edge_file::{refuse, words_fault};
 use tb_records::Counting;
 
 fn main(rt: HostRuntime) -> ExitCode {

@@ -8,8 +8,8 @@ use std::cell::Cell;
 use std::fs::{File, Metadata};
 use std::os::unix::fs::MetadataExt;
 use std::{format, fs};
-use tb_journal::JournalFault;
-use tb_keep_commands::{Place, Reason, print_named};
+use tb_edge_file::{Place, Reason, print_named};
+use tb_file_journal::JournalFault;
 use tb_records::Counting;
 
 /// The identity of a file: its device and its inode, which stay as long as it is open.

@@ -2,8 +2,8 @@
 use crate::files::SystemFiles;
 use std::cell::Cell;
 use std::io::{BufWriter, IsTerminal, Stderr};
-use tb_keep_commands::{Command, Steady, read_command, refuse_words};
-use tb_keep_follow::{Terminals, serve};
+use tb_edge_file::{Command, Steady, read_command, refuse_words};
+use tb_edge_log::{Terminals, serve};
 use tb_records::Counting;
 
 /// Does what a command asks for, and returns the exit status.

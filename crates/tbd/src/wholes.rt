@@ -3,7 +3,7 @@
 use crate::descriptors::HighFiles;
 use std::alloc::{AllocError, Global};
 use std::format;
-use tb_journal::{Real, Scan, checksum_of};
+use tb_file_journal::{Real, Scan, checksum_of};
 
 /// The latch at the end of a journal's records.
 const CLOSED: &[u8] = &[90, 195, 150, 105];

@@ -2,7 +2,7 @@
 ghost use Rattle.std.specs.Prelude.{◌≡◌, ◌≤◌, map, string_bytes, IfSome};
 ghost use Rattle.tbs.specs.private.Storms.{storm_of};
 
-use tb_commands::number;
+use tb_edge_commands::number;
 
 /// The number of clients and of transfers that `storm` is asked for; None if the words do not ask for a storm.
 pub fn read_storm(words: &[String]) -> Option<(u32, u32)>

@@ -3,16 +3,16 @@
 //!
 //! Module:
 //!
-//! - `arguments`: the words that ask for a storm; tb_commands reads all others.
+//! - `arguments`: the words that ask for a storm; tb_edge_commands reads all others.
 #![tactic(auto)]
 
 mod arguments;
 
 use arguments::read_storm;
 use std::process::ExitCode;
-use tb_commands::{fault_of, refuse, serve, words};
+use tb_edge_commands::{fault_of, refuse, serve, words};
+use tb_edge_storm::storm;
 use tb_records::Counting;
-use tb_storm::storm;
 
 fn main(rt: HostRuntime) -> ExitCode {
     let mut faults = Counting::new(rt.stderr());

@@ -1,7 +1,7 @@
 -- What words ask for a storm.
 use Rattle.std.specs.Prelude.{ℕ, Bool, nat_eq, List, [], ◌∷◌, Option, Some, None, if◌then◌else◌, codes}
 use Rattle.std.specs.Cmp.Lexicographic.{pointwise}
-use Rattle.tb_commands.specs.Forms.{number_of, within}
+use Rattle.tb_edge_commands.specs.Forms.{number_of, within}
 
 abbrev pub is_storm : List ℕ → Bool
 is_storm word = pointwise nat_eq word (codes "storm")

@@ -1,0 +1,112 @@
+-- The exit status of each outcome: 0 done, 1 a device or memory failed, 2 the input or the arguments are wrong. And the line that reports a fault.
+use Rattle.std.specs.Prelude.{ℕ, ◌≡◌, ◌⊎◌, ◌++◌, List, Some, None, Result, Ok, Err, codes, map, string_bytes}
+use Rattle.std.specs.declared.alloc.Global.{Global}
+use Rattle.std.specs.declared.string.String.{String}
+use Rattle.tb_records.specs.declared.devices.Sink as sinks
+use Rattle.tb_records.specs.declared.devices.Source as sources
+use Rattle.tb_records.specs.declared.faults.FrameFault.{FrameFault}
+use Rattle.tb_records.specs.declared.faults.FrameFault.TheVariants as frame
+use Rattle.tb_records.specs.Transport.{Input, Output, Sent, CutOff}
+use Rattle.tb_records.specs.declared.dumps.DumpFault.{DumpFault}
+use Rattle.tb_records.specs.declared.dumps.DumpFault.TheVariants as dump
+use Rattle.tb_records.specs.DumpFaults.{dump_fault_name}
+use Rattle.tb_machine.specs.declared.serving.RunFault.{RunFault}
+use Rattle.tb_machine.specs.declared.serving.RunFault.TheVariants.{Frame, NoMemory, TimeExhausted, TooLong}
+use Rattle.tb_machine.specs.RunFaults.{run_fault_name}
+use Rattle.tb_machine.specs.Runs.{Ran}
+use Rattle.tb_machine.specs.DumpRuns.{DumpRan}
+use Rattle.tb_machine.specs.Replays.{ReplayRan}
+use Rattle.tb_edge_commands.specs.declared.arguments.Form.{Form}
+use Rattle.tb_edge_commands.specs.declared.arguments.Form.TheVariants.{Run, Dump, Replay}
+use Rattle.tb_edge_commands.specs.Forms.{form_of}
+use Rattle.tb_edge_commands.specs.declared.commands.CommandFault.{CommandFault}
+use Rattle.tb_edge_commands.specs.declared.commands.CommandFault.TheVariants.{Usage, Serving, Replaying}
+
+abbrev pub frame_exit_status : FrameFault → ℕ
+frame_exit_status frame.Device = 1
+frame_exit_status frame.NoMemory = 1
+frame_exit_status fault = 2
+
+abbrev pub run_exit_status : RunFault → ℕ
+run_exit_status (Frame fault) = frame_exit_status fault
+run_exit_status NoMemory = 1
+run_exit_status TimeExhausted = 2
+run_exit_status TooLong = 2
+
+abbrev pub dump_exit_status : DumpFault → ℕ
+dump_exit_status (dump.Frame fault) = frame_exit_status fault
+dump_exit_status dump.NoMemory = 1
+dump_exit_status fault = 2
+
+abbrev pub fault_exit_status : CommandFault → ℕ
+fault_exit_status Usage = 2
+fault_exit_status (Serving fault) = run_exit_status fault
+fault_exit_status (Replaying fault) = dump_exit_status fault
+
+-- the exit status of a form that was done, or ended with a fault
+abbrev pub outcome_exit_status : Result ℕ CommandFault → ℕ
+outcome_exit_status (Ok count) = 0
+outcome_exit_status (Err fault) = fault_exit_status fault
+
+-- a fault's name, as its line shows it
+abbrev pub command_fault_name : CommandFault → List ℕ
+command_fault_name Usage = codes "Usage"
+command_fault_name (Serving fault) = run_fault_name fault
+command_fault_name (Replaying fault) = dump_fault_name fault
+
+-- the line of a fault with a name
+abbrev pub line_named : List ℕ → List ℕ
+line_named name = codes "tbs: " ++ name ++ codes "\n"
+
+abbrev pub fault_line : CommandFault → List ℕ
+fault_line fault = line_named (command_fault_name fault)
+
+-- a line was written; or a prefix of it, if the writer failed or took nothing
+abbrev pub PrintsLine : List ℕ → Output → Output → Type 0
+PrintsLine line before after = Sent line before after ⊎ CutOff line before after
+
+-- nothing is reported for a form that was done, and its line for a fault
+abbrev pub Prints : Result ℕ CommandFault → Output → Output → Type 0
+Prints (Ok count) before after = after ≡ before
+Prints (Err fault) before after = PrintsLine (fault_line fault) before after
+
+-- what a form did, and its outcome: the number of replies or of entries, or the fault that came
+abbrev pub Performs : Form → Result ℕ CommandFault → Input → Input → Output → Output → Type 0
+Performs (Run clients_max profile) (Ok count) before after start written = Ran profile clients_max (Ok count) before after start written
+Performs (Run clients_max profile) (Err (Serving fault)) before after start written = Ran profile clients_max (Err fault) before after start written
+Performs (Dump clients_max at) (Ok count) before after start written = DumpRan clients_max at (Ok count) before after start written
+Performs (Dump clients_max at) (Err (Serving fault)) before after start written = DumpRan clients_max at (Err fault) before after start written
+Performs Replay (Ok count) before after start written = ReplayRan (Ok count) before after start written
+Performs Replay (Err (Replaying fault)) before after start written = ReplayRan (Err fault) before after start written
+Performs form outcome before after start written = ⊥
+
+-- the same for what a reader gave and a writer took
+abbrev pub PerformsOn : {R W : Type 0} → sources.Ghosts R → sinks.Ghosts W → Form → Result ℕ CommandFault → R → R → W → W → Type 0
+PerformsOn source sink form outcome before after start written =
+    Performs form outcome (source.input before) (source.input after) (sink.output start) (sink.output written)
+
+-- words that ask for no form: the exit status is 2, and nothing is read or written
+abbrev pub RefusesWords : {R W : Type 0} → List (String Global) → ℕ → R → R → W → W → Type 0
+RefusesWords words exit_status before after start written = form_of (map string_bytes words) ≡ None → (exit_status ≡ 2) × (after ≡ before) × (written ≡ start)
+
+-- words that ask for no form: the line of usage is reported
+abbrev pub PrintsUsage : {E : Type 0} → sinks.Ghosts E → List (String Global) → E → E → Type 0
+PrintsUsage lines words quiet told = form_of (map string_bytes words) ≡ None → PrintsLine (fault_line Usage) (lines.output quiet) (lines.output told)
+
+-- a form was served, and the exit status and the line are those of the outcome
+pub record Exits (form : Form) (exit_status : ℕ) (before after : Input) (start written quiet told : Output) : Type 0 where
+  pub outcome : Result ℕ CommandFault
+  pub performed : Performs form outcome before after start written
+  pub exit_status_is : exit_status ≡ outcome_exit_status outcome
+  pub line : Prints outcome quiet told
+
+-- the form that words ask for was served, if they ask for one
+abbrev pub ServesWords : List (List ℕ) → ℕ → Input → Input → Output → Output → Output → Output → Type 0
+ServesWords words exit_status before after start written quiet told =
+    (form : Form) → form_of words ≡ Some form → Exits form exit_status before after start written quiet told
+
+-- the same for what a reader gave, and a writer and a writer of lines took, before and after a call
+abbrev pub On : {R W E : Type 0} → sources.Ghosts R → sinks.Ghosts W → sinks.Ghosts E
+    → (Input → Input → Output → Output → Output → Output → Type 0) → R → R → W → W → E → E → Type 0
+On source sink lines Does first last start written quiet told =
+    Does (source.input first) (source.input last) (sink.output start) (sink.output written) (lines.output quiet) (lines.output told)

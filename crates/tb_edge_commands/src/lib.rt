@@ -1,0 +1,22 @@
+//! What the server's programs share: the words of their forms `run`, `dump` and `replay`, and what each form does from a
+//! reader to a writer. Also the exit status and the line of each fault, and the way from the system's input and output to
+//! them.
+//!
+//! Modules, each over those before it:
+//!
+//! - `arguments`: `read_form`, what the words of the command line ask for, and `with_clients_range`, what a text says of a
+//!   number of clients.
+//! - `lines`: the line that reports a fault.
+//! - `commands`: `serve`, the way from arguments, input and output to `command`: each form over any reader and writer, and the exit
+//!   status of each outcome.
+#![tactic(auto)]
+
+mod arguments;
+mod commands;
+mod lines;
+
+pub use arguments::{Form, number, read_clients_max, read_form, read_profile};
+pub use commands::{
+    BUFFER_BYTES, CommandFault, command, fault_of, print_fault, refuse, serve, words,
+};
+pub use lines::{LINE_BYTES, line_by, line_of, put_line};

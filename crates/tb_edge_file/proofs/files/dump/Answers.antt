@@ -1,0 +1,18 @@
+use Rattle.std.proofs.Common.{Ok, Err, refl}
+use Rattle.tb_edge_file.proofs.files.dump.Goals as goal
+
+pub returns-in-Ok : goal.returns-in-Ok
+returns-in-Ok g c = record {
+  found = Ok c.in-Ok.found;
+  between = c.read_whole.new.device;
+  whole = record { found_is = c.in-Ok.ensures.found; same = c.in-Ok.ensures.same; cause = c.in-Ok.ensures.cause };
+  dumps = c.dump_found.ensures;
+}
+
+pub returns-in-Err : goal.returns-in-Err
+returns-in-Err g c = record {
+  found = Err c.in-Err.fault;
+  between = c.read_whole.new.device;
+  whole = record { found_is = c.in-Err.ensures.found; same = c.in-Err.ensures.same; cause = c.in-Err.ensures.cause };
+  dumps = (record { named = c.named.result; outcome_is = refl; names = c.named.ensures }, refl);
+}

@@ -1,0 +1,9 @@
+use Rattle.std.proofs.Common.{refl}
+use Rattle.tb_records.proofs.Sendings.{sent_rest, sent_few}
+use Rattle.tb_edge_file.proofs.lines.put_between.Goals as goal
+
+pub returns-in-Ok : goal.returns-in-Ok
+returns-in-Ok g c = sent_rest _ _ _ _ _ _ refl (rw c.as_bytes.ensures.value at c.in-Ok.ensures) _ c.put_counted.ensures
+
+pub returns-in-Err : goal.returns-in-Err
+returns-in-Err g c = let cut = rw c.as_bytes.ensures.value at c.in-Err.ensures in (cut.0, sent_few _ _ _ _ _ refl cut.1)

@@ -1,0 +1,88 @@
+//! The commands of `tbd`, a ledger server whose history is in a file: over whatever opens devices, any reader and any writer.
+//!
+//! Modules, each over those before it:
+//!
+//! - `arguments`: `read_command`, what the arguments of the command line ask for.
+//! - `help`: the pages of usage.
+//! - `live`: `Live`, a file that is read while another program may append to it.
+//! - `mending`: `Mended`, a file whose first bytes are read as a journal's.
+//! - `laws`: what holds of every dump of a file that grows.
+//! - `openers`: `Opener`, what opens the device of a name, and why it does not.
+//! - `outlets`: `Outlet`, a writer that says at its end whether all that was put was sent.
+//! - `steady`: `Steady`, a writer whose calls are repeated if a signal interrupts them.
+//! - `places`: `Named`, a file that is compared with what its name leads to, and whose bytes are set aside before they are cut off.
+//! - `asides`: why bytes that were to be cut off were not copied.
+//! - `ends`: `Files` and `Ends`, what contracts know of what a command works with.
+//! - `kinds`: what a file is that holds no ledger, by its first bytes.
+//! - `faults`: why a command ends with an exit status other than 0.
+//! - `printable`: a path or an argument as a line shows it, without control characters.
+//! - `lines`: the lines that report faults, and what is wrong with arguments.
+//! - `reports`: `Reported`, a file that reports how far it was read.
+//! - `summaries`: what `check` reports of a file.
+//! - `naming`: what there is to say of a file that is refused.
+//! - `files`: `dump` and `check`, a file read without a write.
+//! - `copies`: what is reported of a file that was copied.
+//! - `rescues`: what is reported of a file that was read on after its damage.
+//! - `copying`: `salvage` and `backup`, a file copied into a new one.
+//! - `following`: the entries of a file above a commit number, as it grows.
+//! - `keeping`: `run`, a ledger over a file served.
+//! - `commands`: each form, over what opens devices. tb_edge_log says how it ends.
+//!
+//! specs/Forms says which arguments ask for what, specs/Outcomes and specs/Copies what each form does, specs/ExitStatuses the exit status and the
+//! line of each fault.
+#![tactic(auto)]
+
+mod arguments;
+mod asides;
+mod commands;
+mod copies;
+mod copying;
+mod ends;
+mod faults;
+mod files;
+mod following;
+mod help;
+mod keeping;
+mod kinds;
+pub mod laws;
+mod lines;
+mod live;
+mod mending;
+mod naming;
+mod openers;
+mod outlets;
+mod places;
+mod printable;
+mod reports;
+mod rescues;
+mod steady;
+mod summaries;
+
+pub use arguments::{Command, FORMS, Form, Options, read_command};
+pub use asides::{COPIES_MAX, Reason, Uncopied};
+pub use commands::{check_over, dump_over, made_by, print, run_over};
+pub use copies::Copied;
+pub use copying::{copy_over, print_mended};
+pub use ends::{Ends, Files};
+pub use faults::{
+    Damage, Failed, KeepCommandFault, Mismatch, Numbers, disk_fault, new_fault, opened_fault,
+    reason_fault, words_fault,
+};
+pub use following::Part;
+pub use help::{CHECK, RUN, USAGE, VERSION, page};
+pub use keeping::{FileStart, failed_pipe};
+pub use kinds::Kind;
+pub use lines::{
+    WrongEntry, print_cut, print_damage, print_fault, print_made, print_named, print_number,
+    print_place, print_text, print_wrong, refuse, refuse_words,
+};
+pub use live::Live;
+pub use mending::Mended;
+pub use naming::{entry_at, kind_in};
+pub use openers::{Opener, OpeningFault, opening_fault, unread_fault};
+pub use outlets::{Outgoing, Outlet};
+pub use places::{Named, Place, Silent};
+pub use reports::Reported;
+pub use rescues::Rescued;
+pub use steady::Steady;
+pub use summaries::Summary;

@@ -1,0 +1,80 @@
+//! The way from a program's input and output to a command.
+ghost use Rattle.std.specs.Prelude.{◌≡◌};
+ghost use Rattle.tb_edge_log.specs.Exits.{known_looker};
+ghost use Rattle.tb_edge_log.specs.Hosts.{input_size, output_size, known_host, HostedOn, ServesStreamsOn};
+
+use crate::executing::{Terminals, execute};
+use crate::heads::Looker;
+use std::alloc::Global;
+use std::io::{BufReader, BufWriter, Read, Write};
+use tb_edge_file::{Command, Files, Form, KeepCommandFault, Outgoing, refuse};
+use tb_records::{Buffered, Sink};
+
+/// The bytes of input that a form that reads any holds at a time. All that is held goes into one commit, so fewer bytes would need more syncs.
+const INPUT_BYTES: usize = 1 << 20;
+
+/// The bytes of output that a dump, or a log in memory, holds at a time.
+const OUTPUT_BYTES: usize = 1 << 16;
+
+/// The bytes that a form's reader and writer hold. Replies over a file are written at once, each time all that are buffered; and a form that
+/// writes once needs no buffer.
+fn capacities(form: Form) -> (usize, usize)
+    ensures input { result.0 ≡ input_size form }
+    ensures output { result.1 ≡ output_size form }
+{
+    match form {
+        Form::Run(_, _, _) | Form::Follow(_, _, _) => (INPUT_BYTES, 0),
+        Form::Memory(_, _) => (INPUT_BYTES, OUTPUT_BYTES),
+        Form::Dump(_, _) => (0, OUTPUT_BYTES),
+        _ => (0, 0),
+    }
+}
+
+/// Does what a command asks for, between a reader and a writer with a buffer each.
+fn between<O: Looker, R: Read + Drop, W: Write + Drop, E: Sink>(
+    alloc: Global,
+    opener: &mut O,
+    command: &Command,
+    ends: Terminals,
+    input: BufReader<R>,
+    output: BufWriter<W>,
+    faults: &mut E,
+) -> u8
+    ensures { HostedOn (known_host (known_looker ⟦<O as Files>⟧.its O.looks) R.remaining W.contents E.Sink) ends command.now
+        result opener input output faults }
+{
+    let mut reader = Buffered::new(input);
+    let mut writer = Outgoing::new(output);
+    execute(
+        alloc,
+        opener,
+        command,
+        ends,
+        &mut reader,
+        &mut writer,
+        faults,
+    )
+}
+
+/// Does what a command asks for, between an input and an output, both buffered, and returns the exit status.
+pub fn serve<O: Looker, R: Read + Drop, W: Write + Drop, E: Sink>(
+    alloc: Global,
+    opener: &mut O,
+    command: &Command,
+    ends: Terminals,
+    input: R,
+    output: W,
+    faults: &mut E,
+) -> u8
+    ensures { ServesStreamsOn (known_host (known_looker ⟦<O as Files>⟧.its O.looks) R.remaining W.contents E.Sink) ends command.now
+        result opener input output faults }
+{
+    let (held_in, held_out) = capacities(command.form);
+    let Ok(input) = BufReader::with_capacity(alloc, held_in, input) else {
+        return refuse(KeepCommandFault::NoMemory, faults);
+    };
+    let Ok(output) = BufWriter::with_capacity(alloc, held_out, output) else {
+        return refuse(KeepCommandFault::NoMemory, faults);
+    };
+    between(alloc, opener, command, ends, input, output, faults)
+}

@@ -1,0 +1,17 @@
+use Rattle.std.proofs.Common.{[], ℕ, List, sym, subst}
+use Rattle.tb_file_journal.specs.Scans.{HasRead}
+use Rattle.tb_file.proofs.Causes.{has_start_then}
+use Rattle.tb_file.proofs.Dumping.{rules_found}
+use Rattle.tb_file.proofs.dumps.read_rules.Goals as goal
+
+pub returns-in-Ok-clause-rules : goal.returns-in-Ok-clause-rules
+returns-in-Ok-clause-rules g c file holds =
+    rules_found c.first_rules.result file c.first_rules.new.scan (c.first_rules.ensures.rules file (c.in-Ok.ensures.same file holds) (c.in-Ok.ensures.begun file holds))
+
+pub returns-in-Ok-clause-cause : goal.returns-in-Ok-clause-cause
+returns-in-Ok-clause-cause g c t =
+    let old = g.D.Device.disk c.args.device.now in
+    let mid = g.D.Device.disk c.start.new.device in
+    let seen = c.start.ensures.seen t in
+    let here = subst (λ (f : List ℕ). HasRead [] f c.in-Ok.scan) (sym seen) (c.in-Ok.ensures.begun old.seen (g.met.D.Device.holds_seen c.args.device.now t)) in
+    has_start_then old mid (g.D.Device.disk c.first_rules.new.device) (c.in-Ok.ensures.cause t).ok seen c.first_rules.result (c.first_rules.ensures.cause t here)

@@ -1,0 +1,7 @@
+use Rattle.tb_file_journal.proofs.Retried.{Waits, IsPartlySynced}
+use Rattle.tb_file_journal.proofs.posix.sync_once.Given as goal
+
+abbrev pub invariant-loop : goal.invariant-loop
+invariant-loop g l = g.S.System.tells
+    → IsPartlySynced (g.S.System.disk l.fn.system) (g.S.System.disk l.system)
+    × Waits (g.S.System.disk l.fn.system) (g.S.System.disk l.system) (g.S.System.interruptions l.fn.system) (g.S.System.interruptions l.system) l.counter

@@ -1,5 +1,0 @@
-use Rattle.tb_journal.proofs.Showing.{shown_prefix}
-use Rattle.tb_journal.proofs.laws.shown_is_a_prefix.Goals as goal
-
-pub returns : goal.returns
-returns c = shown_prefix

@@ -1,5 +1,0 @@
-use Rattle.tb_journal.proofs.Remainders.{row_is}
-use Rattle.tb_journal.proofs.reading.byte_after.Goals as goal
-
-pub returns : goal.returns
-returns c = row_is c.args.byte c.args.zeros c.requires.byte c.requires.least c.requires.most

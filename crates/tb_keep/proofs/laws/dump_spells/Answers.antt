@@ -1,5 +1,0 @@
-use Rattle.tb_keep.proofs.Spelled.{dump_is_of_history}
-use Rattle.tb_keep.proofs.laws.dump_spells.Goals as goal
-
-pub returns : goal.returns
-returns c = dump_is_of_history

@@ -1,9 +1,0 @@
-use Rattle.std.proofs.Common.{refl}
-use Rattle.tb_records.specs.DumpBytes.{head_bytes}
-use Rattle.tb_records.specs.Numbers.{le_bytes}
-use Rattle.tb_journal.specs.Checksum.{bit_on, byte_on}
-use Rattle.tb_keep.proofs.worked_rows.dump_of_a_head.Goals as goal
-
-pub returns : goal.returns
-unfolding byte_on bit_on head_bytes le_bytes
-returns c = refl

@@ -1,6 +1,0 @@
-use Rattle.std.proofs.Common.{arith}
-use Rattle.tb_keep_commands.proofs.FirstBytes.{behind_is}
-use Rattle.tb_keep_commands.proofs.kinds.begins_at.Goals as goal
-
-pub returns : goal.returns
-returns c = behind_is c.args.at c.args.prefix.now c.args.bytes.now c.begins.result (omega arith) c.begins.ensures

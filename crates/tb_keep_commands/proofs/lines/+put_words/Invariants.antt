@@ -1,5 +1,0 @@
-use Rattle.std.proofs.Common.{length}
-use Rattle.tb_keep_commands.proofs.lines.+put_words.Given as goal
-
-abbrev pub decreases-put_words : goal.decreases-put_words
-decreases-put_words g l = length l.words.now

@@ -1,4 +1,0 @@
-use Rattle.tb_keep_commands.proofs.lines.put_uncopied.Goals as goal
-
-pub returns : goal.returns
-returns g c = rw c.uncopied_text.ensures at c.put_named.ensures

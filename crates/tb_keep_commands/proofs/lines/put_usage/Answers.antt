@@ -1,5 +1,0 @@
-use Rattle.tb_keep_commands.proofs.Passing.{wrong_sent}
-use Rattle.tb_keep_commands.proofs.lines.put_usage.Goals as goal
-
-pub returns : goal.returns
-returns g c = wrong_sent _ _ _ _ _ _ _ c.first_words-shown.ensures c.text.ensures c.put_wrong.ensures

@@ -1,5 +1,0 @@
-use Rattle.tb_keep_commands.proofs.Lives.{shown_length}
-use Rattle.tb_keep_commands.proofs.live.SnapshotLive.file_len.Goals as goal
-
-pub returns-clause-extends : goal.returns-clause-extends
-returns-clause-extends g c = shown_length g.G.Growing.grows _ _ _ c.file_len.ensures.len

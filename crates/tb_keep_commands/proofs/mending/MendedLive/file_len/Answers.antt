@@ -1,5 +1,0 @@
-use Rattle.tb_keep_commands.proofs.Lives.{whole_length}
-use Rattle.tb_keep_commands.proofs.mending.MendedLive.file_len.Goals as goal
-
-pub returns-clause-extends : goal.returns-clause-extends
-returns-clause-extends g c file held = whole_length file c.len.result (c.len.ensures.bytes file held)

@@ -1,6 +1,0 @@
-use Rattle.tb_keep_commands.specs.Mending.{mended_device}
-use Rattle.tb_keep_commands.proofs.Lives.{stays}
-use Rattle.tb_keep_commands.proofs.mending.MendedLive.refresh.Goals as goal
-
-pub returns-clause-later : goal.returns-clause-later
-returns-clause-later g c file held = stays (mended_device g.D.Device).holds _ file held

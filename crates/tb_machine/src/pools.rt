@@ -1,0 +1,21 @@
+//! The pool in which a server's records are.
+
+/// Calls a function over a pool of memory from an allocator, and frees the pool after it.
+///
+/// Blocks of a pool are adjacent, and are freed all at once. Those of a pool over malloc begin 16 bytes past a cache line, as malloc's do, and each
+/// pool below moves them by 16 more: so over three others a node begins at a line.
+#[macro_export]
+macro_rules! over_a_pool {
+    ($alloc:expr, $pool:ident, $call:expr) => {{
+        let first = bumpalo::Bump::new($alloc);
+        let second = bumpalo::Bump::new(&first);
+        let third = bumpalo::Bump::new(&second);
+        let $pool = bumpalo::Bump::new(&third);
+        let served = $call;
+        drop($pool);
+        drop(third);
+        drop(second);
+        drop(first);
+        served
+    }};
+}

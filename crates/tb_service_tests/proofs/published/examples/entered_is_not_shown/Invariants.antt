@@ -1,5 +1,0 @@
-use Rattle.tb_service_tests.proofs.published.examples.entered_is_not_shown.Given as goal
-
--- the opening that was just made
-abbrev pub ghosts-play_all : goal.ghosts-play_all
-ghosts-play_all g a = record { opening = a.opening }

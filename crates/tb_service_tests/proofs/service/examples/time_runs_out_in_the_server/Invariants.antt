@@ -1,5 +1,0 @@
-use Rattle.tb_service_tests.proofs.service.examples.time_runs_out_in_the_server.Given as goal
-
--- the opening that was just made
-abbrev pub ghosts-serve_all : goal.ghosts-serve_all
-ghosts-serve_all g a = record { opening = a.opening }

@@ -1,5 +1,0 @@
-use Rattle.tb_service_tests.proofs.service.handovers.dropped_server_gives_back.Given as goal
-
--- the opening that was just made
-abbrev pub ghosts-drop_server : goal.ghosts-drop_server
-ghosts-drop_server g a = record { opening = a.opening }

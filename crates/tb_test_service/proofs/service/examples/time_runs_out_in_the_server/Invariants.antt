@@ -1,0 +1,5 @@
+use Rattle.tb_test_service.proofs.service.examples.time_runs_out_in_the_server.Given as goal
+
+-- the opening that was just made
+abbrev pub ghosts-serve_all : goal.ghosts-serve_all
+ghosts-serve_all g a = record { opening = a.opening }
