@@ -5,6 +5,7 @@ that are there at once share a commit, and the folder of a new file is synced.
 """
 
 import os
+import select
 import struct
 import subprocess
 
@@ -91,6 +92,25 @@ def test_answers_to_a_log_leave_before_it_waits(tbd, tmp_path, piece):
     wanted = (ROOT / "examples/first.answers").read_bytes()
     for words in (["follow", "ledger", "2"], ["follow-memory", "2"]):
         assert conversed([tbd, *words], tmp_path, LOG, ITEMS, piece) == wanted
+
+
+STARTS = [
+    (["run", "ledger", "2", "--progress"], b"tbd: made ledger\ntbd: ready: commit 0, time 0\n"),
+    (["follow", "ledger", "2"], b"tbd: made ledger\ntbd: has the log up to position 0\n"),
+]
+
+
+@pytest.mark.parametrize("words, lines", STARTS)
+def test_a_start_is_reported_before_the_first_request(tbd, tmp_path, words, lines):
+    streams = dict.fromkeys(("stdin", "stdout", "stderr"), subprocess.PIPE)
+    with subprocess.Popen([tbd, *words], cwd=tmp_path, **streams) as process:
+        said, more = b"", True
+        while more and len(said) < len(lines):
+            ready = select.select([process.stderr], [], [], kinds.SECONDS)[0]
+            more = ready and os.read(process.stderr.fileno(), len(lines) - len(said))
+            said += more or b""
+        process.stdin.close()
+    assert (said, process.returncode) == (lines, 0)
 
 
 def test_a_repeat_after_a_start_gets_its_first_reply(tbd, tmp_path):
