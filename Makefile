@@ -9,13 +9,14 @@ LEDGER = avl_tree tb_records tb_ledger
 try:
 	@$(SERVE) && rt try -- run 2 < $$script | $(TELOVAMISH) replies; rm -f $$script
 
-# Crates that stand on the same ones wait for each other in one clone: tb_ledger is proved in a copy,
-# next to tb_sessions, and `rt run` takes it over.
+# Crates that are built on the same ones wait for each other in one clone: tb_ledger is proved in a
+# copy, next to tb_sessions, and its kept work is copied back.
 run:
 	(cd crates/avl_tree && rt lib --jobs 2) & (cd crates/tb_records && rt lib --jobs 2); wait
-	@copy=$$(mktemp -d) && tar -c --exclude=out $(LEDGER:%=crates/%) | tar -x -C $$copy && \
+	@copy=$$(mktemp -d) && tar -c $(LEDGER:%=crates/%) | tar -x -C $$copy && \
 	    for it in $(LEDGER); do grep "^$$it:" crates.txt; done > $$copy/crates.txt && \
 	    { (cd $$copy/crates/tb_ledger && rt lib --jobs 2) & (cd crates/tb_sessions && rt lib --jobs 2); wait; }; \
+	    cp -a $$copy/crates/tb_ledger/out crates/tb_ledger; \
 	    $(SERVE) && rt run -- run 2 < $$script | $(TELOVAMISH) replies; rm -rf $$script $$copy
 
 check:
