@@ -1,9 +1,10 @@
 -- The journal's numbers after a commit.
-use Rattle.std.proofs.Common.{rules, ◌≡◌, ℕ, Bool, ◌+◌, ◌-◌, ◌≤◌, List, [], ◌∷◌, ◌++◌, length, arith, length-append}
-use Rattle.tb_file_journal.specs.Device.{Disk, IsSettled}
-use Rattle.tb_file_journal.specs.Contents.{at_rest, recorded, blocks_length, records_end}
-use Rattle.tb_file_journal.specs.Steps.{IsWholeFile}
+use Rattle.std.proofs.Common.{rules, ◌≡◌, inl, ap, ◌∙◌, ℕ, Bool, ◌+◌, ◌-◌, ◌≤◌, List, [], ◌∷◌, ◌++◌, length, arith, length-append}
+use Rattle.tb_file_journal.specs.Device.{Disk, IsSettled, LeavesOnly}
+use Rattle.tb_file_journal.specs.Contents.{contents, at_rest, recorded, blocks_length, records_end}
+use Rattle.tb_file_journal.specs.Steps.{IsWholeFile, IsAtRest, IsBeforeOrAfter}
 use Rattle.tb_file_journal.specs.Ready.{Kept, IsWritable, IsReady}
+use Rattle.tb_file_journal.proofs.Moments.{started}
 use Rattle.tb_file_journal.proofs.Waiting.{many_blocks, length-at_rest}
 
 pub blocks_length-append : (xs ys : List (List ℕ)) → blocks_length (xs ++ ys) ≡ blocks_length xs + blocks_length ys
@@ -34,3 +35,8 @@ ready_of disk journal writable settled = record {
   ends = writable.ends;
   counts = writable.counts;
 }
+
+-- without a call the records from before are left
+pub left_at_rest : (disk : Disk) (batch : List (List ℕ)) → ((c : List ℕ) → disk.left_since disk.moment c → disk.may_leave c) → IsAtRest disk
+    → LeavesOnly disk disk (IsBeforeOrAfter (recorded disk.seen) batch)
+left_at_rest disk batch only rest = started disk (IsBeforeOrAfter (recorded disk.seen) batch) (λ c left. inl (ap contents (rest.kept c (only c left)) ∙ rest.reads))

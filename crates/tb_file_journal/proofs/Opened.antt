@@ -1,17 +1,17 @@
 -- A journal over a file that was read.
-use Rattle.std.proofs.Common.{rules, ◌≡◌, inr, ◌<◌, ◌+◌, ◌^◌, ℕ, true, List, [], length, refl, sym, ap, ◌∙◌, arith, Result, Ok, Err, IfOk, IfErr}
+use Rattle.std.proofs.Common.{rules, ◌≡◌, inl, inr, ⊎_elim, ◌<◌, ◌+◌, ◌^◌, ℕ, true, List, [], length, refl, sym, ap, ◌∙◌, arith, Result, Ok, Err, IfOk, IfErr}
 use Rattle.std.proofs.lemmas.Grind.{common_steps}
 use Rattle.tb_file_journal.specs.declared.faults.JournalFault.TheVariants as faults
 use Rattle.tb_file_journal.specs.declared.opening.OpenFault.{OpenFault}
 use Rattle.tb_file_journal.specs.declared.opening.OpenFault.TheVariants as open_faults
 use Rattle.tb_file_journal.specs.declared.opening.NotOpened.{NotOpened}
 use Rattle.tb_file_journal.specs.declared.reading.Extent.{Extent}
-use Rattle.tb_file_journal.specs.Device.{Disk, IsSettled, LeavesOnly}
+use Rattle.tb_file_journal.specs.Device.{Disk, IsOnDisk, IsSettled, LeavesOnly}
 use Rattle.tb_file_journal.specs.Contents.{Contents, Records, contents, recorded, content_records, records_end}
-use Rattle.tb_file_journal.specs.Opening.{HasOpenCause, IsAsBefore, StandsForTheSame, IsOfDevice, IsOfExtent, Recovers, RefusesFile, Repairs, IsOpened}
+use Rattle.tb_file_journal.specs.Opening.{HasOpenCause, IsAsBefore, StandsForTheSame, IsOfDevice, IsOfExtent, IsUntouched, GivesBack, Recovers, RefusesFile, Repairs, IsOpened}
 use Rattle.tb_file_journal.specs.Reading.{ReadsExtent, extent_of}
-use Rattle.tb_file_journal.specs.Ready.{Kept}
-use Rattle.tb_file_journal.proofs.Moments.{then, weaker}
+use Rattle.tb_file_journal.specs.Ready.{Kept, IsOver}
+use Rattle.tb_file_journal.proofs.Moments.{started, then, weaker}
 use Rattle.tb_file_journal.proofs.Causes.{none_at_once}
 use Rattle.tb_file_journal.proofs.Steps.{within}
 
@@ -29,6 +29,12 @@ too_long disk extent read long =
     let told = is_told (contents disk.seen) extent read in
     record { ok = tt; cause = inr (refl, omega (arith, long, told.end, within disk.seen (recorded disk.seen) told.reads), none_at_once disk) }
 
+-- a file that was read, before a call
+pub left_as_read : (disk : Disk) (extent : Extent) → extent_of (contents disk.seen) ≡ Ok extent → ((c : List ℕ) → disk.left_since disk.moment c → disk.may_leave c)
+    → IsOnDisk disk → LeavesOnly disk disk (λ file. contents file ≡ Records (recorded disk.seen))
+left_as_read disk extent read only kept =
+    started disk (λ (file : List ℕ). contents file ≡ Records (recorded disk.seen)) (λ c left. ap contents (kept c (only c left)) ∙ (is_told (contents disk.seen) extent read).reads)
+
 -- a journal of what was read
 pub recovers : {D : Type 0} (file : List ℕ) (extent : Extent) (result : Result (Kept D) (NotOpened D)) → extent_of (contents file) ≡ Ok extent
     → IfOk result (IsOfExtent extent) → IfErr result (λ failed. IsOfDevice failed.fault) → Recovers result file
@@ -44,6 +50,24 @@ recovers file extent (Err failed) read of_extent other = by_fault failed.fault o
 pub refuses : (file : List ℕ) (fault : OpenFault) → ReadsExtent (Err fault) file → RefusesFile fault file
 refuses file (open_faults.Refused why) tells = tells
 refuses file (open_faults.Device fault) tells = tt
+
+-- a file that is not opened
+
+pub untouched_read : (before after : Disk) (fault : OpenFault) → after.seen ≡ before.seen → LeavesOnly before after (IsAsBefore before) → IsUntouched before after fault
+untouched_read before after (open_faults.Refused why) seen left = (seen, left)
+untouched_read before after (open_faults.Device fault) seen left = tt
+
+untouched_by : (before after : Disk) (fault : OpenFault) → IsOfDevice fault → IsUntouched before after fault
+untouched_by before after (open_faults.Refused why) other = absurd other
+untouched_by before after (open_faults.Device fault) other = tt
+
+pub not_refused : {D : Type 0} (disk : D → Disk) (device : D) (result : Result (Kept D) (NotOpened D)) → IfErr result (λ failed. IsOfDevice failed.fault)
+    → GivesBack disk device result IsUntouched
+not_refused disk device (Ok journal) other = tt
+not_refused disk device (Err failed) other = untouched_by (disk device) (disk failed.device) failed.fault other
+
+pub left_standing : (before after : Disk) → LeavesOnly before after (IsAsBefore before) → LeavesOnly before after (StandsForTheSame before)
+left_standing before after left = weaker before after (IsAsBefore before) (StandsForTheSame before) (λ c either. ⊎_elim (λ was. inl was) (λ is. inr (ap contents is)) either) left
 
 -- a file that was read and then opened
 pub read_then_opened : (before mid after : Disk) (extent : Extent) → extent_of (contents before.seen) ≡ Ok extent → mid.seen ≡ before.seen
@@ -72,4 +96,14 @@ opens disk before new extent done batch read repairs settled none =
       };
       same = repairs.ok.1;
       none_waits = none;
+    }
+
+pub is_over : {D : Type 0} (disk : D → Disk) (before : Disk) (new : D) (extent : Extent) (done : Unit {0}) (batch : List (List ℕ)) → extent_of (contents before.seen) ≡ Ok extent
+    → Repairs (Ok done) before (disk new)
+    → IsOver disk (recorded before.seen) (record { device = new; end = extent.end; count = extent.count; waiting = batch; usable = true })
+is_over disk before new extent done batch read repairs =
+    let told = is_told (contents before.seen) extent read in
+    record {
+      writable = record { whole = repairs.ok.0; ends = told.end ∙ ap records_end (sym repairs.ok.1); counts = told.count ∙ ap length (sym repairs.ok.1) };
+      are = repairs.ok.1;
     }

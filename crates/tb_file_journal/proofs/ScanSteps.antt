@@ -31,6 +31,12 @@ front_spoiled f is = grind (arith, common_steps)
 front_whole : (f : Front) (len : ℕ) → heads.Whole len ≡ head_is f → (r : List ℕ) × (f ≡ Whole r) × (length r ≡ len)
 front_whole f len is = grind (arith, common_steps)
 
+-- a whole block has all of its bytes
+pub whole_fits : (ahead : List ℕ) (head : Head) (len : ℕ) → head ≡ head_is (front ahead) → head ≡ heads.Whole len → 11 + len ≤ length ahead
+whole_fits ahead head len told is =
+    let whole = front_whole (front ahead) len (sym is ∙ told) in
+    omega (arith, (is_whole ahead whole.0 whole.1).within, whole.2)
+
 -- after the records that a file begins with
 
 module _ (records : List (List ℕ)) (file : List ℕ) (begins : BeginsWith records file) where
@@ -136,6 +142,16 @@ begun : (file ahead : List ℕ) → HasAhead 8 0 file ahead → starts_with nat_
 begun file ahead has is =
     let first : magic ≡ take 8 file = (slice_eq-Decides Decides-eqb magic (take 8 ahead) (starts_with nat_eq ahead magic) refl).0 is ∙ first_bytes file ahead has in
     ap (λ (l : List ℕ). contents (l ++ latch_closed)) (sym first)
+
+-- before the first record
+pub first_scan : (file ahead last behind : List ℕ) → HasAhead 8 0 file ahead → starts_with nat_eq ahead magic ≡ true → 8 ≤ length ahead → behind ≡ drop 8 ahead
+    → HasRead [] file (record { end = 8; count = 0; last = last; ahead = behind })
+first_scan file ahead last behind has is long left = record {
+  begins = begun file ahead has is;
+  end = refl;
+  count = refl;
+  ahead = subst (IsAhead 8 file) (sym left) (ahead_behind 8 0 8 file ahead long refl has.same);
+}
 
 pub begins_as : (b : Bool) (file ahead : List ℕ) → HasAhead 8 0 file ahead → b ≡ starts_with nat_eq ahead magic → StartsAs b file
 begins_as true file ahead has is = begun file ahead has (sym is)

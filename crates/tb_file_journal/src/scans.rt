@@ -123,11 +123,20 @@ fn read_first<D: Device>(alloc: Global, device: &mut D) -> Result<Window, Journa
     ensures ahead { (file : List ℕ) → D.holds device.old file → IfOk result (λ window. HasAhead 8 0 file window.ahead) }
     ensures same { (file : List ℕ) → D.holds device.old file → D.holds device.new file }
 {
-    let mut window = Window::new(alloc)?;
-    device.sync()?;
+    let mut window = match Window::new(alloc) {
+        Ok(window) => window,
+        Err(_) => return Err(JournalFault::Memory),
+    };
+    if let Err(fault) = device.sync() {
+        drop(window);
+        return Err(fault);
+    }
     match window.fill(device, 0, MAGIC.len()) {
         Ok(()) => Ok(window),
-        Err(fault) => Err(fault),
+        Err(fault) => {
+            drop(window);
+            Err(fault)
+        }
     }
 }
 
@@ -158,7 +167,9 @@ fn head_at<D: Device>(window: &mut Window, device: &mut D, at: usize) -> Result<
     ensures looks { D.tells → IsLookedAt (D.disk device.old) (D.disk device.new) }
     ensures cause { D.tells → HasOwnCause result (D.disk device.old) (D.disk device.new) }
 {
-    window.fill(device, at, FIXED_BYTES)?;
+    if let Err(fault) = window.fill(device, at, FIXED_BYTES) {
+        return Err(fault);
+    }
     let needed = asked(window.ahead());
     if needed == FIXED_BYTES {
         return Ok(head_of(window.ahead()));

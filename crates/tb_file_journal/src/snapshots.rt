@@ -65,7 +65,13 @@ impl<G: Growing + Drop> Snapshot<G> {
         ensures names { IfErr result IsOfCall }
     {
         let mut file = file;
-        let mut piece = vec![in alloc; 0u8; PIECE_BYTES]?;
+        let mut piece = match vec![in alloc; 0u8; PIECE_BYTES] {
+            Ok(piece) => piece,
+            Err(_) => {
+                drop(file);
+                return Err(JournalFault::Memory);
+            }
+        };
         match find(&mut file, &mut piece) {
             Ok(found) => Ok(Snapshot { file, piece, found }),
             Err(fault) => Err(fault),

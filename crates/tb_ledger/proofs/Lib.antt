@@ -11,6 +11,7 @@ pub mod MeaningLaws
 pub mod Entries
 pub mod Index
 pub mod UndoLogs
+pub mod NotedPairs
 pub mod RowSums
 pub mod Pairs
 pub mod States

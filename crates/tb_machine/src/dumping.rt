@@ -127,7 +127,10 @@ fn dump_pair<W: Sink>(
     match machine.judge(moment, request) {
         Judged::New(entry) => dump_entry(machine, at, writer, entry),
         Judged::NoTime => Err(RunFault::TimeExhausted),
-        Judged::Known(..) => Ok(()),
+        Judged::Known(_, request) => {
+            drop(request);
+            Ok(())
+        }
     }
 }
 

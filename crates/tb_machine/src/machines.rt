@@ -122,7 +122,7 @@ impl<A: Allocator + Clone> Machine<A> {
         ensures { let stored = stored_reply self.now client in
             MatchOption result (stored ≡ None) (λ reply. stored ≡ Some reply.now) }
     {
-        match self.sessions.stored(client) {
+        match self.stored(client) {
             Some(row) => Some(&row.reply),
             None => None,
         }

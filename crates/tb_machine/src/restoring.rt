@@ -88,14 +88,18 @@ pub fn restore<A: Allocator + Clone>(
 {
     let place = machine.commit() + 1;
     if let Some(cause) = cause_of(machine, &entry) {
+        drop(entry);
         return Err(RestoreFault { place, cause });
     }
     match machine.enter(entry) {
         Ok(()) => Ok(()),
-        Err(_) => Err(RestoreFault {
-            place,
-            cause: Unfit::NoMemory,
-        }),
+        Err(back) => {
+            drop(back);
+            Err(RestoreFault {
+                place,
+                cause: Unfit::NoMemory,
+            })
+        }
     }
 }
 
@@ -134,7 +138,10 @@ pub fn read_entry(alloc: Global, bytes: &[u8]) -> Result<Entry, FrameFault>
             time: LittleEndian::read_u64(&bytes[8..]),
             request,
         }),
-        Ok(_) => Err(FrameFault::BadLength),
+        Ok((request, _)) => {
+            drop(request);
+            Err(FrameFault::BadLength)
+        }
         Err(fault) => Err(fault),
     }
 }

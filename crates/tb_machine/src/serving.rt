@@ -163,8 +163,12 @@ fn answer_as<A: Allocator + Clone, W: Sink>(
         },
         Judged::NoTime => Err(RunFault::TimeExhausted),
         Judged::Known(class, request) => {
-            answer_known(machine, writer, &request, class)?;
-            Ok(())
+            let answered = answer_known(machine, writer, &request, class);
+            drop(request);
+            match answered {
+                Ok(()) => Ok(()),
+                Err(fault) => Err(RunFault::Frame(fault)),
+            }
         }
     }
 }

@@ -1,17 +1,20 @@
 -- What is read of a dump, by where its reading ended.
-use Rattle.std.proofs.Common.{◌≡◌, ℕ, ◌^◌, ◌<◌, ◌≤◌, List, [], ◌∷◌, ◌++◌, length, take, drop, Option, Some, None, Ok, Err, inr, refl, sym, ap, subst, ◌∙◌, arith, length-append, length-take, drop_at, append_assoc, append-nil, take_all}
+use Rattle.std.proofs.Common.{◌≡◌, ℕ, ◌^◌, ◌<◌, ◌≤◌, List, [], ◌∷◌, ◌++◌, length, take, drop, Option, Some, None, Result, Ok, Err, OnOk, inl, inr, refl, sym, ap, subst, ◌∙◌, arith, length-append, length-take, drop_at, append_assoc, append-nil, take_all}
 use Rattle.std.proofs.lemmas.List.{drop_all}
-use Rattle.tb_records.specs.declared.dumps.DumpFault.TheVariants.{Head, Frame}
+use Rattle.tb_records.specs.declared.dumps.DumpFault.TheVariants.{Head, Mark, Frame}
+use Rattle.tb_records.specs.declared.dumps.DumpItem.TheVariants as item
 use Rattle.tb_records.specs.declared.faults.FrameFault.{FrameFault}
 use Rattle.tb_records.specs.declared.faults.FrameFault.TheVariants.{Short, Device}
 use Rattle.tb_records.specs.declared.limits.Profile.{Profile}
-use Rattle.tb_records.specs.DumpBytes.{signature, profile_number, head_bytes, numbers_bytes, IsClients, HasNoHead, HeadAnswers, ItemAnswers, ItemFaulted, Begins}
-use Rattle.tb_records.specs.private.DumpNumbers.{ReadsNumbers}
-use Rattle.tb_records.specs.Frames.{length_at}
+use Rattle.tb_records.specs.DumpBytes.{signature, profile_number, head_bytes, numbers_bytes, IsClients, HasNoHead, HeadAnswers, ItemAnswers, ItemFaulted, Begins, IsDumped}
+use Rattle.tb_records.specs.private.DumpNumbers.{ReadsNumbers, IsHead}
+use Rattle.tb_records.specs.Frames.{length_at, request_bytes, IsRequest}
+use Rattle.tb_records.specs.Messages.{Message}
 use Rattle.tb_records.specs.Inputs.{Answers, Faulted}
 use Rattle.tb_records.specs.Numbers.{le_bytes}
 use Rattle.tb_records.proofs.Sizes.{length-le_bytes}
-use Rattle.tb_records.specs.private.Reading.{Filled}
+use Rattle.tb_records.specs.private.Reading.{Filled, Lost}
+use Rattle.tb_records.specs.declared.dumps.DumpHead.{DumpHead}
 use Rattle.tb_records.proofs.FrameFaults.{cut_header}
 use Rattle.tb_records.proofs.NumberBytes.{split_at}
 use Rattle.tb_records.proofs.Rows.{Fit, Stand, row_stands, one_row}
@@ -66,6 +69,19 @@ other_head buf n (Some old) (Some new) h long f none =
     let left : old ≡ buf ++ new = subst (λ l. old ≡ l ++ new) (take_all n buf (omega arith)) f.bytes in
     (subst HasNoHead (sym left) (no_head_more buf new long none), sym (drop_at buf new 16 long) ∙ ap (drop 16) (sym left))
 
+-- the reader failed within the head
+pub lost_head : (fault : FrameFault) (old new : Option (List ℕ)) → fault ≡ Device → Lost 16 old new → HeadAnswers (Err (Frame fault)) old new
+lost_head fault None new is lost = tt
+lost_head fault (Some old) None is lost = absurd lost.bytes
+lost_head fault (Some old) (Some new) is lost = subst (λ f. HeadAnswers (Err (Frame f)) (Some old) (Some new)) (sym is) (lost.front, lost.short, lost.bytes)
+
+-- a head was read
+pub whole_head : (buf : List ℕ) (n : ℕ) (head : DumpHead) (old new : Option (List ℕ)) → 16 ≤ n → length buf ≡ 16 → Filled n buf old new → IsHead buf head → HeadAnswers (Ok head) old new
+whole_head buf n head None new h long f is = tt
+whole_head buf n head (Some old) None h long f is = absurd f.bytes
+whole_head buf n head (Some old) (Some new) h long f is =
+    (f.bytes ∙ ap (λ l. l ++ new) (take_all n buf (omega arith) ∙ is.0), is.1)
+
 -- marks and entries
 
 pub length-numbers : (first second : ℕ) → length (numbers_bytes first second) ≡ 16
@@ -94,6 +110,55 @@ bad_frame fault commit time (Some old) (Some mid) (Some new) some read rest = by
         )
     by Short begun left rest = inr (mid, begun, (rest.1, rest.2))
     by fault begun left rest = (mid, begun, rest)
+
+-- the reader failed within the two numbers
+pub lost_numbers : (fault : FrameFault) (old new : Option (List ℕ)) → fault ≡ Device → Lost 16 old new → ItemAnswers (Err (Frame fault)) old new
+lost_numbers fault None new is lost = tt
+lost_numbers fault (Some old) None is lost = absurd lost.bytes
+lost_numbers fault (Some old) (Some new) is lost = subst (λ f. ItemAnswers (Err (Frame f)) (Some old) (Some new)) (sym is) (lost.front, omega (arith, lost.short), lost.bytes)
+
+-- the two numbers are cut
+pub cut_numbers : (buf : List ℕ) (n : ℕ) (old new : Option (List ℕ)) → (n ≡ 0 → ⊥) → n < 16 → length buf ≡ 16 → Filled n buf old new → ItemAnswers (Err (Frame Short)) old new
+cut_numbers buf n None new some h long f = tt
+cut_numbers buf n (Some old) None some h long f = absurd f.bytes
+cut_numbers buf n (Some old) (Some new) some h long f =
+    let left : old ≡ take n buf ++ new = f.bytes in
+    let none : new ≡ [] = f.end (omega arith) in
+    let size : length old ≡ n = omega (arith, ap length left, ap length none, length-append (take n buf) new, length-take n buf) in
+    inl ((omega (arith, size), omega (arith, size)), none)
+
+-- a mark was read, or another number in its place
+pub read_mark : (commit time : ℕ) (old new : Option (List ℕ)) → commit ≡ 0 → time ≡ 2 → ReadsNumbers commit time old new → ItemAnswers (Ok (Some item.Mark)) old new
+read_mark commit time None new zero two read = tt
+read_mark commit time (Some old) None zero two read = absurd read.bytes
+read_mark commit time (Some old) (Some new) zero two read = read.bytes ∙ (λ i. numbers_bytes (zero i) (two i) ++ new)
+
+pub no_mark : (commit time : ℕ) (old new : Option (List ℕ)) → commit ≡ 0 → (time ≡ 2 → ⊥) → ReadsNumbers commit time old new → ItemAnswers (Err Mark) old new
+no_mark commit time None new zero other read = tt
+no_mark commit time (Some old) None zero other read = absurd read.bytes
+no_mark commit time (Some old) (Some new) zero other read = (time, read.bytes ∙ (λ i. numbers_bytes (zero i) time ++ new), read.second_fits, other)
+
+-- an entry was read
+pub whole_entry : (commit time : ℕ) (r : Message) (old mid new : Option (List ℕ)) → (commit ≡ 0 → ⊥) → ReadsNumbers commit time old mid → Answers (Ok (Some r)) mid new
+    → ItemAnswers (Ok (Some (item.Entry commit time r))) old new
+whole_entry commit time r None mid new some read rest = tt
+whole_entry commit time r (Some old) None new some read rest = absurd read.bytes
+whole_entry commit time r (Some old) (Some mid) None some read rest = absurd rest
+whole_entry commit time r (Some old) (Some mid) (Some new) some read rest = (
+  read.bytes ∙ ap (λ l. numbers_bytes commit time ++ l) rest.0 ∙ sym (append_assoc (numbers_bytes commit time) (request_bytes r) new),
+  record { entry = omega arith; commit_fits = read.first_fits; time_fits = read.second_fits; request = rest.1 },
+)
+
+-- the numbers of an entry that was sent fit
+pub entry_fits : (commit time : ℕ) (r : Message) (result : Result (Unit {0}) FrameFault) → commit < 2 ^ 64 → time < 2 ^ 64 → OnOk result (IsRequest r)
+    → OnOk result (0 < commit → IsDumped commit time r)
+entry_fits commit time r (Ok x) commit_fits time_fits is = λ some. record {
+  entry = some;
+  commit_fits = commit_fits;
+  time_fits = time_fits;
+  request = is;
+}
+entry_fits commit time r (Err fault) commit_fits time_fits is = tt
 
 -- the numbers that 16 bytes encode
 pub two_numbers : (buf : List ℕ) (n : ℕ) (first second : ℕ) (old new : Option (List ℕ)) → 16 ≤ n → length buf ≡ 16 → Filled n buf old new

@@ -15,6 +15,10 @@ use Rattle.tb_records.specs.Numbers.{le_bytes}
 use Rattle.tb_records.specs.private.PairAtHand.{BeginsWithPair, BeginsWithHeader}
 use Rattle.tb_records.proofs.FrameFaults.{header_first, header_fault-append}
 
+-- a whole pair has a moment and a header
+pub pair_long : (bytes : List ℕ) → true ≡ holds_pair bytes → 56 ≤ length bytes
+pair_long bytes holds = grind (arith, nat_tests, length-drop)
+
 -- a moment, and the request that the bytes after it begin with
 pub pair_found : (moment count : ℕ) (request : Message) (bytes : List ℕ) → 8 ≤ length bytes → moment < 2 ^ 64 → take (0 + 8) bytes ≡ take 0 bytes ++ le_bytes 8 moment
     → Found (Ok (request, count)) (drop 8 bytes) → BeginsWithPair moment request (8 + count) bytes
@@ -24,9 +28,13 @@ pair_found moment count request bytes long small first found = record {
   is = (small, found.1.is);
 }
 
--- a whole pair has a moment and a header
-pub pair_long : (bytes : List ℕ) → true ≡ holds_pair bytes → 56 ≤ length bytes
-pair_long bytes holds = grind (arith, nat_tests, length-drop)
+-- the same for the part of the bytes that begins there
+pub part_found : (moment count : ℕ) (request : Message) (bytes : List ℕ) → true ≡ holds_pair bytes → moment < 2 ^ 64 → take (0 + 8) bytes ≡ take 0 bytes ++ le_bytes 8 moment
+    → Found (Ok (request, count)) (take (length bytes - 8) (drop 8 bytes)) → BeginsWithPair moment request (8 + count) bytes
+part_found moment count request bytes holds small first found =
+    let long : 56 ≤ length bytes = pair_long bytes holds in
+    let all = take_all (length bytes - 8) (drop 8 bytes) (omega (arith, length-drop 8 bytes)) in
+    pair_found moment count request bytes (omega arith) small first (subst (Found (Ok (request, count))) all found)
 
 none_of : (bytes : List ℕ) (f : Option FrameFault) → 48 ≤ length bytes → header_fault bytes ≡ f → request_fault bytes ≡ None → header_fault bytes ≡ None
 none_of bytes None long e whole = e

@@ -15,7 +15,6 @@ use Rattle.tb_records.specs.private.ReplyHeaders.{IsReplyHeader, IsReplyBody}
 use Rattle.tb_records.specs.ReplyTests.{answer_of}
 use Rattle.tb_records.specs.declared.limits.TheConstants.{ITEMS_MAX}
 use Rattle.tb_records.proofs.NumberBytes.{le_at-fits}
-use Rattle.tb_records.proofs.ReplyFaults.{cut_reply_header, found_header_fault, cut_reply_body, whole_reply}
 use Rattle.tb_records.proofs.ReplyPlaces.{reply_widths}
 use Rattle.tb_records.proofs.Rows.{row_bytes, row_read}
 use Rattle.tb_records.proofs.ReplyRows.{is_row, row_count}
@@ -96,6 +95,3 @@ found_reply b h body fits of long is =
         right = header_right b h body _ of is (body_behind b h.len long);
       };
     }
-
--- what a reader of one reply returns, step by step
-pub ruleset reply_read = (cut_reply_header, found_header_fault, cut_reply_body, whole_reply, body_behind, header_length, header_right, found_reply)

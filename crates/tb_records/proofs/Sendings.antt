@@ -1,5 +1,5 @@
 -- Bytes that are sent in two parts.
-use Rattle.std.proofs.Common.{◌≡◌, ℕ, ◌+◌, min, List, ◌++◌, length, take, Result, Ok, Err, MatchResult, sym, subst, ◌∙◌, arith}
+use Rattle.std.proofs.Common.{◌≡◌, ℕ, ◌+◌, min, List, ◌++◌, length, take, Result, Ok, Err, MatchResult, OnOk, ◌<◌, ◌^◌, sym, subst, ◌∙◌, arith}
 use Rattle.std.proofs.lemmas.List.{take-append-le}
 use Rattle.std.proofs.lemmas.Grind.{common_steps}
 use Rattle.std.proofs.Math.Seq.{take-append-add, take-append_seam}
@@ -9,9 +9,9 @@ use Rattle.tb_records.specs.declared.bodies.ReplyBody.{ReplyBody}
 use Rattle.tb_records.specs.declared.faults.FrameFault.{FrameFault}
 use Rattle.tb_records.specs.declared.faults.FrameFault.TheVariants.{Device}
 use Rattle.tb_records.specs.declared.bodies.Body.{Body}
-use Rattle.tb_records.specs.Frames.{header_bytes, body_bytes, request_bytes}
-use Rattle.tb_records.specs.Messages.{Message, Answer, operation}
-use Rattle.tb_records.specs.ReplyFrames.{reply_body_bytes, reply_bytes}
+use Rattle.tb_records.specs.Frames.{header_bytes, body_bytes, request_bytes, BodyFits, IsRequest}
+use Rattle.tb_records.specs.Messages.{Message, Answer, operation, IsLawful, IsRight}
+use Rattle.tb_records.specs.ReplyFrames.{reply_body_bytes, reply_bytes, ReplyBodyFits, IsReply}
 use Rattle.tb_records.specs.Transport.{Output, Sent, CutOff}
 use Rattle.tb_records.specs.private.Headers.{header_of_reply}
 use Rattle.tb_records.proofs.Pieces.{refuses_since}
@@ -61,7 +61,26 @@ pub request_frame : (r : Message) (header : List ℕ) (len : ℕ) (body : Body) 
     → header ++ body_bytes body ≡ request_bytes r
 request_frame r header len body eh el eb = cc
 
--- what is sent of a frame, in its two parts
-pub ruleset request_sent = (sent_rest, sent_few, request_frame)
+-- the numbers of a frame that was sent fit their fields
+pub reply_fits : (r : Answer) (body : ReplyBody) (result : Result (Unit {0}) FrameFault) → body ≡ r.body → (r.client < 2 ^ 128) × (r.session < 2 ^ 64) × (r.request < 2 ^ 32) × (r.commit < 2 ^ 64)
+    → IsRight r → OnOk result (ReplyBodyFits body) → OnOk result (IsReply r)
+reply_fits r body (Ok x) e fits right all = record {
+  client = fits.0;
+  session = fits.1;
+  request = fits.2;
+  commit = fits.3;
+  body = subst ReplyBodyFits e all;
+  right = right;
+}
+reply_fits r body (Err fault) e fits right all = tt
 
-pub ruleset reply_sent = (sent_rest, sent_few, reply_frame)
+pub request_fits : (r : Message) (body : Body) (result : Result (Unit {0}) FrameFault) → body ≡ r.body → (r.client < 2 ^ 128) × (r.session < 2 ^ 64) × (r.request < 2 ^ 32)
+    → IsLawful r → OnOk result (BodyFits body) → OnOk result (IsRequest r)
+request_fits r body (Ok x) e fits lawful all = record {
+  client = fits.0;
+  session = fits.1;
+  request = fits.2;
+  items = subst BodyFits e all;
+  lawful = lawful;
+}
+request_fits r body (Err fault) e fits lawful all = tt

@@ -10,7 +10,7 @@ use Rattle.tb_records.specs.Messages.{Message, operation}
 use Rattle.tb_records.specs.Frames.{header_bytes, body_bytes, request_fault, header_fault, Spells}
 use Rattle.tb_records.specs.private.HeaderFields.{HeaderOf, HeaderSpelled, ReadsRequest, body_length}
 use Rattle.tb_records.specs.Inputs.{Found}
-use Rattle.tb_records.proofs.FrameFaults.{is_of_header, cut_header, header_first, cut_body, whole_frame}
+use Rattle.tb_records.proofs.FrameFaults.{is_of_header, header_first, cut_body, whole_frame}
 use Rattle.tb_records.proofs.StreamAnswers.{header_of_request, read_length, length_of}
 
 -- the header has a fault
@@ -64,6 +64,3 @@ pub part_long : (bytes : List ℕ) (h : Header) → HeaderOf bytes h → h.lengt
 part_long bytes h of whole =
     let slice : length (between 48 (48 + h.length) bytes) ≡ h.length = simp (length-take, length-drop) (omega arith) in
     slice ∙ of.length ∙ sym (length_of bytes h of)
-
--- if no request is read
-pub ruleset slice_faults = (cut_header, bad_slice, cut_slice, whole_slice)

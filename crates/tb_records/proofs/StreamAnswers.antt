@@ -7,11 +7,11 @@ use Rattle.tb_records.specs.declared.faults.FrameFault.{FrameFault}
 use Rattle.tb_records.specs.declared.faults.FrameFault.TheVariants.{Short, Device, NoMemory}
 use Rattle.tb_records.specs.declared.headers.Header.{Header}
 use Rattle.tb_records.specs.Messages.{Message, operation, item_count}
-use Rattle.tb_records.specs.Frames.{header_bytes, body_bytes, request_fault, header_fault, operation_at, length_at, header_tests, item_size}
+use Rattle.tb_records.specs.Frames.{header_bytes, body_bytes, request_bytes, request_fault, header_fault, operation_at, length_at, header_tests, item_size}
 use Rattle.tb_records.specs.private.HeaderFields.{HeaderOf, HeaderSpelled, ReadsHeader, ReadsRequest, body_length}
 use Rattle.tb_records.specs.Inputs.{Faulted, TimedFaulted, Answers, TimedAnswers}
-use Rattle.tb_records.specs.Transport.{Input, FaultCounts}
-use Rattle.tb_records.specs.private.Reading.{Filled, BodyFault, ReadsMoment}
+use Rattle.tb_records.specs.Transport.{Input, FaultCounts, risen}
+use Rattle.tb_records.specs.private.Reading.{Filled, Lost, BodyFault, ReadsMoment}
 use Rattle.tb_records.specs.Numbers.{le_bytes}
 use Rattle.tb_records.specs.RecordBytes.{account_bytes, transfer_bytes}
 use Rattle.tb_records.proofs.Sizes.{length-le_bytes, length-account, length-transfer, length-id}
@@ -131,6 +131,12 @@ short_moment buf n old new some h long f =
     let end = f.end (omega arith) in
     grind (arith, cut_header, length-append, length-take, length-drop)
 
+-- the reader failed within the moment
+pub lost_moment : (fault : FrameFault) (old new : Option (List ℕ)) → fault ≡ Device → Lost 8 old new → TimedAnswers (Err fault) old new
+lost_moment fault None new is lost = tt
+lost_moment fault (Some old) None is lost = absurd lost.bytes
+lost_moment fault (Some old) (Some new) is lost = subst (λ f. TimedFaulted f old new) (sym is) (lost.front, omega (arith, lost.short), lost.bytes)
+
 -- there is no frame after the moment
 pub no_frame : (moment : ℕ) (old mid new : Option (List ℕ)) → ReadsMoment moment old mid → Answers (Ok None) mid new → TimedAnswers (Err Short) old new
 no_frame moment old mid new read rest = grind (arith, cut_header, length-append, length-drop, length-le_bytes)
@@ -158,5 +164,21 @@ bad_frame fault moment (Some old) (Some mid) (Some new) read rest =
     )
     later fault moment old mid new left behind rest = subst (λ l. Faulted fault l new) (sym behind) rest
 
--- if a header is cut or has a fault
-pub ruleset header_read = (short_header, header_counts, is_of_header)
+-- a moment and a request were read
+pub whole_pair : (moment : ℕ) (r : Message) (old mid new : Option (List ℕ)) → ReadsMoment moment old mid → Answers (Ok (Some r)) mid new → TimedAnswers (Ok (Some (moment, r))) old new
+whole_pair moment r None mid new read rest = tt
+whole_pair moment r (Some old) None new read rest = absurd read.bytes
+whole_pair moment r (Some old) (Some mid) None read rest = absurd rest
+whole_pair moment r (Some old) (Some mid) (Some new) read rest =
+    (read.bytes ∙ ap (λ l. le_bytes 8 moment ++ l) rest.0 ∙ sym (append_assoc (le_bytes 8 moment) (request_bytes r) new), read.fits, rest.1)
+
+-- the reader failed within the header
+pub lost_header : (fault : FrameFault) (old new : Option (List ℕ)) → fault ≡ Device → Lost 48 old new → Answers (Err fault) old new
+lost_header fault None new is lost = tt
+lost_header fault (Some old) None is lost = absurd lost.bytes
+lost_header fault (Some old) (Some new) is lost = subst (λ f. Faulted f old new) (sym is) (lost.front, omega (arith, lost.short), lost.bytes)
+
+-- the errors of two reads, of which the first had none
+pub counts_since : (fault : FrameFault) (old mid new : Input) → mid.failed ≡ old.failed → FaultCounts fault mid new → FaultCounts fault old new
+counts_since Device old mid new same counts = record { rose = counts.rose ∙ ap risen same; last = counts.last }
+counts_since fault old mid new same counts = counts ∙ same

@@ -335,6 +335,26 @@ fn in_small_block<T: Item>() -> usize
     if T::SIZE <= 16 { 8 } else { 1 }
 }
 
+/// Reads items to an empty list through a block, of 1,024 bytes if a small one is too short for them.
+fn fill_through_block<S: Source, T: Item>(
+    source: &mut S,
+    items: &mut Vec<T>,
+    count: usize,
+) -> Result<(), FrameFault>
+    requires empty { items.old.items ≡ [] }
+    requires capacity { count ≤ vec_capacity items.old }
+    ensures bytes { ReadsOr result (λ _. ReadsItems T.spelling T.Fits count items.new.items) (count * T.SIZE)
+        (S.input source.old) (S.input source.new) }
+    ensures counted { Counts result (S.input source.old) (S.input source.new) }
+{
+    let few = in_small_block::<T>();
+    if count <= few {
+        fill_items(source, &mut [0; 128], few, items, count)
+    } else {
+        fill_items(source, &mut [0; 1024], 8 * few, items, count)
+    }
+}
+
 /// Reads a list of items through a block, of 1,024 bytes if a small one is too short for them. The memory for them is allocated before the first byte
 /// is read, and no byte after them is read.
 pub(crate) fn items_from<S: Source, T: Item>(
@@ -347,12 +367,7 @@ pub(crate) fn items_from<S: Source, T: Item>(
     ensures counted { Counts result (S.input source.old) (S.input source.new) }
 {
     let mut items = Vec::with_capacity(alloc, count)?;
-    let few = in_small_block::<T>();
-    if count <= few {
-        fill_items(source, &mut [0; 128], few, &mut items, count)?;
-    } else {
-        fill_items(source, &mut [0; 1024], 8 * few, &mut items, count)?;
-    }
+    fill_through_block(source, &mut items, count)?;
     Ok(Items::new(items))
 }
 

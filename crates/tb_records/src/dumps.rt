@@ -160,7 +160,6 @@ fn head_in(bytes: &[u8]) -> Option<DumpHead>
 }
 
 /// Reads the head of a dump, 16 bytes. Returns `Head` if they are not a head.
-#[tactic(auto, using(crate::proofs::DumpAnswers::cut_head, crate::proofs::DumpAnswers::other_head))]
 pub fn read_head_from<S: Source>(source: &mut S) -> Result<DumpHead, DumpFault>
     ensures answer { HeadAnswers result (S.input source.old).left (S.input source.new).left }
     ensures counted { HeadCounts result (S.input source.old) (S.input source.new) }
@@ -177,7 +176,6 @@ pub fn read_head_from<S: Source>(source: &mut S) -> Result<DumpHead, DumpFault>
 }
 
 /// Reads two numbers of 8 bytes. Returns `None` if the input ends before the first byte, and `Short` if it ends within them.
-#[tactic(auto, using(crate::proofs::DumpAnswers::two_numbers))]
 fn numbers_from<S: Source>(source: &mut S) -> Result<Option<(u64, u64)>, FrameFault>
     ensures answer { NumbersAnswers result (S.input source.old).left (S.input source.new).left }
     ensures counted { Counts result (S.input source.old) (S.input source.new) }
@@ -194,7 +192,6 @@ fn numbers_from<S: Source>(source: &mut S) -> Result<Option<(u64, u64)>, FrameFa
 /// Reads what comes next after the head of a dump: a mark or an entry. Returns `None` if the input ends before the first byte, and `Mark` if the
 /// bytes are eight zeros and another number than 2. Returns `Short` if the input ends in the 16 bytes of either, in the frame of an entry, or before
 /// it.
-#[tactic(auto, using(crate::proofs::DumpAnswers::no_frame, crate::proofs::DumpAnswers::bad_frame))]
 pub fn read_item_from<S: Source>(
     alloc: Global,
     source: &mut S,
@@ -267,7 +264,6 @@ pub fn send_mark<W: Sink>(sink: &mut W) -> Result<(), FrameFault>
 }
 
 /// Writes an entry, in the way of [`send_head`].
-#[tactic(auto, using(crate::proofs::Sendings::sent_rest, crate::proofs::Sendings::sent_few))]
 pub fn send_entry<W: Sink>(
     sink: &mut W,
     commit: u64,

@@ -60,7 +60,6 @@ fn request_in(alloc: Global, bytes: &[u8], header: &Header) -> Result<Request, F
 }
 
 #[inline(always)]
-#[tactic(auto, using(crate::proofs::SliceAnswers::slice_faults, crate::proofs::SliceAnswers::part_long))]
 pub(crate) fn read(alloc: Global, bytes: &[u8]) -> Result<(Request, usize), FrameFault>
     ensures { Found result bytes.now }
 {

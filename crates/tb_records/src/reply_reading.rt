@@ -139,7 +139,6 @@ fn body_in(alloc: Global, operation: u8, status: u8, bytes: &[u8]) -> Result<Rep
 }
 
 /// The reply at the beginning of the bytes, and the length of its frame; or the first of its faults.
-#[tactic(auto, using(crate::proofs::ReplyHeaderBytes::reply_read))]
 fn read(alloc: Global, bytes: &[u8]) -> Result<(Reply, usize), FrameFault>
     ensures { FoundReply result bytes.now }
 {

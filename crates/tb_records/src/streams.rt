@@ -144,7 +144,6 @@ fn request_behind<S: Source>(
 }
 
 /// Reads a header and checks it. Returns `None` if the input ends before the first byte.
-#[tactic(auto, using(crate::proofs::StreamAnswers::header_read))]
 fn header_from<S: Source>(source: &mut S) -> Result<Option<Header>, FrameFault>
     ensures answer { HeaderAnswers result (S.input source.old).left (S.input source.new).left }
     ensures counted { Counts result (S.input source.old) (S.input source.new) }
@@ -160,7 +159,6 @@ fn header_from<S: Source>(source: &mut S) -> Result<Option<Header>, FrameFault>
 }
 
 /// Reads one request. Returns `None` if the input ends before the first byte.
-#[tactic(auto, using(crate::proofs::StreamAnswers::whole_request, crate::proofs::StreamAnswers::faulty_body))]
 pub(crate) fn request_from<S: Source>(
     alloc: Global,
     source: &mut S,
@@ -180,7 +178,6 @@ pub(crate) fn request_from<S: Source>(
 ///
 /// It is compiled into its callers, so that a request is not copied on its way out.
 #[inline(always)]
-#[tactic(auto, using(crate::proofs::PairAtHand::pair_read, crate::proofs::PairAtHand::pair_refused))]
 pub fn read_timed_from<R: Source>(
     alloc: Global,
     source: &mut R,
@@ -205,7 +202,6 @@ pub fn read_timed_from<R: Source>(
 /// The moment and the request that bytes begin with, and the number of their bytes; `None` if there is no whole pair, or if the request's header has
 /// a fault.
 #[inline(always)]
-#[tactic(auto, using(crate::proofs::PairAtHand::pair_found))]
 fn pair_in(alloc: Global, bytes: &[u8]) -> Result<Option<(u64, Request, usize)>, AllocError>
     ensures { PairAnswers result bytes.now }
 {
@@ -221,7 +217,6 @@ fn pair_in(alloc: Global, bytes: &[u8]) -> Result<Option<(u64, Request, usize)>,
 
 /// As `read_timed_from`, by a read for each part of the pair. It is a function of its own, so that the caller's frame stays small.
 #[inline(never)]
-#[tactic(auto, using(crate::proofs::StreamAnswers::no_frame, crate::proofs::StreamAnswers::bad_frame))]
 fn timed_by_parts<S: Source>(
     alloc: Global,
     source: &mut S,
@@ -240,7 +235,6 @@ fn timed_by_parts<S: Source>(
 }
 
 /// Reads a moment. Returns `None` if the input ends before the first byte.
-#[tactic(auto, using(crate::proofs::StreamAnswers::short_moment))]
 fn moment_from<S: Source>(source: &mut S) -> Result<Option<u64>, FrameFault>
     ensures answer { MomentAnswers result (S.input source.old).left (S.input source.new).left }
     ensures counted { Counts result (S.input source.old) (S.input source.new) }

@@ -211,7 +211,6 @@ fn send_request_body<W: Sink>(sink: &mut W, body: &Body) -> Result<(), FrameFaul
 
 /// Writes a request's frame to a sink. Returns `Device` if the sink returns an error, or takes nothing of what is left: then a prefix of the frame
 /// was written. That the request's numbers fit, so that the frame is read as no other, is stated of what was written.
-#[tactic(auto, using(crate::proofs::Sendings::request_sent))]
 pub fn send_request<W: Sink>(sink: &mut W, request: &Request) -> Result<(), FrameFault>
     ensures sent { IsSent result (request_bytes request.now) (W.output sink.old) (W.output sink.new) }
     ensures fits { OnOk result (IsRequest request.now) }
@@ -238,7 +237,6 @@ fn send_body<W: Sink>(sink: &mut W, body: &ReplyBody) -> Result<(), FrameFault>
 
 /// Writes a reply's frame to a sink. Returns `Device` if the sink returns an error, or takes nothing of what is left: then a prefix of the frame was
 /// written, and nothing more is offered. That the reply's numbers fit, so that the frame is read as no other, is stated of what was written.
-#[tactic(auto, using(crate::proofs::Sendings::reply_sent))]
 pub fn send_reply<W: Sink>(sink: &mut W, reply: &Reply) -> Result<(), FrameFault>
     ensures sent { IsSent result (reply_bytes reply.now) (W.output sink.old) (W.output sink.new) }
     ensures fits { OnOk result (IsReply reply.now) }

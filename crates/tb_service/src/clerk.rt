@@ -13,7 +13,6 @@ use tb_records::Request;
 const REQUESTS_MAX: usize = 8;
 
 /// A request has its turn at a moment: it is entered if it is new. Returns the fault that leaves it out, if there is one.
-#[tactic(auto, using(crate::proofs::Turns::has_turn))]
 fn enter<J: Naming>(publisher: &mut Publisher<J>, request: Request, now: u64) -> Option<TakeFault>
     ensures { HasTurn J.opening publisher.old.history (turn_of now request result) publisher.new.history }
 {

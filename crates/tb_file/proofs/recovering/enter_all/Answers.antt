@@ -1,9 +1,17 @@
-use Rattle.std.proofs.Common.{◌++◌, List, ℕ, sym, subst}
-use Rattle.tb_file_journal.specs.Scans.{HasRead}
+use Rattle.std.proofs.Common.{arith, ◌++◌, List, [], ℕ, refl, sym, subst, append-nil}
+use Rattle.tb_file_journal.specs.Scans.{ScanState, HasRead}
 use Rattle.tb_file_journal.proofs.Causes.{none_since}
+use Rattle.tb_machine.specs.Histories.{State}
 use Rattle.tb_file.proofs.Causes.{has_start_then}
-use Rattle.tb_file.proofs.Entered.{stays_then, entered_more, entered_all, entered_not}
+use Rattle.tb_file.proofs.Entered.{Entered, stays_none, stays_then, entered_more, entered_all, entered_not}
 use Rattle.tb_file.proofs.recovering.enter_all.Goals as goal
+
+entered_none : (read : List (List ℕ)) (file : List ℕ) (scan : ScanState) (S : State) → HasRead read file scan → Entered read file scan S S
+entered_none read file scan S has = (
+  [],
+  subst (λ (r : List (List ℕ)). HasRead r file scan) (sym (append-nil read)) has,
+  record { entries = []; legal = tt; state = refl; recorded_are = tt; spelled = refl },
+)
 
 pub loop-fault-preserved : goal.loop-fault-preserved
 loop-fault-preserved g c = record {
@@ -53,3 +61,30 @@ returns-in-Err-clause-cause g c t read has =
       ok = tt;
       cause = (has_start_then old now (g.D.Device.disk c.enter_next.new.device) (c.loop-fault.invariant.none t read has) (c.loop-fault.invariant.stays t).untouched.seen _ (c.in-Err.ensures.cause t (read ++ records) here)).cause;
     }
+
+pub loop-fault-init : goal.loop-fault-init
+loop-fault-init g c = record {
+  same = λ file holds. holds;
+  stays = λ t. stays_none (g.D.Device.disk c.args.device.now) (g.met.D.Device.only_now c.args.device.now);
+  none = λ t read has fault. refl;
+  entered = λ file read holds has. entered_none read file c.args.scan.now c.args.machine.now has;
+}
+
+pub loop-fault-smaller : goal.loop-fault-smaller
+loop-fault-smaller g c = omega (arith, c.in-Ok-true.ensures.further c.in-Ok-true.field-0-test)
+
+pub returns-in-Ok-false-clause-same : goal.returns-in-Ok-false-clause-same
+returns-in-Ok-false-clause-same g c file holds = c.in-Ok-false.ensures.same file (c.loop-fault.invariant.same file holds)
+
+pub returns-in-Ok-false-clause-stays : goal.returns-in-Ok-false-clause-stays
+returns-in-Ok-false-clause-stays g c t =
+    stays_then (g.D.Device.disk c.args.device.now) (g.D.Device.disk c.loop-fault.device) (g.D.Device.disk c.enter_next.new.device) (g.met.D.Device.counts_now c.loop-fault.device)
+    (c.loop-fault.invariant.stays t) (c.enter_next.ensures.stays t)
+
+pub returns-in-Err-clause-same : goal.returns-in-Err-clause-same
+returns-in-Err-clause-same g c file holds = c.in-Err.ensures.same file (c.loop-fault.invariant.same file holds)
+
+pub returns-in-Err-clause-stays : goal.returns-in-Err-clause-stays
+returns-in-Err-clause-stays g c t =
+    stays_then (g.D.Device.disk c.args.device.now) (g.D.Device.disk c.loop-fault.device) (g.D.Device.disk c.enter_next.new.device) (g.met.D.Device.counts_now c.loop-fault.device)
+    (c.loop-fault.invariant.stays t) (c.enter_next.ensures.stays t)

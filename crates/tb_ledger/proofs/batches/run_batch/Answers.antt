@@ -37,6 +37,27 @@ loop-rest-preserved g c =
       results_capacity = r.leaves.results_capacity ∙ v.results_capacity;
     }
 
+pub run_chain-requires-clause-index_fits : goal.run_chain-requires-clause-index_fits
+run_chain-requires-clause-index_fits g c = omega (arith, c.requires.index_fits, c.loop-rest.invariant.left, c.split_at.ensures.front_len, c.split_at.ensures.back_len)
+
+pub overflow_cast-index : goal.overflow_cast-index
+overflow_cast-index g c = omega (arith, c.requires.index_fits, c.loop-rest.invariant.left, c.split_at.ensures.front_len, c.split_at.ensures.back_len)
+
+pub overflow_add-index : goal.overflow_add-index
+overflow_add-index g c = omega (arith, c.requires.index_fits, c.loop-rest.invariant.left, c.split_at.ensures.front_len, c.split_at.ensures.back_len)
+
+pub overflow_add-stamp : goal.overflow_add-stamp
+overflow_add-stamp g c =
+    let v = c.loop-rest.invariant in
+    omega (arith, c.requires.ready.in_range, v.left, v.stamp, c.split_at.ensures.front_len, c.split_at.ensures.back_len)
+
+pub loop-rest-smaller : goal.loop-rest-smaller
+loop-rest-smaller g c =
+    let rest = c.loop-rest.rest.now in
+    let empty = c.loop-rest-test.ensures in
+    let some : 0 < length rest = grind (arith, nat_tests) in
+    omega (arith, c.split_at.ensures.front_len, c.split_at.ensures.back_len, c.chain_length.ensures.some some)
+
 pub run_chain-requires-clause-ready : goal.run_chain-requires-clause-ready
 run_chain-requires-clause-ready g c =
     let v = c.loop-rest.invariant in

@@ -1,4 +1,5 @@
-use Rattle.std.proofs.Common.{refl, sym, arith}
+use Rattle.std.proofs.Common.{Some, refl, sym, ap, ◌∙◌, arith}
+use Rattle.avl_tree.proofs.Shape.{entries_search_of}
 use Rattle.avl_tree.proofs.MapInvariants.{low_height, whole_remove, whole_absent}
 use Rattle.avl_tree.proofs.map.AvlMap.remove.Goals as goal
 
@@ -14,3 +15,25 @@ pub invariant_of-self-2 : goal.invariant_of-self-2
 invariant_of-self-2 g c =
     let r = c.in_ok-node.ensures in
     (refl, tt, whole_remove c.self.invariant c.args.key.now c.in_ok-node.node.value.value r.value r.balanced r.entries c.retire-value.ensures.one_less c.retire-value.ensures.one_more)
+
+pub returns-in_err-node-clause-value : goal.returns-in_err-node-clause-value
+returns-in_err-node-clause-value g c =
+    let e = entries_search_of c.self.inside.root in
+    rw (← c.self.view_is, e) (c.from_residual.ensures ∙ c.in_err-node.ensures.value)
+
+pub returns-in_err-node-clause-entries : goal.returns-in_err-node-clause-entries
+returns-in_err-node-clause-entries g c =
+    let e = entries_search_of c.self.inside.root in
+    let n = entries_search_of c.remove.new.tree in
+    rw (← c.self.view_is, e, n) c.in_err-node.ensures.entries
+
+pub returns-clause-value : goal.returns-clause-value
+returns-clause-value g c =
+    let e = entries_search_of c.self.inside.root in
+    rw (← c.self.view_is, e) (ap (λ p. Some p.1) c.retire-value.ensures.pair ∙ c.in_ok-node.ensures.value)
+
+pub returns-clause-entries : goal.returns-clause-entries
+returns-clause-entries g c =
+    let e = entries_search_of c.self.inside.root in
+    let n = entries_search_of c.remove.new.tree in
+    rw (← c.self.view_is, e, n) c.in_ok-node.ensures.entries

@@ -1,10 +1,10 @@
 use Rattle.std.proofs.lemmas.Grind.{common_steps}
-use Rattle.std.proofs.Common.{length, ap, subst, sym, arith}
-use Rattle.tb_file_journal.specs.Device.{LeavesOnly}
+use Rattle.std.proofs.Common.{◌≡◌, ◌++◌, length, ap, subst, sym, arith, Ok, Err}
+use Rattle.tb_file_journal.specs.Device.{HasCause, LeavesOnly}
 use Rattle.tb_file_journal.specs.Contents.{recorded}
 use Rattle.tb_file_journal.specs.Steps.{IsBeforeOrAfter}
 use Rattle.tb_file_journal.specs.Ready.{Kept, IsWritable, IsReady}
-use Rattle.tb_file_journal.proofs.Committing.{fewer, next_writable, settled_of, ready_of}
+use Rattle.tb_file_journal.proofs.Committing.{fewer, left_at_rest, next_writable, settled_of, ready_of}
 use Rattle.tb_file_journal.proofs.journals.Journal.commit.Goals as goal
 
 pub overflow_add-self-in-Ok : goal.overflow_add-self-in-Ok
@@ -38,3 +38,38 @@ returns-in-Err-clause-any_moment g c t old =
     let publishes = c.in-Err.ensures.publishes t c.self.inside.batch c.bytes.ensures.fits c.bytes.ensures.spells (omega (arith, c.count.ensures, c.if-count-eq0.false)) in
     subst (λ (j : Kept g.row.D.Denot). LeavesOnly (g.D.Device.disk j.device) (g.D.Device.disk c.publish.new.device) (IsBeforeOrAfter (recorded (g.D.Device.disk j.device).seen) j.waiting))
     c.self.view_is (publishes.any_moment (settled_of g.D.Device.disk _ ready))
+
+pub publish-requires : goal.publish-requires
+publish-requires g c =
+    let writable = λ (t : g.D.Device.tells). subst (λ (j : Kept g.row.D.Denot). IsWritable g.D.Device.disk j) (sym c.self.view_is) (c.requires.writable t) in
+    record {
+      some = omega (arith, ap length c.bytes.ensures.spells, fewer c.self.inside.batch);
+      short = omega (arith, c.self.invariant.0);
+      whole = λ t. (writable t).whole;
+      ends = λ t. (writable t).ends;
+    }
+
+pub returns-then-count-eq0-clause-any_moment : goal.returns-then-count-eq0-clause-any_moment
+returns-then-count-eq0-clause-any_moment g c t old =
+    left_at_rest (g.D.Device.disk c.args.self.now.device) c.args.self.now.waiting (g.met.D.Device.only_now c.args.self.now.device) old.at_rest
+
+pub returns-in-Ok-clause-acknowledged : goal.returns-in-Ok-clause-acknowledged
+returns-in-Ok-clause-acknowledged g c t =
+    let publishes = c.in-Ok.ensures.publishes t c.self.inside.batch c.bytes.ensures.fits c.bytes.ensures.spells (omega (arith, c.count.ensures, c.if-count-eq0.false)) in
+    subst (λ (j : Kept g.row.D.Denot). recorded (g.D.Device.disk c.publish.new.device).seen ≡ recorded (g.D.Device.disk j.device).seen ++ j.waiting) c.self.view_is publishes.ok.1
+
+pub returns-in-Ok-clause-idle : goal.returns-in-Ok-clause-idle
+returns-in-Ok-clause-idle g c none = absurd (omega (arith, c.if-count-eq0.false, c.count.ensures, ap (λ (j : Kept g.row.D.Denot). length j.waiting) c.self.view_is, ap length none))
+
+pub returns-in-Err-clause-idle : goal.returns-in-Err-clause-idle
+returns-in-Err-clause-idle g c none = absurd (omega (arith, c.if-count-eq0.false, c.count.ensures, ap (λ (j : Kept g.row.D.Denot). length j.waiting) c.self.view_is, ap length none))
+
+pub returns-in-Ok-clause-cause : goal.returns-in-Ok-clause-cause
+returns-in-Ok-clause-cause g c t =
+    let publishes = c.in-Ok.ensures.publishes t c.self.inside.batch c.bytes.ensures.fits c.bytes.ensures.spells (omega (arith, c.count.ensures, c.if-count-eq0.false)) in
+    subst (λ (j : Kept g.row.D.Denot). HasCause {T = Unit {0}} (Ok tt) (g.D.Device.disk j.device) (g.D.Device.disk c.publish.new.device)) c.self.view_is publishes.cause
+
+pub returns-in-Err-clause-cause : goal.returns-in-Err-clause-cause
+returns-in-Err-clause-cause g c t =
+    let publishes = c.in-Err.ensures.publishes t c.self.inside.batch c.bytes.ensures.fits c.bytes.ensures.spells (omega (arith, c.count.ensures, c.if-count-eq0.false)) in
+    subst (λ (j : Kept g.row.D.Denot). HasCause {T = Unit {0}} (Err c.in-Err.fault) (g.D.Device.disk j.device) (g.D.Device.disk c.publish.new.device)) c.self.view_is publishes.cause

@@ -31,3 +31,15 @@ pub returns-clause-writes : goal.returns-clause-writes
 returns-clause-writes g c t =
     let so_far = c.loop-count.invariant.1 t in
     write_all c.args.at c.loop-count.count c.args.bytes.now (g.S.System.disk c.args.self.now.system) (g.S.System.disk c.loop-count.self.system) (c.requires t) c.loop-count.invariant.0 so_far (omega arith)
+
+pub write_some-requires-clause-within : goal.write_some-requires-clause-within
+write_some-requires-clause-within g c t =
+    let count = c.loop-count.count in
+    let bytes = c.args.bytes.now in
+    let within = goes_on_within c.args.at count bytes (g.S.System.disk c.args.self.now.system) (g.S.System.disk c.loop-count.self.system) (c.requires t) c.loop-count.invariant.0 (c.loop-count.invariant.1 t) in
+    let short = g.met.S.System.fits c.loop-count.self.system t in
+    let here = c.offset_of.ensures (omega (arith, within, short)) in
+    omega (arith, within, here)
+
+pub loop-count-smaller : goal.loop-count-smaller
+loop-count-smaller g c = omega (arith, c.in-Ok.ensures.some)

@@ -1,5 +1,6 @@
 use Rattle.tb_ledger.proofs.Common.{◌≡◌, ◌==◌, find, refl, sym, ap, ◌∙◌, arith, put, replaced, transfer_result_code, closing_debit, closing_credit, account_row_at, on_debits, on_credits, released_and_gained, accounts_released_and_gained, settled, listed, IsIndex, transfer_row_key, new_transfer_row, chained, IsMarked}
 use Rattle.tb_ledger.proofs.Capacities.{listed_spare, unlisted_spare}
+use Rattle.tb_ledger.proofs.NotedPairs.{two_left}
 use Rattle.tb_ledger.proofs.Passing.{noted_two}
 use Rattle.tb_ledger.proofs.Refusals.{decides_none, left_alone}
 use Rattle.tb_ledger.proofs.UndoLogs.{grows_both, leads_both}
@@ -27,6 +28,17 @@ close_row-requires-clause-found g c = by_key c.args.work.now.rows c.requires.rea
 
 pub close_row-requires-clause-is_listed : goal.close_row-requires-clause-is_listed
 close_row-requires-clause-is_listed g c = listed_before c.args.work.now.rows c.requires.ready.kept c.args.p.now c.args.r.now c.requires.resolution
+
+pub close_row-requires-clause-log : goal.close_row-requires-clause-log
+close_row-requires-clause-log g c =
+    let at = c.in_ok-settle_accounts.ensures.settled in
+    omega (arith, two_left at.debit at.credit c.args.work.now.undo_log c.settle_accounts.new.undo_log c.requires.ready.log at.leaves.1)
+
+pub add_row-requires-clause-log : goal.add_row-requires-clause-log
+add_row-requires-clause-log g c =
+    let at = c.in_ok-settle_accounts.ensures.settled in
+    let marked = c.close_row.ensures.marked in
+    omega (arith, two_left at.debit at.credit c.args.work.now.undo_log c.settle_accounts.new.undo_log c.requires.ready.log at.leaves.1, marked.length, marked.capacity)
 
 pub add_row-requires-clause-capacity : goal.add_row-requires-clause-capacity
 add_row-requires-clause-capacity g c = omega (arith, c.requires.ready.capacity.transfers, ap (λ v. v.spare) c.close_row.ensures.transfers)

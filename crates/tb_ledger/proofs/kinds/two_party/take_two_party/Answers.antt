@@ -2,6 +2,7 @@ use Rattle.tb_ledger.proofs.Common.{◌≡◌, refl, sym, ap, ◌∙◌, arith, 
 use Rattle.tb_ledger.proofs.Accepted.{accounts_apart}
 use Rattle.tb_ledger.proofs.Capacities.{listed_spare}
 use Rattle.tb_ledger.proofs.Index.{index_added}
+use Rattle.tb_ledger.proofs.NotedPairs.{two_left}
 use Rattle.tb_ledger.proofs.Passing.{noted_two}
 use Rattle.tb_ledger.proofs.Refusals.{decides_none, left_alone}
 use Rattle.tb_ledger.proofs.UndoLogs.{grows_both, leads_both}
@@ -75,3 +76,8 @@ returns-in_err-amount g c =
 
 pub add_row-requires-clause-capacity : goal.add_row-requires-clause-capacity
 add_row-requires-clause-capacity g c = omega (arith, c.requires.ready.capacity.transfers)
+
+pub add_row-requires-clause-log : goal.add_row-requires-clause-log
+add_row-requires-clause-log g c =
+    let ex = c.in_ok-amount.ensures.exchanged.1 in
+    omega (arith, two_left ex.debit ex.credit c.args.work.now.undo_log c.exchange.new.undo_log c.requires.ready.log ex.notes)

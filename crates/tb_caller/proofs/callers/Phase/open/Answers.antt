@@ -1,0 +1,5 @@
+use Rattle.std.proofs.Common.{rules}
+use Rattle.tb_caller.proofs.callers.Phase.open.Goals as goal
+
+pub returns-in-Open : goal.returns-in-Open
+returns-in-Open c = search rules
