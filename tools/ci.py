@@ -12,7 +12,6 @@ provers that run and at what they have used, so what a prover uses in its last h
 counted.
 """
 import os
-import re
 import subprocess
 import time
 
@@ -43,7 +42,7 @@ def pass_of(pid, words):
     if not words[0].endswith("/rattle") or "--crate-name" not in words:
         return None
     crate = words[words.index("--crate-name") + 1]
-    if re.search(r"/rt-edit-\d+-", os.readlink(f"/proc/{pid}/cwd")):
+    if "/rt-edit-" in os.readlink(f"/proc/{pid}/cwd"):
         over = words[words.index("--incremental") + 1] if "--incremental" in words else ""
         return crate, "base" if over.endswith("/seed") else "edits"
     return crate, "tests" if "--test" in words else "proof"
