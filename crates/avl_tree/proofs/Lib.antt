@@ -7,3 +7,4 @@ pub mod Shape
 pub mod Steps
 pub mod TwoInPlace
 pub mod MapInvariants
+pub mod Rotations
