@@ -8,3 +8,4 @@ pub mod Steps
 pub mod TwoInPlace
 pub mod MapInvariants
 pub mod Rotations
+pub mod MapViews

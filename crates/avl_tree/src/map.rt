@@ -207,7 +207,7 @@ impl<K: Ord + Copy, V, A: Allocator + Clone> AvlMap<K, V, A> {
             (λ v. (v ≡ value) × (get K.cmp self.old key ≡ None) × (self.new ≡ self.old)) }
     {
         let mut value = value;
-        if edits::exchange(&mut self.root, &key, &mut value) {
+        if self.exchange(&key, &mut value) {
             Ok(value)
         } else {
             Err(value)
