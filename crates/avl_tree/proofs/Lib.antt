@@ -9,3 +9,4 @@ pub mod TwoInPlace
 pub mod MapInvariants
 pub mod Rotations
 pub mod MapViews
+pub mod LeastEntry

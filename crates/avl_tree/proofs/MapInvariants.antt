@@ -46,6 +46,11 @@ module _ {K V A : Type 0} {cmp : K → K → Ordering} {root : Tree K V A} {len 
       whole_kept (ap keys_of y.written ∙ keys-set_value (is_at (cmp high)) (set_value (is_at (cmp low)) (entries root) y.left) y.other_left ∙ keys-set_value (is_at (cmp low)) (entries root) y.left) x.1.balanced
   whole_changes_two c b low high None f f' root' x = subst (λ t. IsWholeTree cmp t len spare) (sym x.2) w
 
+  pub some_entry : (k : K) (v : V) → Some v ≡ lookup (is_at (cmp k)) (entries root) → 0 < len
+  some_entry k v found =
+      let n = length-remove_entry_found cmp k v (entries root) (sym found) in
+      omega (arith, n, w.counted)
+
   pub whole_insert : IsTotalOrder cmp → (k : K) (v : V) → {root' : Tree K V A} {spare' : ℕ} → lookup (is_at (cmp k)) (entries root) ≡ None → IsAvl root' → entries root' ≡ insert_entry cmp (entries root) k v → spare' + 1 ≡ spare → IsWholeTree cmp root' (len + 1) spare'
   whole_insert o k v {root'} {spare'} absent avl put one_less =
       let n = length-insert_entry cmp k v (entries root) absent in

@@ -17,6 +17,9 @@ use denote.Param.Always.{always_mut, mut_next}
 abbrev pub seen_at : {K V A : Type 0} → Tree K V A → ℕ → Map K V
 seen_at root spare = record { tree = search_of root; spare = spare }
 
+pub spare_seen : {K V A : Type 0} (root : Tree K V A) (spare : ℕ) (m : Map K V) → seen_at root spare ≡ m → spare ≡ m.spare
+spare_seen {K} {V} root spare m is = ap (λ (n : Map K V). n.spare) is
+
 module _ {K V A : Type 0} (cmp : K → K → Ordering) (k : K) (root root' : Tree K V A) (spare : ℕ) (m : Map K V) (is : seen_at root spare ≡ m) where
   seen : entries m ≡ entries_below root
   seen = ap entries (sym is) ∙ entries_search_of root
