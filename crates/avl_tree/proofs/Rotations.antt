@@ -1,5 +1,5 @@
 -- The heights about a node, one of whose sides, t, is two levels higher than the other, s. The root of t has the sides l and r.
-use Rattle.std.proofs.Common.{◌≡◌, ℕ, ◌+◌, ◌<◌, ◌≤◌, max, sym, ap, ◌∙◌, arith}
+use Rattle.std.proofs.Common.{◌≡◌, ℕ, ◌+◌, ◌<◌, ◌≤◌, max, arith}
 use Rattle.std.specs.declared.boxed.Box.{Box}
 use Rattle.avl_tree.specs.Nodes.{stored_height, IsAvl, IsGrown, DifferByAtMost}
 use Rattle.avl_tree.specs.declared.tree.Node.{Node}
