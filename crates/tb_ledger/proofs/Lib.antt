@@ -32,3 +32,4 @@ pub mod FailedLaws
 pub mod Profiles
 pub mod FoundIds
 pub mod AbsentKeys
+pub mod Pushed
