@@ -1,5 +1,5 @@
 -- What is among the rows once a row was lent to a call.
-use Rattle.std.proofs.Common.{◌≡◌, ℕ, Result, Ok, Err, OnOk, OnErr, IfOk, Some, sym, ap, ◌∙◌, subst, ⊎_elim, arith, length}
+use Rattle.std.proofs.Common.{◌≡◌, ℕ, Ok, Err, Some, sym, ap, ◌∙◌, subst, ⊎_elim, arith, length}
 use Rattle.std.proofs.lemmas.Map.Steps.{set_value_same}
 use Rattle.std.specs.Ordering.{nat_cmp}
 use Rattle.std.specs.List.Sorted.{IsStrictlySortedBy}
@@ -12,10 +12,10 @@ use Rattle.tb_records.proofs.ByKey.{found_key}
 use Rattle.tb_records.proofs.Entries.{found-row, rows-replaced}
 use Rattle.tb_sessions.specs.declared.rows.Row.{Row}
 use Rattle.tb_sessions.specs.declared.classes.Class.{Class}
-use Rattle.tb_sessions.specs.declared.classes.Class.TheVariants.{New}
-use Rattle.tb_sessions.specs.Judged.{client_of, class_beside}
+use Rattle.tb_sessions.specs.Judged.{client_of}
 use Rattle.tb_sessions.specs.private.Indexed.{IsIndexed, IsLinked, FindsOldest, kept_row, client_at_commit}
-use Rattle.tb_sessions.specs.Renewal.{Serving, IsNewBeside, IsLater, IsRenewal, CalledBeside, Renews, ServedBy}
+use Rattle.tb_sessions.specs.Renewal.{Serving, IsNewBeside, IsLater, IsRenewal, Renews, ServedBy}
+use Rattle.tb_sessions.specs.private.Serving.{ServedKept}
 use Rattle.tb_sessions.proofs.Index.{index_renewed}
 
 module _ {n : ℕ} {rows : Map ℕ Row} {clients : Map ℕ ℕ} (rows' : Map ℕ Row) (same : entries rows' ≡ entries rows) (spare : rows'.spare ≡ rows.spare) where
@@ -45,7 +45,7 @@ module _ {n : ℕ} {rows : Map ℕ Row} {clients : Map ℕ ℕ} (rows' : Map ℕ
 
 module _ (rows rows' : Map ℕ Row) (k : ℕ) (row left : Row) (found : kept_row rows k ≡ Some row) (is : entries rows' ≡ set_value (is_at (nat_cmp k)) (entries rows) left) where
   -- if the row is left as it was
-  pub entries_kept : left ≡ row → entries rows' ≡ entries rows
+  entries_kept : left ≡ row → entries rows' ≡ entries rows
   entries_kept same = is ∙ ap (λ v. set_value (is_at (nat_cmp k)) (entries rows) v) same ∙ set_value_same (is_at (nat_cmp k)) (entries rows) row found
 
   -- if it is left so, or replaced by a later row of the client
@@ -55,10 +55,10 @@ module _ (rows rows' : Map ℕ Row) (k : ℕ) (row left : Row) (found : kept_row
         let own = found_key client_of k row (values_of (entries rows)) (sym (found-row client_of k (entries rows) i.own) ∙ found) in
         ⊎_elim (λ (same : left ≡ row). ap client_of same ∙ own) (λ (l : IsLater (values_of (entries rows)) row left). l.own ∙ own) renewal
 
-    pub rows_after : values_of (entries rows') ≡ replaced client_of left (values_of (entries rows))
+    rows_after : values_of (entries rows') ≡ replaced client_of left (values_of (entries rows))
     rows_after = ap values_of is ∙ rows-replaced client_of left k (entries rows) own_left i.own
 
-    pub index_after : rows'.spare ≡ rows.spare → IsIndexed n rows' clients
+    index_after : rows'.spare ≡ rows.spare → IsIndexed n rows' clients
     index_after spare = ⊎_elim as_it_was later renewal
       where
         as_it_was : left ≡ row → IsIndexed n rows' clients
@@ -69,23 +69,22 @@ module _ (rows rows' : Map ℕ Row) (k : ℕ) (row left : Row) (found : kept_row
             let of : k ≡ left.client = sym own_left in
             index_renewed i left row (subst (λ q. kept_row rows q ≡ Some row) of found) l.later (subst (λ q. entries rows' ≡ set_value (is_at (nat_cmp q)) (entries rows) left) of is) spare
 
--- what a call leaves that returned Ok
-module _ {F A : Type 0} (c : Serving F A) {f : F} {r : Message} {n : ℕ} {rows : Map ℕ Row} {clients : Map ℕ ℕ} (f' : F) (r' : Message) (rows' : Map ℕ Row) (row left : Row)
-    (found : kept_row rows r.client ≡ Some row) (is : entries rows' ≡ set_value (is_at (nat_cmp r.client)) (entries rows) left)
-    (i : IsIndexed n rows clients) (renews : Renews c f (values_of (entries rows)) r)
-    (answer : A) (o : Result A Class) (ok : o ≡ Ok answer) (beside : OnOk o (class_beside row r ≡ New)) (serves : IfOk o (λ a. CalledBeside c f r row a f' r' left)) where
-  new : IsNewBeside (values_of (entries rows)) r row
-  new = record { here = sym (found-row client_of r.client (entries rows) i.own) ∙ found; new = rw ok at beside }
+module _ {F A : Type 0} (c : Serving F A) {f : F} {r : Message} {rows : Map ℕ Row} (f' : F) (r' : Message) (rows' : Map ℕ Row) where
+  -- what a call leaves that returned Ok
+  module _ {n : ℕ} {clients : Map ℕ ℕ} (answer : A) (kept : ServedKept c rows f r (Ok answer) rows' f' r') (i : IsIndexed n rows clients) (renews : Renews c f (values_of (entries rows)) r) where
+    new : IsNewBeside (values_of (entries rows)) r kept.row
+    new = record { here = sym (found-row client_of r.client (entries rows) i.own) ∙ kept.found; new = kept.beside.new }
 
-  renewal : IsRenewal (values_of (entries rows)) row left
-  renewal = renews row answer f' r' left new (rw ok at serves)
+    renewal : IsRenewal (values_of (entries rows)) kept.row kept.left
+    renewal = renews kept.row answer f' r' kept.left new kept.beside.served
 
-  pub index_served : rows'.spare ≡ rows.spare → IsIndexed n rows' clients
-  index_served spare = index_after rows rows' r.client row left found is i renewal spare
+    pub index_served : rows'.spare ≡ rows.spare → IsIndexed n rows' clients
+    index_served spare = index_after rows rows' r.client kept.row kept.left kept.found kept.written i renewal spare
 
-  pub rows_served : ServedBy c f (values_of (entries rows)) r answer f' r' (values_of (entries rows'))
-  rows_served = record { row = row; left = left; new = new; served = rw ok at serves; put = rows_after rows rows' r.client row left found is i renewal }
+    pub rows_served : ServedBy c f (values_of (entries rows)) r answer f' r' (values_of (entries rows'))
+    rows_served = record { row = kept.row; left = kept.left; new = new; served = kept.beside.served; put = rows_after rows rows' r.client kept.row kept.left kept.found kept.written i renewal }
 
--- what holds of every Err holds of a result that is Err
-pub of_err : {A E P : Type 0} (o : Result A E) (e : E) → o ≡ Err e → OnErr o P → P
-of_err o e is p = rw is at p
+  -- what is left where the class was returned
+  module _ (class : Class) (kept : ServedKept c rows f r (Err class) rows' f' r') where
+    pub entries_left : entries rows' ≡ entries rows
+    entries_left = entries_kept rows rows' r.client kept.row kept.left kept.found kept.written kept.beside.same_row

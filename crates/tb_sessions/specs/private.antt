@@ -1,2 +1,3 @@
 -- what only private contracts use
 pub mod Indexed
+pub mod Serving

@@ -1,11 +1,12 @@
 //! The sessions of the clients: at most one for each client, and at most so many in all.
-ghost use Rattle.std.specs.Prelude.{◌≡◌, ◌≢◌, ◌<◌, ◌≤◌, true, false, if◌then◌else◌, IfOk, IfErr, OnOk, OnErr, MatchOption, Some, None, [], length};
-ghost use Rattle.std.specs.Option.{option_map};
+ghost use Rattle.std.specs.Prelude.{◌≡◌, ◌≢◌, ◌<◌, ◌≤◌, true, false, if◌then◌else◌, IfOk, IfErr, OnOk, OnErr, MatchOption, IfSome, Some, None, [], length};
+ghost use Rattle.std.specs.Option.{option_map, IfNone};
 ghost use Rattle.tb_records.specs.Messages.{is_register};
 ghost use Rattle.tb_records.specs.Ordered.{Each, put, taken_out};
 ghost use Rattle.tb_sessions.specs.Judged.{class_beside, class_of, client_of, row_of, GetsClass};
 ghost use Rattle.tb_sessions.specs.Admission.{admitted, driven_out, leaving, oldest};
 ghost use Rattle.tb_sessions.specs.private.Indexed.{ExchangesSession};
+ghost use Rattle.tb_sessions.specs.private.Serving.{TakesKept, ServedKept, Unserved};
 ghost use Rattle.tb_sessions.specs.Renewal.{MayServe, Renews, CalledBeside, ServedBy, TakesBoth};
 
 use crate::classes::Class;
@@ -70,6 +71,27 @@ fn serve_new<R, F: FnMut(&mut Request, &mut Row) -> R>(
         Class::New => Ok(serve(request, row)),
         class => Err(class),
     }
+}
+
+/// Serves a request by the row of its client, as `serve_new`; `None` if the client has no row.
+#[inline(always)]
+fn serve_by_client<R, F: FnMut(&mut Request, &mut Row) -> R>(
+    rows: &mut AvlMap<u128, Row, Global>,
+    request: &mut Request,
+    serve: &mut F,
+) -> Option<Result<R, Class>>
+    requires callable { TakesKept F.FnMut serve.old rows.old request.old }
+    ensures served { IfSome result
+        (λ answer. ServedKept F.FnMut rows.old serve.old request.old answer rows.new serve.new request.new) }
+    ensures absent { IfNone result
+        (Unserved F.FnMut rows.old serve.old request.old rows.new serve.new request.new) }
+    ensures spare { rows.new.spare ≡ rows.old.spare }
+{
+    let client = request.client();
+    rows.update(
+        &client,
+        &mut |row: &mut Row| { serve_new(row, request, serve) },
+    )
 }
 
 impl Sessions {
@@ -168,12 +190,7 @@ impl Sessions {
         ensures unchanged { OnErr result
             ((self.new ≡ self.old) × (request.new ≡ request.old) × (serve.new ≡ serve.old)) }
     {
-        let client = request.client();
-        let served = self.rows.update(
-            &client,
-            &mut |row: &mut Row| { serve_new(row, request, serve) },
-        );
-        match served {
+        match serve_by_client(&mut self.rows, request, serve) {
             Some(Ok(answer)) => {
                 bring_up(self.clients_max, &self.rows, &mut self.clients);
                 Ok(answer)
