@@ -1,8 +1,11 @@
 //! The steps of a machine: what a request does to the ledger, the body of its reply, and the row that keeps both.
-ghost use Rattle.std.specs.Prelude.{◌≡◌, ◌+◌, ◌≤◌, max, OnOk, OnErr, ◌<◌, MatchResult, IsTrue, None, Some};
+ghost use Rattle.std.specs.Prelude.{◌≡◌, ◌+◌, ◌≤◌, max, length, OnOk, OnErr, ◌<◌, MatchResult, IsTrue, None, Some};
 ghost use Rattle.tb_records.specs.Messages.{count, item_count, operation, IsRight};
 ghost use Rattle.tb_records.specs.ReplyFrames.{reply_bytes, IsReply};
 ghost use Rattle.tb_records.specs.declared.limits.TheConstants.{ITEMS_MAX, LAST_MOMENT};
+ghost use Rattle.tb_records.specs.Ordered.{Each};
+ghost use Rattle.tb_sessions.specs.Admission.{admitted};
+ghost use Rattle.tb_sessions.specs.Judged.{class_of};
 ghost use Rattle.tb_machine.specs.Histories.{executed, session_of, step, fits};
 ghost use Rattle.tb_machine.specs.Judging.{IsDelivered, IfWhole, EntersAndReplies};
 ghost use Rattle.tb_machine.specs.private.Serving.{made_entry, row_in, MayBeExecuted, DeliversReply, ExecutesBody, MakesRow, served_as, ServesPair, IfUnserved, reply_with};
@@ -12,8 +15,10 @@ use crate::machines::Machine;
 use std::alloc::{AllocError, Allocator, Global};
 use std::mem;
 use tb_ledger::Ledger;
-use tb_records::{Body, FrameFault, Items, Reply, ReplyBody, Request, Sink, Status, send_reply};
-use tb_sessions::{Class, Row};
+use tb_records::{
+    Account, Body, FrameFault, Items, Reply, ReplyBody, Request, Sink, Status, Transfer, send_reply,
+};
+use tb_sessions::{Class, Row, Sessions};
 
 /// What happened to the reply of a request that was executed.
 #[derive(Clone, Copy)]
@@ -65,13 +70,14 @@ impl<A: Allocator + Clone> Machine<A> {
             (λ back. (back ≡ entry) × (self.new ≡ self.old)) }
     {
         let commit = entry.commit;
-        let row = match row_for(self.global, &mut self.ledger, entry) {
-            Ok(row) => row,
-            Err(entry) => return Err(entry),
-        };
-        let _left = self.sessions.record(row);
-        self.commit = commit;
-        Ok(())
+        match row_for(self.global, &mut self.ledger, entry) {
+            Ok(row) => {
+                keep_row(&mut self.sessions, row);
+                self.commit = commit;
+                Ok(())
+            }
+            Err(entry) => Err(entry),
+        }
     }
 
     /// Serves a request that comes at a moment, if it is New compared with its client's row: by one search of the sessions it is executed, the row
@@ -123,15 +129,82 @@ impl<A: Allocator + Clone> Machine<A> {
         ensures { EntersAndReplies W.output result self.old self.new entry writer.old writer.new }
     {
         let commit = entry.commit;
-        let row = match row_for(self.global, &mut self.ledger, entry) {
-            Ok(row) => row,
-            Err(entry) => return Err(entry),
-        };
-        let delivery = write_reply(writer, &row.reply);
-        let _left = self.sessions.record(row);
-        self.commit = commit;
-        Ok(delivery)
+        match row_for(self.global, &mut self.ledger, entry) {
+            Ok(row) => {
+                let delivery = write_reply(writer, &row.reply);
+                keep_row(&mut self.sessions, row);
+                self.commit = commit;
+                Ok(delivery)
+            }
+            Err(entry) => Err(entry),
+        }
     }
+}
+
+/// Creates accounts at a time, and returns the body of the reply; if an allocation fails the ledger is unchanged.
+fn create_accounts<A: Allocator + Clone>(
+    global: Global,
+    ledger: &mut Ledger<A>,
+    time: u64,
+    events: &Items<Account>,
+) -> Result<ReplyBody, AllocError>
+    requires few { length events.now ≤ ITEMS_MAX }
+    requires later { ledger.old.time + max (length events.now) 1 ≤ time }
+    requires in_range { time ≤ LAST_MOMENT }
+    ensures { ExecutesBody result ledger.old (Body.CreateAccounts events.now) time ledger.new }
+{
+    let results = ledger.create_accounts(global, time, events.as_slice())?;
+    Ok(ReplyBody::Results(Items::new(results)))
+}
+
+/// Creates transfers at a time, and returns the body of the reply; if an allocation fails the ledger is unchanged.
+fn create_transfers<A: Allocator + Clone>(
+    global: Global,
+    ledger: &mut Ledger<A>,
+    time: u64,
+    events: &Items<Transfer>,
+) -> Result<ReplyBody, AllocError>
+    requires few { length events.now ≤ ITEMS_MAX }
+    requires later { ledger.old.time + max (length events.now) 1 ≤ time }
+    requires in_range { time ≤ LAST_MOMENT }
+    ensures { ExecutesBody result ledger.old (Body.CreateTransfers events.now) time ledger.new }
+{
+    let results = ledger.create_transfers(global, time, events.as_slice())?;
+    Ok(ReplyBody::Results(Items::new(results)))
+}
+
+/// Looks accounts up at a time, and returns the body of the reply; if an allocation fails the ledger is unchanged.
+fn look_accounts_up<A: Allocator + Clone>(
+    global: Global,
+    ledger: &mut Ledger<A>,
+    time: u64,
+    ids: &Items<u128>,
+) -> Result<ReplyBody, AllocError>
+    requires later { ledger.old.time < time }
+    requires in_range { time ≤ LAST_MOMENT }
+    ensures { ExecutesBody result ledger.old (Body.LookupAccounts ids.now) time ledger.new }
+{
+    let mut accounts = Vec::with_capacity(global, ids.len())?;
+    ledger.expire(time);
+    ledger.fill_accounts(ids.as_slice(), &mut accounts);
+    Ok(ReplyBody::Accounts(Items::new(accounts)))
+}
+
+/// Looks transfers up at a time, and returns the body of the reply; if an allocation fails the ledger is unchanged.
+fn look_transfers_up<A: Allocator + Clone>(
+    global: Global,
+    ledger: &mut Ledger<A>,
+    time: u64,
+    ids: &Items<u128>,
+) -> Result<ReplyBody, AllocError>
+    requires later { ledger.old.time < time }
+    requires in_range { time ≤ LAST_MOMENT }
+    ensures { ExecutesBody result ledger.old (Body.LookupTransfers ids.now) time ledger.new }
+{
+    let mut transfers = Vec::with_capacity(global, ids.len())?;
+    ledger.expire(time);
+    ledger.fill_transfers(ids.as_slice(), &mut transfers);
+    Ok(ReplyBody::Transfers(Items::new(transfers)))
 }
 
 /// Executes a body at a time, and returns the body of its reply; if an allocation fails the ledger is unchanged.
@@ -151,26 +224,10 @@ pub(crate) fn execute<A: Allocator + Clone>(
             ledger.expire(time);
             Ok(ReplyBody::Empty)
         }
-        Body::CreateAccounts(events) => {
-            let results = ledger.create_accounts(global, time, events.as_slice())?;
-            Ok(ReplyBody::Results(Items::new(results)))
-        }
-        Body::CreateTransfers(events) => {
-            let results = ledger.create_transfers(global, time, events.as_slice())?;
-            Ok(ReplyBody::Results(Items::new(results)))
-        }
-        Body::LookupAccounts(ids) => {
-            let mut accounts = Vec::with_capacity(global, ids.len())?;
-            ledger.expire(time);
-            ledger.fill_accounts(ids.as_slice(), &mut accounts);
-            Ok(ReplyBody::Accounts(Items::new(accounts)))
-        }
-        Body::LookupTransfers(ids) => {
-            let mut transfers = Vec::with_capacity(global, ids.len())?;
-            ledger.expire(time);
-            ledger.fill_transfers(ids.as_slice(), &mut transfers);
-            Ok(ReplyBody::Transfers(Items::new(transfers)))
-        }
+        Body::CreateAccounts(events) => create_accounts(global, ledger, time, events),
+        Body::CreateTransfers(events) => create_transfers(global, ledger, time, events),
+        Body::LookupAccounts(ids) => look_accounts_up(global, ledger, time, ids),
+        Body::LookupTransfers(ids) => look_transfers_up(global, ledger, time, ids),
     }
 }
 
@@ -233,6 +290,18 @@ pub(crate) fn row_for<A: Allocator + Clone>(
         reply,
         commit,
     })
+}
+
+/// Keeps a row, and frees the one that leaves for it.
+#[inline(always)]
+fn keep_row(sessions: &mut Sessions, row: Row)
+    requires of_client { row.request.client ≡ row.client }
+    requires new { class_of sessions.old.rows row.request ≡ Class.New }
+    requires later { Each (λ (other : Row). other.commit < row.commit) sessions.old.rows }
+    ensures { sessions.new
+        ≡ record sessions.old { rows = admitted sessions.old.clients_max sessions.old.rows row } }
+{
+    drop(sessions.record(row));
 }
 
 /// Writes a reply.

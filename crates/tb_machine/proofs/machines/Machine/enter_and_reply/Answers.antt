@@ -11,20 +11,20 @@ row_for-requires g c =
     let S : State = record { clients_max = c.self.inside.sessions.clients_max; commit = c.self.inside.commit; books = c.self.inside.ledger; rows = c.self.inside.sessions.rows } in
     may_be_executed S c.args.entry c.self.invariant (subst (λ (T : State). IsTrue (fits T c.args.entry)) (sym c.self.view_is) c.requires)
 
-pub record-left-requires-clause-later : goal.record-left-requires-clause-later
-record-left-requires-clause-later g c =
+pub keep_row-requires-clause-later : goal.keep_row-requires-clause-later
+keep_row-requires-clause-later g c =
     let S : State = record { clients_max = c.self.inside.sessions.clients_max; commit = c.self.inside.commit; books = c.self.inside.ledger; rows = c.self.inside.sessions.rows } in
     let row = c.in-Ok.ensures.1 in
     rw row (commits_before S c.args.entry c.self.invariant (subst (λ (T : State). IsTrue (fits T c.args.entry)) (sym c.self.view_is) c.requires))
 
-pub record-left-requires-clause-new : goal.record-left-requires-clause-new
-record-left-requires-clause-new g c =
+pub keep_row-requires-clause-new : goal.keep_row-requires-clause-new
+keep_row-requires-clause-new g c =
     let S : State = record { clients_max = c.self.inside.sessions.clients_max; commit = c.self.inside.commit; books = c.self.inside.ledger; rows = c.self.inside.sessions.rows } in
     let row = c.in-Ok.ensures.1 in
     rw row (may_come S c.args.entry (subst (λ (T : State). IsTrue (fits T c.args.entry)) (sym c.self.view_is) c.requires)).new
 
-pub invariant_of-self-2 : goal.invariant_of-self-2
-invariant_of-self-2 g c =
+pub invariant_of-self : goal.invariant_of-self
+invariant_of-self g c =
     let S : State = record { clients_max = c.self.inside.sessions.clients_max; commit = c.self.inside.commit; books = c.self.inside.ledger; rows = c.self.inside.sessions.rows } in
     let row = c.in-Ok.ensures.1 in
-    sound_step S c.args.entry c.self.invariant (subst (λ (T : State). IsTrue (fits T c.args.entry)) (sym c.self.view_is) c.requires) c.in-Ok.row (ap (λ (r : Row). r.session) row) (ap (λ (r : Row). r.commit) row) _ refl c.in-Ok.ensures.0 (ap (λ (t : Table). t.rows) c.record-left.ensures.table)
+    sound_step S c.args.entry c.self.invariant (subst (λ (T : State). IsTrue (fits T c.args.entry)) (sym c.self.view_is) c.requires) c.in-Ok.row (ap (λ (r : Row). r.session) row) (ap (λ (r : Row). r.commit) row) _ refl c.in-Ok.ensures.0 (ap (λ (t : Table). t.rows) c.keep_row.ensures)
