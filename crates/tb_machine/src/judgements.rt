@@ -48,7 +48,10 @@ impl<A: Allocator + Clone> Machine<A> {
                 time,
                 request,
             }),
-            None => Judged::NoTime,
+            None => {
+                drop(request);
+                Judged::NoTime
+            }
         }
     }
 }
