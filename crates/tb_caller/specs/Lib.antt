@@ -6,3 +6,4 @@ pub mod Calls
 pub mod CallLaws
 pub mod Networks
 pub mod Worked
+pub mod private

@@ -1,5 +1,7 @@
 //! The session of one client.
 ghost use Rattle.std.specs.Prelude.{◌≡◌, MatchOption, Some, None, Ok, Err};
+ghost use Rattle.tb_records.specs.Messages.{is_register};
+ghost use Rattle.tb_caller.specs.private.Calling.{refused_by};
 ghost use Rattle.tb_caller.specs.Clients.{client_with, fresh, open_request, stored_request_fault, field_fault, called, names, heard_by, heard, received, ended_in, IsMade, Makes, WritesCall, WritesAgain, ReadsReply};
 
 use crate::faults::{CallFault, FieldFault};
@@ -75,6 +77,13 @@ fn ended(phase: Phase) -> Phase
     }
 }
 
+/// Says that a body is a register's.
+fn is_register(body: &Body) -> bool
+    ensures { result ≡ is_register body.now }
+{
+    matches!(body, Body::Register)
+}
+
 /// Says that a reply is for a request.
 fn names(request: &Request, reply: &Reply) -> bool
     ensures { result ≡ names request.now reply.now }
@@ -132,7 +141,10 @@ impl Caller {
         };
         match caller.fault() {
             None => Ok(caller),
-            Some(fault) => Err(fault),
+            Some(fault) => {
+                drop(caller);
+                Err(fault)
+            }
         }
     }
 
@@ -205,27 +217,40 @@ impl Caller {
         self.phase.open()
     }
 
+    /// Why a call makes no request in this phase; `register` says that it is a register.
+    fn phase_fault(&self, register: bool) -> Option<CallFault>
+        ensures { result ≡ refused_by self.now.phase self.now.last register }
+    {
+        match &self.phase {
+            Phase::Unregistered => {
+                if register {
+                    None
+                } else {
+                    Some(CallFault::NotRegistered)
+                }
+            }
+            Phase::Open(_) => Some(CallFault::Unanswered),
+            Phase::Idle => {
+                if register {
+                    return Some(CallFault::Registered);
+                }
+                if self.last == u32::MAX {
+                    return Some(CallFault::NoNumber);
+                }
+                None
+            }
+            Phase::Ended(_) => Some(CallFault::Ended),
+        }
+    }
+
     /// The request that a call makes; or why it makes no request.
     fn next_request(&self, body: Body) -> Result<Request, CallFault>
         ensures { IsMade result self.now body }
     {
-        let register = matches!(&body, Body::Register);
-        match &self.phase {
-            Phase::Unregistered => {
-                if !register {
-                    return Err(CallFault::NotRegistered);
-                }
-            }
-            Phase::Open(_) => return Err(CallFault::Unanswered),
-            Phase::Idle => {
-                if register {
-                    return Err(CallFault::Registered);
-                }
-                if self.last == u32::MAX {
-                    return Err(CallFault::NoNumber);
-                }
-            }
-            Phase::Ended(_) => return Err(CallFault::Ended),
+        let register = is_register(&body);
+        if let Some(fault) = self.phase_fault(register) {
+            drop(body);
+            return Err(fault);
         }
         let session = if register { 0 } else { self.session };
         let number = if register { 0 } else { self.last + 1 };
@@ -235,12 +260,27 @@ impl Caller {
         }
     }
 
+    /// Goes on in another phase.
+    fn go_on_in(&mut self, phase: Phase)
+        ensures { self.new ≡ record self.old { phase = phase } }
+    {
+        self.phase = phase;
+    }
+
+    /// The session is over.
+    fn end(&mut self)
+        ensures { self.new ≡ record self.old { phase = ended_in self.old.phase } }
+    {
+        let phase = mem::replace(&mut self.phase, Phase::Idle);
+        self.go_on_in(ended(phase));
+    }
+
     /// A request was made, and waits for its reply.
     fn wait_for(&mut self, request: Request)
         ensures { self.new ≡ called self.old request }
     {
         self.last = request.request();
-        self.phase = Phase::Open(request);
+        self.go_on_in(Phase::Open(request));
     }
 
     /// Makes the next request, a register first; or returns why it can't, and stays as it was.
@@ -257,9 +297,16 @@ impl Caller {
         ensures { WritesCall result self.old self.new body out.old.items out.new.items }
     {
         let request = self.next_request(body)?;
-        write_request(&request, out)?;
-        self.wait_for(request);
-        Ok(())
+        match write_request(&request, out) {
+            Ok(()) => {
+                self.wait_for(request);
+                Ok(())
+            }
+            Err(AllocError) => {
+                drop(request);
+                Err(CallFault::NoMemory)
+            }
+        }
     }
 
     /// Appends the frame of the request that waits, the same bytes each time; false if no request waits. Without memory for
@@ -303,11 +350,9 @@ impl Caller {
                 if reply.operation() == 2 {
                     self.session = reply.session();
                 }
-                self.phase = Phase::Idle;
+                self.go_on_in(Phase::Idle);
             }
-            Heard::Ended => {
-                self.phase = ended(mem::replace(&mut self.phase, Phase::Idle));
-            }
+            Heard::Ended => self.end(),
             Heard::Refused => {}
             Heard::Other => {}
         }

@@ -1,0 +1,2 @@
+-- what only private contracts use
+pub mod Calling
