@@ -1,4 +1,4 @@
-//! The pool in which a server's records are.
+//! The pools in which a server's records are.
 
 /// Calls a function over a pool of memory from an allocator, and frees the pool after it.
 ///
@@ -16,6 +16,20 @@ macro_rules! over_a_pool {
         drop(third);
         drop(second);
         drop(first);
+        served
+    }};
+}
+
+/// Calls a function over the upper of two pools, and frees both after it. A function that does so over two others has its records in a pool as
+/// [`over_a_pool`] makes it.
+#[macro_export]
+macro_rules! over_two_pools {
+    ($alloc:expr, $pool:ident, $call:expr) => {{
+        let lower = bumpalo::Bump::new($alloc);
+        let $pool = bumpalo::Bump::new(&lower);
+        let served = $call;
+        drop($pool);
+        drop(lower);
         served
     }};
 }

@@ -14,7 +14,7 @@ ghost use Rattle.tb_machine.specs.Worked.{GoesOn};
 use crate::executing::{Delivery, Served};
 use crate::judgements::Judged;
 use crate::machines::Machine;
-use crate::over_a_pool;
+use crate::over_two_pools;
 use std::alloc::{AllocError, Allocator, Global};
 use std::fmt;
 use tb_records::streams::read_timed_from;
@@ -265,6 +265,26 @@ fn run_in<A: Allocator + Clone, R: Source, W: Sink>(
     Err(RunFault::TooLong)
 }
 
+/// Serves a script, with the records of the machine in two pools over memory of `alloc`.
+fn run_over<A: Allocator + Clone, R: Source, W: Sink>(
+    global: Global,
+    profile: Profile,
+    clients_max: ClientsMax,
+    reader: &mut R,
+    writer: &mut W,
+    alloc: A,
+) -> Result<u64, RunFault>
+    ensures ran { Ran profile clients_max result (R.input reader.old) (R.input reader.new)
+        (W.output writer.old) (W.output writer.new) }
+    ensures passed { IfOk result (λ _. (W.output writer.new).held ≡ false) }
+{
+    over_two_pools!(
+        alloc,
+        pool,
+        run_in(global, profile, clients_max, reader, writer, &pool)
+    )
+}
+
 /// Serves a script of pairs, a moment and the frame of a request each, until it ends. Returns the number of replies written, none of which is still
 /// held back. If the whole input is such pairs, each new one has a time and nothing fails, the whole input is read, and exactly the replies are
 /// written. On a fault the replies to all earlier pairs are written, and the rest of the script is unread; if the writer failed, a prefix of the next
@@ -282,9 +302,9 @@ pub fn run<R: Source, W: Sink>(
         (W.output writer.old) (W.output writer.new) }
     ensures passed { IfOk result (λ _. (W.output writer.new).held ≡ false) }
 {
-    over_a_pool!(
+    over_two_pools!(
         alloc,
         pool,
-        run_in(alloc, profile, clients_max, reader, writer, &pool)
+        run_over(alloc, profile, clients_max, reader, writer, &pool)
     )
 }
