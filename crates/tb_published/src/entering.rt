@@ -79,8 +79,13 @@ pub(crate) fn enter_into(
         },
         Judged::NoTime => Err(TakeFault::TimeExhausted),
         Judged::Known(Class::Repeat, request) => {
-            Ok(Taken::Repeat(stored_commit(machine, &request)))
+            let commit = stored_commit(machine, &request);
+            drop(request);
+            Ok(Taken::Repeat(commit))
         }
-        Judged::Known(class, _) => Ok(Taken::Refused(status_of(class))),
+        Judged::Known(class, request) => {
+            drop(request);
+            Ok(Taken::Refused(status_of(class)))
+        }
     }
 }
