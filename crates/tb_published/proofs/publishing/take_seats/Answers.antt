@@ -12,7 +12,7 @@ loop-init g c = (
   refl,
   omega (arith, c.in-Ok.ensures.len),
   omega (arith, c.in-Ok.ensures.capacity),
-  subst (λ (seats : List (List Entry)). All IsFresh seats) (sym c.in-Ok.ensures.items) (All-nil IsFresh),
+  subst (λ (seats : List (List Entry)). All IsFresh seats) (sym {A = List (List Entry)} c.in-Ok.ensures.items) (All-nil IsFresh),
 )
 
 pub loop-preserved : goal.loop-preserved
@@ -22,7 +22,7 @@ loop-preserved g c =
       c.seat.ensures.same ∙ so_far.0,
       omega (arith, c.push_reserved.ensures.len, so_far.1),
       omega (arith, c.push_reserved.ensures.capacity, so_far.2),
-      subst (λ (seats : List (List Entry)). All IsFresh seats) (sym c.push_reserved.ensures.items)
+      subst (λ (seats : List (List Entry)). All IsFresh seats) (sym {A = List (List Entry)} c.push_reserved.ensures.items)
           (All-append IsFresh c.loop.seats.items (c.in-Ok-seat.seat ∷ []) so_far.3 (All-cons IsFresh c.in-Ok-seat.seat [] fresh (All-nil IsFresh))),
     )
 
