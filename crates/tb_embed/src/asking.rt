@@ -66,10 +66,14 @@ fn serve_frame(
     ensures { AnswersFrame result machine.old machine.new moment frame.now reply.new }
 {
     match read_request(alloc, frame) {
-        Ok((request, length)) if length == frame.len() => {
-            serve_request(machine, moment, request, reply)
+        Ok((request, length)) => {
+            if length == frame.len() {
+                serve_request(machine, moment, request, reply)
+            } else {
+                drop(request);
+                Outcome::Malformed
+            }
         }
-        Ok(_) => Outcome::Malformed,
         Err(FrameFault::NoMemory) => Outcome::Unread,
         Err(_) => Outcome::Malformed,
     }

@@ -15,8 +15,14 @@ fn whole_request(alloc: Global, bytes: &[u8]) -> Result<Request, Step>
     ensures { ReadsWholeFrame result bytes.now }
 {
     match read_request(alloc, bytes) {
-        Ok((request, length)) if length == bytes.len() => Ok(request),
-        Ok(_) => Err(Step::Malformed),
+        Ok((request, length)) => {
+            if length == bytes.len() {
+                Ok(request)
+            } else {
+                drop(request);
+                Err(Step::Malformed)
+            }
+        }
         Err(FrameFault::NoMemory) => Err(Step::NoMemory),
         Err(_) => Err(Step::Malformed),
     }
@@ -107,24 +113,36 @@ fn call_body(alloc: Global, kept: &mut TbCaller, body: Body, room: &mut [u8]) ->
 {
     let phase = match resting(kept.phase) {
         Ok(phase) => phase,
-        Err(step) => return step,
+        Err(step) => {
+            drop(body);
+            return step;
+        }
     };
     let id = id(kept.id_low, kept.id_high);
     let mut caller = match Caller::from_fields(id, kept.session, kept.last, phase) {
         Ok(caller) => caller,
-        Err(fault) => return Step::Wrong(fault),
+        Err(fault) => {
+            drop(body);
+            return Step::Wrong(fault);
+        }
     };
     let mut frame = Vec::new(alloc);
     if let Err(fault) = caller.call(body, &mut frame) {
+        drop(frame);
+        drop(caller);
         return Step::NoCall(fault);
     }
     let bytes = frame.as_slice();
     let length = bytes.len();
     if length > room.len() {
+        drop(frame);
+        drop(caller);
         return Step::TooSmall(length);
     }
     room[..length].copy_from_slice(bytes);
     store(kept, &caller);
+    drop(frame);
+    drop(caller);
     Step::Done(length)
 }
 
@@ -137,8 +155,14 @@ pub(crate) fn call(alloc: Global, kept: &mut TbCaller, request: &[u8], room: &mu
         Err(step) => return step,
     };
     match request.body().copy(alloc) {
-        Ok(body) => call_body(alloc, kept, body, room),
-        Err(_) => Step::NoMemory,
+        Ok(body) => {
+            drop(request);
+            call_body(alloc, kept, body, room)
+        }
+        Err(_) => {
+            drop(request);
+            Step::NoMemory
+        }
     }
 }
 
@@ -147,7 +171,10 @@ pub(crate) fn check(alloc: Global, kept: &TbCaller, frame: &[u8]) -> Step
     ensures { Checks result kept.now frame.now }
 {
     match client(alloc, kept, frame) {
-        Ok(_) => Step::Done(0),
+        Ok(caller) => {
+            drop(caller);
+            Step::Done(0)
+        }
         Err(step) => step,
     }
 }
@@ -166,11 +193,19 @@ pub(crate) fn receive(
         Err(step) => return Err(step),
     };
     match caller.received(alloc, bytes) {
-        Ok((heard, _, length)) => {
+        Ok((heard, reply, length)) => {
+            drop(reply);
             store(kept, &caller);
+            drop(caller);
             Ok((heard, length))
         }
-        Err(FrameFault::NoMemory) => Err(Step::NoMemory),
-        Err(_) => Err(Step::Malformed),
+        Err(FrameFault::NoMemory) => {
+            drop(caller);
+            Err(Step::NoMemory)
+        }
+        Err(_) => {
+            drop(caller);
+            Err(Step::Malformed)
+        }
     }
 }

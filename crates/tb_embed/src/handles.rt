@@ -33,7 +33,10 @@ fn server_in(
     let machine = Machine::new_in(alloc, alloc, profile, clients_max)?;
     match Box::new(alloc, Server { machine }) {
         Ok(server) => Ok(server),
-        Err(_) => Err(AllocError),
+        Err(failed) => {
+            drop(failed);
+            Err(AllocError)
+        }
     }
 }
 

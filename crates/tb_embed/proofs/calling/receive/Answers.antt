@@ -9,7 +9,7 @@ use Rattle.tb_embed.proofs.calling.receive.Goals as goal
 pub returns-in-Ok-received : goal.returns-in-Ok-received
 returns-in-Ok-received c =
     let caller = c.in-Ok.caller in
-    let reply = c.in-Ok-received.field-0-1 in
+    let reply = c.in-Ok-received.reply in
     let read = c.in-Ok-received.ensures in
     let kept = c.args.kept.now in
     let same = c.store.ensures ∙ ap (λ (d : Client). stored kept d) read.2 in
