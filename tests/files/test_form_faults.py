@@ -1,5 +1,6 @@
 """Each read, write and sync of a form of `tbd` fails in turn: the exit status and the line name it,
-and the ledger loses nothing. Calls fail by shim.c, which needs gcc.
+and the ledger or log loses nothing. If a call takes a part or is interrupted, nothing is reported.
+Calls fail by shim.c, which needs gcc.
 
     python3 -m pytest -m quick tests/files/test_form_faults.py
 """
@@ -8,6 +9,7 @@ import errno
 import itertools
 import os
 import re
+import struct
 
 import pytest
 
@@ -47,8 +49,13 @@ FAULTS = [
     ("write", errno.EIO, FAILED),
     ("write", errno.ENOSPC, FULL),
     ("sync", errno.EIO, SYNC),
+    ("write", errno.EDQUOT, FULL),
+    ("write", errno.EFBIG, FULL),
 ]
-NEWS = "", "tbd: made ledger\n"
+MADE = "tbd: made ledger\n"
+NEWS = "", MADE
+# What goes out over a file of this kind if no call fails.
+WHOLE = {"nothing": REPLIES, "torn": AGAIN}
 CUT = "tbd: cut {} bytes of a batch that was not committed, after byte {}\n"
 
 
@@ -60,24 +67,26 @@ def fixture_tbd(program):
 class Failing:
     """A form in a folder, of which one call on one file fails."""
 
-    def __init__(self, tbd, shim, folder, words, file="ledger"):
-        self.tbd, self.folder, self.words, self.file = tbd, folder, words.split(), file
+    def __init__(self, tbd, shim, folder, words, file="ledger", given=SCRIPT):
+        self.tbd, self.folder, self.words, self.given = tbd, folder, words.split(), given
         self.env = {**os.environ, "LD_PRELOAD": shim, "KEEP_FILE": file}
 
     def ran(self, call, number, why):
         """The form with this call failing; without a failure if the number is 0."""
-        fault = f"{call} {number} {why}" if number else ""
-        return kinds.ran(
-            self.tbd, self.folder, self.words, SCRIPT, env={**self.env, "KEEP_FAULT": fault}
-        )
+        env = {**self.env, "KEEP_FAULT": f"{call} {number} {why}" if number else ""}
+        return kinds.ran(self.tbd, self.folder, self.words, self.given, env=env)
+
+    def fresh(self, kind):
+        """Nothing is in the folder but a new file of this kind."""
+        for it in self.folder.iterdir():
+            it.unlink()
+        kinds.made(self.folder, kind)
 
     def turns(self, kind, call, why):
         """What is reported if the first such call fails, then the second, up to the last; each time
         over a new file of this kind."""
         for number in itertools.count(1):
-            for it in self.folder.iterdir():
-                it.unlink()
-            kinds.made(self.folder, kind)
+            self.fresh(kind)
             told = self.ran(call, number, why)
             if told[0] == 0:
                 return
@@ -124,14 +133,15 @@ def test_a_form_that_reads_a_log(tbd, shim, tmp_path, words):
 @pytest.mark.parametrize("call, why, fault", FAULTS)
 @pytest.mark.parametrize("kind", ["nothing", "no byte", "no record", "a ledger", "torn"])
 def test_a_start_and_a_commit(tbd, shim, tmp_path, kind, call, why, fault):
-    """What went out begins the replies. The next start cuts off what was not committed."""
+    """What went out begins the replies, and is in the file. The next start cuts off what was not
+    committed."""
     failing = Failing(tbd, shim, tmp_path, "run ledger 2 --drop-torn")
     count = 0
     for number, told in failing.turns(kind, call, why):
         assert is_told(told, fault, "ledger", (*NEWS, CUT.format(5, 191))), (number, told)
         assert REPLIES.startswith(told[1]) or AGAIN.startswith(told[1])
         status, out, said = failing.ran(call, 0, 0)
-        assert status == 0 and out in (REPLIES, AGAIN), (number, out)
+        assert status == 0 and out in ((AGAIN,) if told[1] else (REPLIES, AGAIN)), (number, out)
         assert said in NEWS or re.fullmatch(CUT.format("[0-9]+", "(8|25|191)"), said), (
             number,
             said,
@@ -140,6 +150,65 @@ def test_a_start_and_a_commit(tbd, shim, tmp_path, kind, call, why, fault):
         count = number
     # Over the ledger itself nothing is written: what is sent was answered before.
     assert count or (kind, call) == ("a ledger", "write")
+
+
+@pytest.mark.parametrize("call", ["read", "write", "sync"])
+@pytest.mark.parametrize("kind", ["nothing", "torn"])
+def test_a_call_that_is_interrupted(tbd, shim, tmp_path, kind, call):
+    """Whichever it is, it is made again."""
+    failing = Failing(tbd, shim, tmp_path, "run ledger 2 --drop-torn")
+    for number in range(1, 10):
+        failing.fresh(kind)
+        assert failing.ran(call, number, errno.EINTR)[:2] == (0, WHOLE[kind]), number
+        assert (tmp_path / "ledger").read_bytes() == kinds.LEDGER
+
+
+@pytest.mark.parametrize("part", [1, 7, 20])
+@pytest.mark.parametrize("kind", WHOLE)
+def test_calls_that_take_a_part(tbd, shim, tmp_path, kind, part):
+    """A write takes so many bytes first, or each read gives so many at most."""
+    failing = Failing(tbd, shim, tmp_path, "run ledger 2 --drop-torn")
+    faults = [("short", number, part) for number in range(1, 9)]
+    for fault in [("few", part, 0), *faults]:
+        failing.fresh(kind)
+        assert failing.ran(*fault)[:2] == (0, WHOLE[kind]), fault
+        assert (tmp_path / "ledger").read_bytes() == kinds.LEDGER
+
+
+def test_a_disk_that_is_full_after_each_number_of_bytes(tbd, shim, tmp_path):
+    failing = Failing(tbd, shim, tmp_path, "run ledger 2 --drop-torn")
+    for room in range(1, len(kinds.LEDGER)):
+        failing.fresh("nothing")
+        told = failing.ran("full", room, 0)
+        assert is_told(told, FULL, "ledger", NEWS) and REPLIES.startswith(told[1]), (room, told)
+        status, out, _ = failing.ran("full", 0, 0)
+        assert status == 0 and out in ((AGAIN,) if told[1] else (REPLIES, AGAIN)), (room, out)
+        assert (tmp_path / "ledger").read_bytes() == kinds.LEDGER
+
+
+ITEMS = [kinds.item(number, it) for number, it in enumerate(kinds.PAIRS, 1)]
+LOG = b"".join(ITEMS)
+QUESTION = b"\2"
+
+
+@pytest.mark.parametrize("call, why, fault", FAULTS)
+def test_a_log_that_is_followed(tbd, shim, tmp_path, call, why, fault):
+    """What went out begins the answers. The next start names the position that it goes on from."""
+    words = ["follow", "ledger", "2"]
+    whole = kinds.ran(tbd, tmp_path, words, LOG)[1]
+    data = (tmp_path / "ledger").read_bytes()
+    failing = Failing(tbd, shim, tmp_path, " ".join(words), given=LOG)
+    count = 0
+    for number, told in failing.turns("nothing", call, why):
+        news = "", MADE, f"{MADE}tbd: has the log up to position 0\n"
+        assert is_told(told, fault, "ledger", news), (number, told)
+        position = struct.unpack_from("<Q", kinds.ran(tbd, tmp_path, words, QUESTION)[1], 1)[0]
+        more = kinds.ran(tbd, tmp_path, words, b"".join(ITEMS[position:]))[1]
+        assert whole.startswith(told[1]) and whole.endswith(more), (number, told, more)
+        assert len(told[1]) + len(more) <= len(whole), (number, told, more)
+        assert (tmp_path / "ledger").read_bytes() == data
+        count = number
+    assert count
 
 
 @pytest.mark.parametrize("call, why, fault", [FAULTS[0], FAULTS[3]])
