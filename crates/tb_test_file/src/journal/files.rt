@@ -1,28 +1,11 @@
 //! What a crash leaves of a file in memory: worked examples.
-use crate::journal::crashes::left_after;
-use crate::steps::{expect, expect_bytes, expect_given, expect_same, file_of};
+use crate::steps::{expect, expect_bytes, expect_given, expect_same, file_of, sure};
 use std::alloc::Global;
 use std::process::Abort;
 use tb_file_journal::{Device, JournalFault, Memory};
 
 /// A file `abcdef`.
 const SIX: [u8; 6] = [97, 98, 99, 100, 101, 102];
-
-/// The bytes of a file of this many moments, and what crashes leave: each at a moment, with these bytes in the place of what was torn.
-fn expect_left(
-    rt: &impl Abort,
-    file: &Memory,
-    moments: usize,
-    bytes: &[u8],
-    rows: &[(usize, &[u8], &[u8])],
-) {
-    expect_bytes(rt, file.bytes(), bytes);
-    expect(rt, file.moments() == moments);
-    for (moment, torn, want) in rows {
-        let left = left_after(rt, file, *moment, torn);
-        expect_given(rt, left, want);
-    }
-}
 
 /// A call on a file.
 #[derive(Clone, Copy)]
@@ -81,7 +64,8 @@ fn after_calls(
     file
 }
 
-/// Calls on the file `abcdef`, and what they leave: this many moments, these bytes, and rows of what crashes leave.
+/// Calls on the file `abcdef`, each with its result, and what they leave: this many moments, these bytes, and rows of what crashes leave, each at
+/// a moment, with these bytes in the place of what was torn.
 struct Case {
     calls: &'static [(Call, Result<usize, JournalFault>)],
     moments: usize,
@@ -91,93 +75,86 @@ struct Case {
 
 fn expect_case(rt: &impl Abort, alloc: Global, case: &Case) {
     let file = after_calls(rt, alloc, case.calls);
-    expect_left(rt, &file, case.moments, case.bytes, case.left);
+    expect_bytes(rt, file.bytes(), case.bytes);
+    expect(rt, file.moments() == case.moments);
+    for (moment, torn, want) in case.left {
+        expect(rt, *moment <= file.moments());
+        expect_given(rt, sure(rt, file.after_crash(*moment, torn)), want);
+    }
     drop(file);
 }
 
-const WRITTEN: Case = Case {
-    calls: &[(Call::Write(4, &[88, 89, 90]), Ok(0))],
-    moments: 1,
-    bytes: &[97, 98, 99, 100, 88, 89, 90],
-    left: &[
-        (0, &[7], &SIX),
-        (1, &[7], &[97, 98, 99, 100, 7, 102]),
-        (1, &[7, 8, 9, 10], &[97, 98, 99, 100, 7, 8, 9]),
-    ],
-};
-
-#[test]
-fn a_write_is_torn(rt: HostRuntime) {
-    expect_case(&rt, rt.alloc(), &WRITTEN);
-}
-
-const CUT: Case = Case {
-    calls: &[(Call::Cut(2), Ok(0))],
-    moments: 1,
-    bytes: &[97, 98],
-    left: &[(1, &[], &[97, 98]), (1, &[0], &[97, 98, 99])],
-};
-
-#[test]
-fn a_cut_leaves_a_length_between(rt: HostRuntime) {
-    expect_case(&rt, rt.alloc(), &CUT);
-}
-
-const SYNCED: Case = Case {
-    calls: &[(Call::Write(1, &[66]), Ok(0)), (Call::Sync, Ok(0))],
-    moments: 2,
-    bytes: &[97, 66, 99, 100, 101, 102],
-    left: &[(2, &[7, 7], &[97, 66, 99, 100, 101, 102])],
-};
-
-#[test]
-fn nothing_is_torn_behind_a_sync(rt: HostRuntime) {
-    expect_case(&rt, rt.alloc(), &SYNCED);
-}
-
-const UNSYNCED: Case = Case {
-    calls: &[
-        (Call::Write(1, &[66]), Ok(0)),
-        (Call::FailAt(1), Ok(0)),
-        (Call::Sync, Err(JournalFault::SyncFailed)),
-        (Call::Sync, Ok(0)),
-    ],
-    moments: 1,
-    bytes: &[97, 66, 99, 100, 101, 102],
-    left: &[(1, &[7, 7], &[97, 7, 99, 100, 101, 102])],
-};
-
-#[test]
-fn nothing_is_kept_behind_a_sync_that_failed(rt: HostRuntime) {
-    expect_case(&rt, rt.alloc(), &UNSYNCED);
-}
-
-const NAMED: &[(Call, Result<usize, JournalFault>)] = &[
-    (Call::FailWith(1, JournalFault::Full), Ok(0)),
-    (Call::Write(1, &[66]), Err(JournalFault::Full)),
-    (Call::FailWith(1, JournalFault::Memory), Ok(0)),
-    (Call::Len, Err(JournalFault::Memory)),
-    (Call::FailWith(1, JournalFault::NotEmpty), Ok(0)),
-    (Call::Len, Err(JournalFault::Failed)),
-    (Call::FailWith(1, JournalFault::Memory), Ok(0)),
-    (Call::Sync, Err(JournalFault::SyncFailed)),
+const CASES: &[Case] = &[
+    // A write is torn.
+    Case {
+        calls: &[(Call::Write(4, &[88, 89, 90]), Ok(0))],
+        moments: 1,
+        bytes: &[97, 98, 99, 100, 88, 89, 90],
+        left: &[
+            (0, &[7], &SIX),
+            (1, &[7], &[97, 98, 99, 100, 7, 102]),
+            (1, &[7, 8, 9, 10], &[97, 98, 99, 100, 7, 8, 9]),
+        ],
+    },
+    // A cut leaves a length between.
+    Case {
+        calls: &[(Call::Cut(2), Ok(0))],
+        moments: 1,
+        bytes: &[97, 98],
+        left: &[(1, &[], &[97, 98]), (1, &[0], &[97, 98, 99])],
+    },
+    // Nothing is torn behind a sync.
+    Case {
+        calls: &[(Call::Write(1, &[66]), Ok(0)), (Call::Sync, Ok(0))],
+        moments: 2,
+        bytes: &[97, 66, 99, 100, 101, 102],
+        left: &[(2, &[7, 7], &[97, 66, 99, 100, 101, 102])],
+    },
+    // Nothing is kept behind a sync that failed.
+    Case {
+        calls: &[
+            (Call::Write(1, &[66]), Ok(0)),
+            (Call::FailAt(1), Ok(0)),
+            (Call::Sync, Err(JournalFault::SyncFailed)),
+            (Call::Sync, Ok(0)),
+        ],
+        moments: 1,
+        bytes: &[97, 66, 99, 100, 101, 102],
+        left: &[(1, &[7, 7], &[97, 7, 99, 100, 101, 102])],
+    },
+    // A call fails with the fault that is named.
+    Case {
+        calls: &[
+            (Call::FailWith(1, JournalFault::Full), Ok(0)),
+            (Call::Write(1, &[66]), Err(JournalFault::Full)),
+            (Call::FailWith(1, JournalFault::Memory), Ok(0)),
+            (Call::Len, Err(JournalFault::Memory)),
+            (Call::FailWith(1, JournalFault::NotEmpty), Ok(0)),
+            (Call::Len, Err(JournalFault::Failed)),
+            (Call::FailWith(1, JournalFault::Memory), Ok(0)),
+            (Call::Sync, Err(JournalFault::SyncFailed)),
+        ],
+        moments: 1,
+        bytes: &SIX,
+        left: &[],
+    },
+    // One call fails.
+    Case {
+        calls: &[
+            (Call::FailAt(2), Ok(0)),
+            (Call::Sync, Ok(0)),
+            (Call::Len, Err(JournalFault::Failed)),
+            (Call::Len, Ok(6)),
+        ],
+        moments: 1,
+        bytes: &SIX,
+        left: &[],
+    },
 ];
 
 #[test]
-fn a_call_fails_with_the_fault_that_is_named(rt: HostRuntime) {
-    let file = after_calls(&rt, rt.alloc(), NAMED);
-    expect_bytes(&rt, file.bytes(), &SIX);
-    drop(file);
-}
-
-const SECOND: &[(Call, Result<usize, JournalFault>)] = &[
-    (Call::FailAt(2), Ok(0)),
-    (Call::Sync, Ok(0)),
-    (Call::Len, Err(JournalFault::Failed)),
-    (Call::Len, Ok(6)),
-];
-
-#[test]
-fn one_call_fails(rt: HostRuntime) {
-    drop(after_calls(&rt, rt.alloc(), SECOND));
+fn what_a_crash_leaves(rt: HostRuntime) {
+    for case in CASES {
+        expect_case(&rt, rt.alloc(), case);
+    }
 }
