@@ -1,14 +1,14 @@
-//! Kept ledgers over a file in memory: what is reported, what a crash leaves, and what is opened again.
+//! Kept ledgers over a file in memory: they are served, opened again, dumped and copied.
 //!
 //! Modules, each over those before it:
 //!
-//! - `scripts`: scripts by the bytes of the formats.
+//! - `scripts`: scripts by the bytes of the formats, and what serves them.
 //! - `dumps`: the history of a file, read without a write.
-//! - `crashes`: crashes at each moment, and each call that fails.
+//! - `openings`: a file that is opened, of which one call fails.
 //! - `rounds`: a machine in a pool, and the limits of a commit.
 //! - `salvaging`: files that are salvaged or backed up.
-mod crashes;
 pub mod dumps;
+mod openings;
 mod rounds;
 mod salvaging;
 pub mod scripts;

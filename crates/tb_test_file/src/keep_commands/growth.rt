@@ -1,6 +1,6 @@
 //! A file to which another program appends while it is read.
 use crate::keep::dumps::dump_of;
-use crate::keep::scripts::kept_two;
+use crate::keep::scripts::kept_bytes;
 use crate::steps::{copy_of, expect, expect_begin, expect_given, sure};
 use std::alloc::Global;
 use std::cell::Cell;
@@ -50,7 +50,7 @@ fn cut_to(rt: &impl Abort, alloc: Global, bytes: &[u8], end: usize) -> Memory {
 
 /// The ledger of two pairs, with its head at first, then an entry more, then all.
 fn growing_ledger(rt: &impl Abort, alloc: Global) -> Growth<Memory> {
-    let whole = kept_two(rt, alloc);
+    let whole = kept_bytes(rt, alloc, 2);
     let shown = cut_to(rt, alloc, &whole, HEAD_END);
     let next = cut_to(rt, alloc, &whole, FIRST_END);
     let last = sure(rt, Memory::new(alloc, whole));
