@@ -48,24 +48,11 @@ pub(crate) fn expect_begin(rt: &impl Abort, whole: &[u8], given: Vec<u8>) {
     drop(given);
 }
 
-/// The bytes that a call returned are the last of these. They are freed here.
-pub(crate) fn expect_end(rt: &impl Abort, whole: &[u8], given: Vec<u8>) {
-    expect(rt, whole.ends_with(&given));
-    drop(given);
-}
-
 /// The value of a call that a test wants to succeed.
 pub(crate) fn sure<T: Drop, E: Drop>(rt: &impl Abort, answer: Result<T, E>) -> T
     ensures { answer ≡ Ok result }
 {
     answer.ok().expect(rt, "no fault")
-}
-
-/// Says whether a call succeeded. What it returned is dropped only here.
-pub(crate) fn is_well<T: Drop, E: Drop>(answer: Result<T, E>) -> bool {
-    let well = answer.is_ok();
-    drop(answer);
-    well
 }
 
 /// A copy of bytes.
