@@ -2,11 +2,6 @@
 use std::fmt::Debug;
 use std::process::Abort;
 
-/// What is found is what is wanted.
-pub fn same<T: PartialEq + Debug>(rt: &impl Abort, found: &T, wanted: &T, at: &impl Debug) {
-    assert_eq!(rt; *found, *wanted, "at {at:?}");
-}
-
 /// It is so. What is asked is in the message.
 pub fn holds(rt: &impl Abort, is_so: bool, asked: &str) {
     assert!(rt; is_so, "{asked}");

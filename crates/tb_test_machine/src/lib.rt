@@ -1,14 +1,14 @@
-//! Tests of tb_machine and of the libraries that it is built on, only by their public calls; and each allocation of a map, a ledger and a machine
-//! is refused in turn. What arguments, input and output do to `tbs` is tested over the program, by tests/programs.
+//! Tests of tb_machine and of the libraries that it is built on, only by their public calls; and each allocation of a ledger's rows is refused in
+//! turn. What arguments, input and output do to `tbs` is tested over the program, by tests/programs.
 //!
 //! Modules:
 //!
 //! - `comparing`: what is compared, each in one place.
-//! - `records`: of tb_records.
 //! - `maps`: of avl_tree.
 //! - `ledger`: of tb_ledger.
 //! - `machine`: of tb_machine.
-//! - `refusing`: of avl_tree and tb_machine, over an allocator that refuses.
+//! - `records`: of tb_records.
+//! - `refusing`: of tb_machine, over an allocator that refuses.
 #![tactic(auto)]
 
 #[cfg(test)]

@@ -1,6 +1,6 @@
-//! The map in use: at the keys that the books have, compared with another map, and over an allocator that runs out.
+//! The map in use, at the keys that the books have.
 //!
 //! Module:
 //!
-//! - `map_tests`: at the keys that the books have.
+//! - `map_tests`: how far a search goes, and what becomes of spare nodes.
 mod map_tests;

@@ -1,10 +1,8 @@
-//! The vectors of requests, replies and records, and the faults of frames.
+//! The vectors of requests and replies, and the faults of frames.
 //!
-//! Modules, each over those before it:
+//! Modules:
 //!
-//! - `vectors`: frames and records in bytes, and as values.
-//! - `frame_tests`: requests and records as they are read.
-//! - `reply_tests`: replies, and frames as they are written.
+//! - `frame_tests`: requests.
+//! - `reply_tests`: replies.
 mod frame_tests;
 mod reply_tests;
-mod vectors;

@@ -1,20 +1,14 @@
-//! What maps, ledgers and machines do if an allocation is refused: each in turn.
+//! What ledgers and machines do if an allocation is refused: each in turn.
 //!
 //! Modules, each over those before it:
 //!
-//! - `comparing`: what is compared, in one function.
-//! - `map_tests`: each allocation of a map refused.
-//! - `turns`: the requests of worked examples.
+//! - `rows`: the requests of worked examples, and what they leave.
 //! - `shown`: what a machine shows.
-//! - `applying`: the requests, applied as entries.
-//! - `pooling`: the same, served as pairs.
+//! - `applying`: a request applied as an entry, or served as a pair.
 //! - `growth_tests`: each allocation and each chunk refused.
 //! - `batch_tests`: how many bytes a batch of transfers asks for.
 mod applying;
 mod batch_tests;
-mod comparing;
 mod growth_tests;
-mod map_tests;
-mod pooling;
+mod rows;
 mod shown;
-mod turns;

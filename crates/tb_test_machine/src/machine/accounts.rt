@@ -1,9 +1,8 @@
 //! Accounts that are created or refused, and the most of them in one request.
 use crate::comparing::holds_at;
-use crate::machine::faults::expect_fault;
 use crate::machine::rows::{AccountRow, TransferRow as Row};
 use crate::machine::scripts::{Head, Script};
-use crate::machine::serving::{PROFILES, expect_all, serve};
+use crate::machine::serving::{PROFILES, expect, serve};
 use crate::machine::steps::{BEGIN, Step, put_steps};
 use std::alloc::Global;
 use std::process::Abort;
@@ -76,7 +75,8 @@ fn expect_too_many(rt: &impl Abort, alloc: Global) {
     let mut script = Script::new(alloc);
     script.register(rt, 7, 1);
     script.ask_header(rt, Head::of_seven(1, Operation::CreateAccounts), 1_048_448);
-    expect_fault(rt, script, RunFault::Frame(FrameFault::TooMany));
+    let fault = RunFault::Frame(FrameFault::TooMany);
+    expect(rt, script, 2, &PROFILES, Err(fault));
 }
 
 /// A script whose second frame ends after 47 bytes: the first reply is written.
@@ -85,7 +85,8 @@ fn expect_cut(rt: &impl Abort, alloc: Global) {
     script.register(rt, 7, 1);
     script.ask_header(rt, Head::of_seven(1, Operation::CreateAccounts), 0);
     script.bytes.truncate(56 + 8 + 47);
-    expect_fault(rt, script, RunFault::Frame(FrameFault::Short));
+    let fault = RunFault::Frame(FrameFault::Short);
+    expect(rt, script, 2, &PROFILES, Err(fault));
 }
 
 /// Client 7 creates accounts 1 to 8190 in one request, and looks three up.
@@ -100,7 +101,8 @@ fn largest_body_and_cut_script(rt: HostRuntime) {
     let length = script.bytes.len();
     holds_at(&rt, length == 112 + 1_048_320, &length);
     put_steps(&rt, &mut script, &THREE_OF_MOST);
-    expect_all(&rt, script, &PROFILES);
+    let requests = script.requests;
+    expect(&rt, script, 2, &PROFILES, Ok(requests));
 }
 
 /// An account whose debits must not exceed its credits, and one whose credits must not exceed its debits.

@@ -1,22 +1,13 @@
 //! Scripts that end before their time: no time is left, or a frame is at fault or cut.
-use crate::comparing::{holds, holds_at};
-use crate::machine::machines::clients_max;
+use crate::comparing::holds_at;
+use crate::machine::forms::{Answer, Form, written};
 use crate::machine::scripts::{Head, Script};
-use crate::machine::serving::{PROFILES, expect, expect_bytes};
+use crate::machine::serving::{PROFILES, expect};
 use crate::machine::steps::{BEGIN, Step, THIRD, script_of};
 use std::alloc::Global;
 use std::process::Abort;
 use tb_machine::RunFault;
-use tb_records::{ClientsMax, FrameFault, Profile};
-
-/// Serves a script by each profile as far as its fault, for two clients at most, and drops it.
-pub fn expect_fault(rt: &impl Abort, script: Script, fault: RunFault) {
-    let clients_max = clients_max(rt, 2);
-    for profile in &PROFILES {
-        expect(rt, &script, clients_max, *profile, Err(fault));
-    }
-    drop(script);
-}
+use tb_records::{FrameFault, Profile};
 
 /// The last moment that can be the time of an entry.
 const LAST: u64 = (1 << 63) - 1;
@@ -34,7 +25,7 @@ const EXHAUSTED: [Step; 5] = [
 fn expect_exhausted(rt: &impl Abort, alloc: Global, steps: &[Step]) {
     let mut script = script_of(rt, alloc, &[steps]);
     script.ask(rt, Head::register(8, 0));
-    expect_fault(rt, script, RunFault::TimeExhausted);
+    expect(rt, script, 2, &PROFILES, Err(RunFault::TimeExhausted));
 }
 
 /// After an entry at the last moment, and for a first entry after that moment.
@@ -59,30 +50,23 @@ fn answer_at(len: usize) -> (Result<u64, RunFault>, usize) {
 }
 
 /// Serves a prefix of a script by a profile, and compares what is returned and written.
-fn expect_cut(
-    rt: &impl Abort,
-    script: &Script,
-    clients_max: ClientsMax,
-    profile: Profile,
-    len: usize,
-) {
-    let (answer, written) = answer_at(len);
+fn expect_cut(rt: &impl Abort, script: &Script, profile: Profile, len: usize) {
+    let (answer, count) = answer_at(len);
     let cut = script.bytes.as_slice().get(..len).unwrap_or(&[]);
-    let wanted = script.replies.as_slice().get(..written).unwrap_or(&[]);
-    holds_at(rt, cut.len() == len && wanted.len() == written, &len);
-    expect_bytes(rt, script.alloc, clients_max, profile, cut, answer, wanted);
+    let form = Form::Run(profile, 2);
+    let replies = written(rt, script.alloc, form, cut, Answer::Ran(answer));
+    let same = script.replies.as_slice().get(..count) == Some(replies.as_slice());
+    drop(replies);
+    holds_at(rt, cut.len() == len && same, &len);
 }
 
 /// Three requests, cut at each length.
 #[test]
 fn script_cut_at_each_length(rt: HostRuntime) {
     let script = script_of(&rt, rt.alloc(), &[&BEGIN, &THIRD]);
-    holds(&rt, script.bytes.len() == 472, "bytes of requests");
-    holds(&rt, script.replies.len() == 400, "bytes of replies");
-    let clients_max = clients_max(&rt, 2);
     for len in 0..473 {
-        expect_cut(&rt, &script, clients_max, Profile::One, len);
-        expect_cut(&rt, &script, clients_max, Profile::Two, len);
+        expect_cut(&rt, &script, Profile::One, len);
+        expect_cut(&rt, &script, Profile::Two, len);
     }
     drop(script);
 }

@@ -1,37 +1,54 @@
-//! Machines that entries move on, and what is asked of them.
+//! Client 7's requests as data, and machines that they move on.
 use crate::comparing::holds;
 use crate::machine::rows::{TransferRow, transfer_of};
-use std::alloc::{AllocError, Global};
+use std::alloc::Global;
 use std::process::Abort;
 use tb_machine::{Judged, Machine};
-use tb_records::{Body, ClientsMax, Profile, Request};
-use tb_test_fixtures::{account, creation, transfers};
-
-/// A request's client, session and number.
-pub type Numbers = (u128, u64, u32);
+use tb_records::{Body, ClientsMax, Items, Profile, Request};
+use tb_test_fixtures::{account, creation, lookup};
 
 /// What a request asks for.
 #[derive(Clone, Copy)]
-pub enum Ask {
+pub enum Ask<'a> {
     Register,
     /// Accounts 1 and 2.
     TwoAccounts,
-    Transfer(TransferRow),
+    /// Accounts by their ids.
+    Lookup(&'a [u128]),
+    Transfers(&'a [TransferRow]),
 }
 
-fn body_of(alloc: Global, ask: Ask) -> Result<Body, AllocError> {
+/// The moment at which a request comes, its number, and what it asks for. All but a register are of session 1.
+pub type Turn<'a> = (u64, u32, Ask<'a>);
+
+/// The creation of transfers.
+fn transfers(rt: &impl Abort, alloc: Global, rows: &[TransferRow]) -> Body {
+    let mut all = Vec::new(alloc);
+    for row in rows {
+        all.push(transfer_of(*row)).expect(rt, "memory");
+    }
+    Body::CreateTransfers(Items::new(all))
+}
+
+fn body_of(rt: &impl Abort, alloc: Global, ask: Ask<'_>) -> Body {
     match ask {
-        Ask::Register => Ok(Body::Register),
-        Ask::TwoAccounts => creation(alloc, &[account(1), account(2)]),
-        Ask::Transfer(row) => transfers(alloc, &[transfer_of(row)]),
+        Ask::Register => Body::Register,
+        Ask::TwoAccounts => creation(alloc, &[account(1), account(2)]).expect(rt, "memory"),
+        Ask::Lookup(ids) => lookup(alloc, ids).expect(rt, "memory"),
+        Ask::Transfers(rows) => transfers(rt, alloc, rows),
     }
 }
 
-/// A request by its numbers.
-fn request_of(rt: &impl Abort, alloc: Global, numbers: Numbers, ask: Ask) -> Request {
-    let (client, session, number) = numbers;
-    let body = body_of(alloc, ask).expect(rt, "memory");
-    Request::new(client, session, number, body).expect(rt, "a request")
+/// A request by its number and its body.
+pub fn numbered(rt: &impl Abort, number: u32, body: Body) -> Request {
+    let session = u64::from(number != 0);
+    Request::new(7, session, number, body).expect(rt, "a request")
+}
+
+/// The request of a turn.
+pub fn request_of(rt: &impl Abort, alloc: Global, turn: &Turn<'_>) -> Request {
+    let (_, number, ask) = turn;
+    numbered(rt, *number, body_of(rt, alloc, *ask))
 }
 
 /// This many clients at most.
@@ -39,22 +56,15 @@ pub fn clients_max(rt: &impl Abort, number: u32) -> ClientsMax {
     ClientsMax::new(number).expect(rt, "clients_max")
 }
 
-/// A machine by profile 1 for this many clients at most.
-pub fn machine(rt: &impl Abort, alloc: Global, clients: u32) -> Machine<Global> {
-    let made = Machine::new_in(alloc, alloc, Profile::One, clients_max(rt, clients));
+/// A machine by profile 1 for two clients at most.
+pub fn machine(rt: &impl Abort, alloc: Global) -> Machine<Global> {
+    let made = Machine::new_in(alloc, alloc, Profile::One, clients_max(rt, 2));
     made.expect(rt, "a machine")
 }
 
-/// Enters a request at moment 10.
-fn enter(
-    rt: &impl Abort,
-    alloc: Global,
-    machine: &mut Machine<Global>,
-    numbers: Numbers,
-    ask: Ask,
-) {
-    let request = request_of(rt, alloc, numbers, ask);
-    let Judged::New(entry) = machine.judge(10, request) else {
+/// Enters a request at its moment.
+fn enter(rt: &impl Abort, alloc: Global, machine: &mut Machine<Global>, turn: &Turn<'_>) {
+    let Judged::New(entry) = machine.judge(turn.0, request_of(rt, alloc, turn)) else {
         panic!(rt; "the request is not new, or has no time");
     };
     let entered = machine.enter(entry);
@@ -62,14 +72,14 @@ fn enter(
     drop(entered);
 }
 
-/// Enters requests at moment 10, one after another.
+/// Enters requests, one after another.
 pub fn enter_all(
     rt: &impl Abort,
     alloc: Global,
     machine: &mut Machine<Global>,
-    rows: &[(Numbers, Ask)],
+    turns: &[Turn<'_>],
 ) {
-    for (numbers, ask) in rows {
-        enter(rt, alloc, machine, *numbers, *ask);
+    for turn in turns {
+        enter(rt, alloc, machine, turn);
     }
 }

@@ -1,7 +1,7 @@
 //! Accounts and transfers as the machine's own calls find them.
 use crate::comparing::holds;
 use crate::machine::fixtures::resolved;
-use crate::machine::machines::{Ask, Numbers, enter_all, machine};
+use crate::machine::machines::{Ask, Turn, enter_all, machine};
 use crate::machine::rows::TransferRow;
 use std::alloc::Global;
 use std::process::Abort;
@@ -9,20 +9,20 @@ use tb_machine::Machine;
 use tb_records::{Account, Transfer};
 use tb_test_fixtures::{account, at, found, post};
 
-/// Client 7's first to seventh request: accounts 1 and 2, three pending transfers, and posts of the whole, of 15 and of
-/// nothing.
-const THREE_POSTS: [(Numbers, Ask); 8] = [
-    ((7, 0, 0), Ask::Register),
-    ((7, 1, 1), Ask::TwoAccounts),
-    ((7, 1, 2), Ask::Transfer(TransferRow::Held(20, 40))),
+/// Accounts 1 and 2, three pending transfers, and posts of the whole, of 15 and of nothing.
+const THREE_POSTS: [Turn<'static>; 8] = [
+    (10, 0, Ask::Register),
+    (10, 1, Ask::TwoAccounts),
+    (10, 2, Ask::Transfers(&[TransferRow::Held(20, 40)])),
     (
-        (7, 1, 3),
-        Ask::Transfer(TransferRow::Post(21, 20, u128::MAX)),
+        10,
+        3,
+        Ask::Transfers(&[TransferRow::Post(21, 20, u128::MAX)]),
     ),
-    ((7, 1, 4), Ask::Transfer(TransferRow::Held(22, 40))),
-    ((7, 1, 5), Ask::Transfer(TransferRow::Post(23, 22, 15))),
-    ((7, 1, 6), Ask::Transfer(TransferRow::Held(24, 40))),
-    ((7, 1, 7), Ask::Transfer(TransferRow::Post(25, 24, 0))),
+    (10, 4, Ask::Transfers(&[TransferRow::Held(22, 40)])),
+    (10, 5, Ask::Transfers(&[TransferRow::Post(23, 22, 15)])),
+    (10, 6, Ask::Transfers(&[TransferRow::Held(24, 40)])),
+    (10, 7, Ask::Transfers(&[TransferRow::Post(25, 24, 0)])),
 ];
 
 /// Accounts 2 and 1 as the posts leave them.
@@ -67,7 +67,7 @@ fn expect_transfers(rt: &impl Abort, machine: &Machine<Global>, want: &[Transfer
 /// Three posts, and what they leave.
 #[test]
 fn posts_whole_part_and_none(rt: HostRuntime) {
-    let mut machine = machine(&rt, rt.alloc(), 2);
+    let mut machine = machine(&rt, rt.alloc());
     enter_all(&rt, rt.alloc(), &mut machine, &THREE_POSTS);
     expect_accounts(&rt, &machine, &posted_accounts());
     expect_transfers(&rt, &machine, &posts());

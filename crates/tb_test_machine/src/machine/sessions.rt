@@ -1,9 +1,7 @@
 //! Registers, repeats, refusals and evictions, by scripts.
-use crate::comparing::holds_at;
-use crate::machine::machines::clients_max;
 use crate::machine::rows::{AccountRow, TransferRow as Row};
 use crate::machine::scripts::Script;
-use crate::machine::serving::{PROFILES, expect_whole, serve};
+use crate::machine::serving::{PROFILES, expect, serve};
 use crate::machine::steps::{BEGIN, Step, THIRD, put_steps};
 use std::process::Abort;
 use tb_records::{CreateTransferResult, Operation, Status};
@@ -123,10 +121,5 @@ fn eviction_storm(rt: HostRuntime) {
     let mut script = Script::new(rt.alloc());
     put_hundred(&rt, &mut script);
     put_steps(&rt, &mut script, &LAST);
-    holds_at(&rt, script.requests == 203, &script.requests);
-    let clients_max = clients_max(&rt, 1);
-    for profile in &PROFILES {
-        expect_whole(&rt, &script, clients_max, *profile);
-    }
-    drop(script);
+    expect(&rt, script, 1, &PROFILES, Ok(203));
 }

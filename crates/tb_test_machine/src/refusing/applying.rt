@@ -1,67 +1,100 @@
-//! Rows' requests, each applied as an entry: if an allocation is refused, the entry is applied again.
-use crate::refusing::comparing::holds;
-use crate::refusing::shown::{Shown, expect_same, look};
-use crate::refusing::turns::Turn;
+//! A request applied as an entry, or served as a pair: if an allocation is refused, it is served again.
+use crate::comparing::{holds, holds_at};
+use crate::machine::machines::{Turn, request_of};
+use crate::refusing::shown::{look, same};
 use std::alloc::{Allocator, Global};
 use std::process::Abort;
-use tb_machine::{Entry, Machine};
+use tb_machine::{Entry, Machine, RunFault, serve_pair};
+use tb_records::{Counting, Request};
+use tb_test_refusing::Refusing;
 
-/// Applies an entry that may come next, twice at the most; returns whether it was refused once.
-fn apply_twice<A: Allocator + Clone>(
-    rt: &impl Abort,
-    machine: &mut Machine<A>,
-    entry: &Entry,
-    before: &Shown,
-) -> bool {
-    for refused in [false, true] {
-        if machine.fits(entry) && machine.apply(entry).is_ok() {
-            return refused;
-        }
-        expect_same(rt, machine, before);
-    }
-    holds(rt, false, "refused twice", entry.commit);
-    true
+/// A reply has at least this many bytes.
+const REPLY_BYTES: usize = 48;
+
+/// How requests are served.
+#[derive(Clone, Copy)]
+pub(crate) enum Way {
+    /// By `Machine::apply`, with one allocation refused.
+    Applied,
+    /// By `serve_pair` over a pool, with all chunks refused from one on: a pool whose chunk is refused asks for a smaller one.
+    Pooled,
 }
 
-/// Applies an entry that may come next. If that is refused, nothing has changed, and it is applied again. Returns whether it was refused.
-fn apply<A: Allocator + Clone>(rt: &impl Abort, machine: &mut Machine<A>, entry: &Entry) -> bool {
-    let before = look(rt, machine);
-    let refused = apply_twice(rt, machine, entry, &before);
-    drop(before);
-    refused
-}
-
-/// Enters a request at its moment; returns whether that was refused once.
-pub(crate) fn enter<A: Allocator + Clone>(
+/// Applies a new request as the next entry; returns whether there was memory.
+pub(crate) fn apply<A: Allocator + Clone>(
     rt: &impl Abort,
-    alloc: Global,
     machine: &mut Machine<A>,
-    turn: &Turn,
+    moment: u64,
+    request: Request,
 ) -> bool {
-    let events = turn.request.body().event_count() as u64;
-    let time = machine.next_time(turn.moment, events).expect(rt, "a time");
+    let events = request.body().event_count() as u64;
+    let time = machine.next_time(moment, events).expect(rt, "a time");
     let entry = Entry {
         commit: machine.commit() + 1,
         time,
-        request: turn.request.copy(alloc).expect(rt, "memory"),
+        request,
     };
-    let refused = apply(rt, machine, &entry);
+    let applied = machine.fits(&entry) && machine.apply(&entry).is_ok();
     drop(entry);
-    refused
+    applied
 }
 
-/// Enters the requests; returns the commit numbers of the entries that were refused once.
-pub(crate) fn enter_all<A: Allocator + Clone>(
+/// Serves a pair; returns whether there was memory. Without memory nothing is written.
+fn serve<A: Allocator + Clone>(
     rt: &impl Abort,
     alloc: Global,
     machine: &mut Machine<A>,
-    turns: &[Turn],
-) -> Vec<u64> {
-    let mut refused = Vec::new(alloc);
-    for turn in turns {
-        if enter(rt, alloc, machine, turn) {
-            refused.push(machine.commit()).expect(rt, "memory");
-        }
+    moment: u64,
+    request: Request,
+) -> bool {
+    let mut writer = Counting::new(Vec::new(alloc));
+    let answer = serve_pair(machine, &mut writer, moment, request);
+    let reply = writer.into_inner();
+    let written = reply.len();
+    drop(reply);
+    let is_right = match answer {
+        Ok(()) => written >= REPLY_BYTES,
+        Err(fault) => fault == RunFault::NoMemory && written == 0,
+    };
+    holds_at(rt, is_right, &written);
+    answer.is_ok()
+}
+
+/// Serves a turn; returns whether there was memory.
+fn serve_once<A: Allocator + Clone>(
+    rt: &impl Abort,
+    alloc: Global,
+    machine: &mut Machine<A>,
+    way: Way,
+    turn: &Turn<'_>,
+) -> bool {
+    let request = request_of(rt, alloc, turn);
+    match way {
+        Way::Applied => apply(rt, machine, turn.0, request),
+        Way::Pooled => serve(rt, alloc, machine, turn.0, request),
     }
-    refused
+}
+
+/// Serves a turn. If that is refused nothing has changed, and it is served again when the heap relents. Returns whether it was refused.
+pub(crate) fn serve_twice<A: Allocator + Clone>(
+    rt: &impl Abort,
+    alloc: Global,
+    heap: &Refusing<Global>,
+    machine: &mut Machine<A>,
+    way: Way,
+    turn: &Turn<'_>,
+) -> bool {
+    let before = look(rt, machine);
+    let served = serve_once(rt, alloc, machine, way, turn);
+    if !served {
+        let behind = look(rt, machine);
+        let unchanged = same(&before, &behind);
+        drop(behind);
+        holds(rt, unchanged, "a refused call leaves the machine");
+        heap.relent();
+        let served = serve_once(rt, alloc, machine, way, turn);
+        holds(rt, served, "served the second time");
+    }
+    drop(before);
+    !served
 }

@@ -1,11 +1,12 @@
 //! How many bytes a batch of transfers asks for: the capacity of its undo log, and its records.
-use crate::refusing::applying::enter;
-use crate::refusing::comparing::holds;
-use crate::refusing::turns::{Turn, moving, register, two_accounts};
-use std::alloc::{Allocator, Global};
+use crate::comparing::{holds, holds_at};
+use crate::machine::machines::{Ask, clients_max, numbered, request_of};
+use crate::refusing::applying::apply;
+use crate::refusing::rows::EARLY_NS;
+use std::alloc::Global;
 use std::process::Abort;
 use tb_machine::Machine;
-use tb_records::{ClientsMax, Profile};
+use tb_records::{Body, Items, Profile, Request};
 use tb_test_fixtures::{linked, transfer};
 use tb_test_refusing::{Refusing, Tally};
 
@@ -18,7 +19,7 @@ const LOG_BYTES: u64 = 4 * 144;
 const KEPT_BYTES: u64 = 192 + 80 + 80;
 
 /// Client 7's batch of this many transfers of 1 each, separate or as one chain.
-fn batch(rt: &impl Abort, alloc: Global, count: u32, chained: bool) -> Turn {
+fn batch(rt: &impl Abort, alloc: Global, count: u32, chained: bool) -> Request {
     let mut all = Vec::new(alloc);
     for k in 1..=count {
         let one = transfer(100 + u128::from(k), 1, 2, 1);
@@ -26,21 +27,7 @@ fn batch(rt: &impl Abort, alloc: Global, count: u32, chained: bool) -> Turn {
         let event = if goes_on { linked(one) } else { one };
         all.push(event).expect(rt, "memory");
     }
-    let turn = moving(rt, alloc, 10, 2, all.as_slice());
-    drop(all);
-    turn
-}
-
-/// Enters a request at its moment.
-fn enter_one<A: Allocator + Clone>(
-    rt: &impl Abort,
-    alloc: Global,
-    machine: &mut Machine<A>,
-    turn: Turn,
-) {
-    let refused = enter(rt, alloc, machine, &turn);
-    drop(turn);
-    holds(rt, !refused, "an entry is made", machine.commit());
+    numbered(rt, 2, Body::CreateTransfers(Items::new(all)))
 }
 
 /// Enters a register, two accounts and a batch: what was asked for, with the bytes that only the batch asked for.
@@ -49,12 +36,15 @@ fn enter_batch(
     alloc: Global,
     machine: &mut Machine<&Refusing<Global>>,
     heap: &Refusing<Global>,
-    turn: Turn,
+    batch: Request,
 ) -> Tally {
-    enter_one(rt, alloc, machine, register(rt));
-    enter_one(rt, alloc, machine, two_accounts(rt, alloc));
+    let register = request_of(rt, alloc, &(EARLY_NS, 0, Ask::Register));
+    let registered = apply(rt, machine, EARLY_NS, register);
+    let accounts = request_of(rt, alloc, &(EARLY_NS, 1, Ask::TwoAccounts));
+    let created = apply(rt, machine, EARLY_NS, accounts);
     let before = heap.tally().bytes;
-    enter_one(rt, alloc, machine, turn);
+    let entered = apply(rt, machine, EARLY_NS, batch);
+    holds(rt, registered && created && entered, "memory");
     let now = heap.tally();
     Tally {
         bytes: now.bytes.wrapping_sub(before),
@@ -64,12 +54,11 @@ fn enter_batch(
 
 /// What a batch of this many transfers asks a machine's allocator for.
 fn ask(rt: &impl Abort, alloc: Global, profile: Profile, count: u32, chained: bool) -> Tally {
-    let turn = batch(rt, alloc, count, chained);
     let heap = Refusing::new(alloc, 0);
-    let clients_max = ClientsMax::new(2).expect(rt, "clients_max");
-    let made = Machine::new_in(alloc, &heap, profile, clients_max);
+    let made = Machine::new_in(alloc, &heap, profile, clients_max(rt, 2));
     let mut machine = made.expect(rt, "a machine");
-    let asked = enter_batch(rt, alloc, &mut machine, &heap, turn);
+    let batch = batch(rt, alloc, count, chained);
+    let asked = enter_batch(rt, alloc, &mut machine, &heap, batch);
     drop(machine);
     drop(heap);
     asked
@@ -89,9 +78,9 @@ fn expect_bounded(
     let log = LOG_BYTES * u64::from(power);
     let count = u64::from(count);
     let (bytes, greatest) = (asked.bytes, asked.greatest);
-    holds(rt, bytes >= 128 * count, "bytes, too few", bytes);
-    holds(rt, greatest <= log.max(LOG_BYTES * 2), "a growth", greatest);
-    holds(rt, bytes <= log + KEPT_BYTES * count, "bytes", bytes);
+    let most = log + KEPT_BYTES * count;
+    holds_at(rt, 128 * count <= bytes && bytes <= most, &bytes);
+    holds_at(rt, greatest <= log.max(LOG_BYTES * 2), &greatest);
 }
 
 /// A batch asks for this many bytes an event at most, and as many for its log as the next power of two of events has, whether its events are
