@@ -23,7 +23,6 @@ pub(crate) struct Head {
 }
 
 /// Reads the numbers of an entry.
-#[tactic(auto, using(crate::proofs::Taking::takes_head, crate::proofs::Taking::position_missed, crate::proofs::Taking::length_missed, crate::proofs::Taking::sum_missed))]
 fn head_from<S: Source>(source: &mut S) -> Result<Head, LogFault>
     ensures { ReadsValue 16 entry_head_bytes result (S.input source.old) (S.input source.new) }
 {
@@ -96,7 +95,6 @@ pub fn check_pairs(global: Global, position: u64, content: &[u8]) -> Result<(), 
 }
 
 /// Reads the entry after the last position: its position and its content, which consists of pairs.
-#[tactic(auto, using(crate::proofs::Taking::entry_read, crate::proofs::Taking::entry_lost, crate::proofs::Taking::entry_wrong, crate::proofs::Taking::head_lost))]
 pub fn entry_from<S: Source>(
     alloc: Global,
     source: &mut S,

@@ -27,7 +27,6 @@ fn fill<S: Source>(source: &mut S, buffer: &mut [u8]) -> Result<usize, LogFault>
 }
 
 /// Fills the buffer. Returns `Short` if the input ends before that.
-#[tactic(auto, using(crate::proofs::Taking::all_filled, crate::proofs::Taking::cut_short, crate::proofs::Taking::misses_by))]
 fn fill_all<S: Source>(source: &mut S, buffer: &mut [u8]) -> Result<(), LogFault>
     ensures { FillsBuffer buffer.new result (S.input source.old) (S.input source.new) }
 {
@@ -51,7 +50,6 @@ pub fn kind_from<S: Source>(source: &mut S) -> Result<Option<u8>, LogFault>
 }
 
 /// A number of 8 bytes.
-#[tactic(auto, using(crate::proofs::Numbers::eight_bytes, crate::proofs::Taking::missed_whole))]
 pub(crate) fn u64_from<S: Source>(source: &mut S) -> Result<u64, LogFault>
     ensures { ReadsValue 8 (number_bytes 8) result (S.input source.old) (S.input source.new) }
 {
@@ -62,7 +60,6 @@ pub(crate) fn u64_from<S: Source>(source: &mut S) -> Result<u64, LogFault>
 }
 
 /// A number of 4 bytes.
-#[tactic(auto, using(crate::proofs::Numbers::four_bytes, crate::proofs::Taking::missed_whole))]
 pub(crate) fn u32_from<S: Source>(source: &mut S) -> Result<u32, LogFault>
     ensures { ReadsValue 4 (number_bytes 4) result (S.input source.old) (S.input source.new) }
 {

@@ -1,8 +1,23 @@
-use Rattle.std.proofs.Common.{ℕ, List, subst}
+use Rattle.std.proofs.Common.{◌≡◌, ℕ, List, Option, None, Some, Result, Ok, Err, MatchOption, arith, subst}
 use Rattle.std.proofs.lemmas.Result.{err_from_is_err_and}
+use Rattle.tb_log.specs.declared.faults.LogFault.{LogFault}
 use Rattle.tb_log.specs.Entries.{IsNoPairs}
-use Rattle.tb_log.proofs.Taking.{entry_lost, entry_read, entry_bad, sound_of}
+use Rattle.tb_log.proofs.Taking.{entry_lost, entry_read, entry_bad, entry_wrong, head_lost, sound_of}
 use Rattle.tb_log.proofs.entries.entry_from.Goals as goal
+
+-- the fault that was judged
+fault_of : (o : Option LogFault) (r : Result (Unit {0}) LogFault) (f : LogFault) → MatchOption o (r ≡ Ok tt) (λ (g : LogFault). r ≡ Err g) → r ≡ Err f → o ≡ Some f
+fault_of None r f judged is = absurd cc
+fault_of (Some g) r f judged is = cc
+
+pub returns-in_err-head-clause-wrong : goal.returns-in_err-head-clause-wrong
+returns-in_err-head-clause-wrong g c = grind (arith, head_lost)
+
+pub returns-in_err-judge_head-clause-wrong : goal.returns-in_err-judge_head-clause-wrong
+returns-in_err-judge_head-clause-wrong g c =
+    let p = err_from_is_err_and c.from_residual-in_err-judge_head.result c.from_residual-in_err-judge_head.ensures.1 in
+    rw (p.1, p.2) (entry_wrong c.in_ok-head.head c.in_err-judge_head.field-0.0 c.args.last _ _ c.in_ok-head.ensures
+    (fault_of _ c.judge_head.result _ c.judge_head.ensures c.in_err-judge_head.was))
 
 pub returns-in_err-content-clause-wrong : goal.returns-in_err-content-clause-wrong
 returns-in_err-content-clause-wrong g c =
