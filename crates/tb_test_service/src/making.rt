@@ -8,7 +8,7 @@ use crate::comparing::holds;
 use std::alloc::Global;
 use std::process::Abort;
 use std::sync::Wait;
-use tb_published::{Naming, Opening, Publisher, Seat, SeatCount, Taken, open};
+use tb_published::{Naming, Opening, Publisher, Seat, SeatCount, open};
 use tb_records::{Body, ClientsMax, Profile, Request};
 use tb_service::{Closed, Finished, Moments, Open, Port, PortCount, Server, service};
 use tb_test_fixtures::{account, creation, lookup, transfer, transfers};
@@ -71,12 +71,16 @@ pub fn asked_in_order(number: u32) -> Asked {
     }
 }
 
+/// Client 7's request of this number, as it asks by the requests of an order.
+pub fn in_order(rt: &impl Abort, alloc: Global, number: u32) -> Request {
+    nth(rt, alloc, number, asked_in_order(number))
+}
+
 /// Eight requests of client 7: its register, two accounts, and six transfers of 10.
 pub fn eight(rt: &impl Abort, alloc: Global) -> Vec<Request> {
     let mut all = Vec::new(alloc);
     for number in 0..8 {
-        let request = nth(rt, alloc, number, asked_in_order(number));
-        all.push(request).expect(rt, "memory");
+        all.push(in_order(rt, alloc, number)).expect(rt, "memory");
     }
     all
 }
@@ -119,15 +123,6 @@ pub fn opened<J: Naming, R: Wait + Abort>(
 {
     let count = SeatCount::new(seats).expect(rt, "seats");
     open::<J, R>(alloc, rt, opening, count).expect(rt, "a publisher")
-}
-
-/// Takes a request at moment 10.
-pub fn take<J: Naming, R: Wait + Abort>(
-    rt: &R,
-    publisher: &mut Publisher<J>,
-    request: Request,
-) -> Taken {
-    publisher.take(rt, request, 10).expect(rt, "taken")
 }
 
 /// Offers a request, which is sent.

@@ -3,22 +3,14 @@
 //! Modules, each over those before it:
 //!
 //! - `frames`: reply frames in hexadecimal.
-//! - `rows`: the first requests, their bytes, and what the seat looks up.
-//! - `showing`: what is entered and not yet shown.
-//! - `touching`: orders over many accounts.
-//! - `progress`: all that was entered is shown by the next call that shows.
-//! - `learning`: two seats, and what a seat learns.
-//! - `refusals`: what earlier requests have refused.
+//! - `expecting`: what becomes of a request, and what a seat finds then.
 //! - `steps`: a publisher and two seats by steps.
+//! - `rows`: the first requests, their bytes, and what the seats look up.
 //! - `examples`: examples by steps.
 //! - `threads`: seats next to the publisher, in threads.
 mod examples;
+mod expecting;
 mod frames;
-mod learning;
-mod progress;
-mod refusals;
 mod rows;
-mod showing;
 mod steps;
 mod threads;
-mod touching;

@@ -1,7 +1,8 @@
-//! Examples by steps: sessions that are evicted, ids that failed, times that run out, what is shown and when, and what seats learn.
+//! Examples by steps: sessions that are evicted, times that run out, what is shown and when, and what seats learn.
 ghost use Rattle.std.specs.Prelude.{◌≡◌};
 
 use crate::making::{Asked, opening};
+use crate::published::rows::FIRST_ROWS;
 use crate::published::steps::{Step, play_all};
 use std::marker::Brand;
 use tb_published::{TakeFault, Taken};
@@ -38,26 +39,9 @@ fn eviction_storm(rt: HostRuntime) {
     play_all::<Brand, _>(&rt, rt.alloc(), opening, STORM);
 }
 
-/// A transfer is sent twice, before and after its account can be found; the second time it has this code.
-fn failed_and_again(code: u32) -> [Step; 4] {
-    [
-        Step::Take((7, 0, 0), Asked::Register, 10, Ok(Taken::Committed(1))),
-        Step::Take((7, 1, 1), Asked::TwoAccounts, 10, Ok(Taken::Committed(2))),
-        Step::Code(2, Asked::Transfer(70, 99, 1), 21),
-        Step::Code(3, Asked::Transfer(70, 1, 1), code),
-    ]
-}
-
-#[test]
-fn failed_id_is_refused_again(rt: HostRuntime) {
-    for (profile, code) in [(Profile::One, 0), (Profile::Two, 68)] {
-        let opening = opening(&rt, profile, 2);
-        play_all::<Brand, _>(&rt, rt.alloc(), opening, &failed_and_again(code));
-    }
-}
-
-/// A first register that comes after the end of time.
-const TOO_LATE: &[Step] = &[
+/// A first register comes after the end of time. Client 7 registers at the last moment: no new request has a time then, and
+/// all others are judged as always.
+const LAST_MOMENT: &[Step] = &[
     Step::Take(
         (7, 0, 0),
         Asked::Register,
@@ -65,10 +49,6 @@ const TOO_LATE: &[Step] = &[
         Err(TakeFault::TimeExhausted),
     ),
     Step::Entries(0),
-];
-
-/// Client 7 registers at the last moment: no new request has a time then, and all others are judged as always.
-const LAST_MOMENT: &[Step] = &[
     Step::Take(
         (7, 0, 0),
         Asked::Register,
@@ -100,54 +80,36 @@ fn time_runs_out(rt: HostRuntime) {
     play_all::<Brand, _>(&rt, rt.alloc(), opening, LAST_MOMENT);
 }
 
-#[test]
-fn first_register_too_late(rt: HostRuntime) {
-    let opening = opening(&rt, Profile::One, 2);
-    play_all::<Brand, _>(&rt, rt.alloc(), opening, TOO_LATE);
-}
-
-#[test]
-fn each_is_shown_by_its_take(rt: HostRuntime) {
-    let opening = opening(&rt, Profile::One, 1);
-    play_all::<Brand, _>(&rt, rt.alloc(), opening, &[Step::TakeEach(130)]);
-}
-
-/// How many are entered at a time: 1, 8, 9 and 70.
-const TOGETHER: &[Step] = &[
-    Step::ShowTogether(0, 1),
-    Step::ShowTogether(1, 8),
-    Step::ShowTogether(9, 9),
-    Step::ShowTogether(18, 70),
+/// A register that is entered is not shown until the copies are told to. Eight requests are shown by one call.
+const ENTERED: &[Step] = &[
+    Step::Enter((7, 0, 0), Asked::Register, Taken::Committed(1)),
+    Step::Status((7, 0, 0), Asked::Register, Status::NotYet, 0),
+    Step::Show(1),
+    Step::Status((7, 0, 0), Asked::Register, Status::Reply, 1),
+    Step::Enter((7, 0, 0), Asked::Register, Taken::Repeat(1)),
+    Step::Enter((7, 1, 1), NOTHING, Taken::Committed(2)),
+    Step::Enter((7, 1, 2), NOTHING, Taken::Committed(3)),
+    Step::Enter((7, 1, 3), NOTHING, Taken::Committed(4)),
+    Step::Enter((7, 1, 4), NOTHING, Taken::Committed(5)),
+    Step::Enter((7, 1, 5), NOTHING, Taken::Committed(6)),
+    Step::Enter((7, 1, 6), NOTHING, Taken::Committed(7)),
+    Step::Enter((7, 1, 7), NOTHING, Taken::Committed(8)),
+    Step::Enter((7, 1, 8), NOTHING, Taken::Committed(9)),
+    Step::Status((7, 1, 1), NOTHING, Status::NotYet, 1),
+    Step::Show(9),
+    Step::Status((7, 1, 8), NOTHING, Status::Reply, 9),
+    Step::Show(9),
 ];
-
-#[test]
-fn all_are_shown_together(rt: HostRuntime) {
-    let opening = opening(&rt, Profile::One, 1);
-    play_all::<Brand, _>(&rt, rt.alloc(), opening, TOGETHER);
-}
 
 #[test]
 fn entered_is_not_shown(rt: HostRuntime) {
     let opening = opening(&rt, Profile::One, 2);
-    play_all::<Brand, _>(&rt, rt.alloc(), opening, &[Step::EnterAlone]);
+    play_all::<Brand, _>(&rt, rt.alloc(), opening, ENTERED);
 }
 
 /// Client 7's first requests through `take` and one seat, and what the other seat learns then.
 #[test]
 fn two_seats_and_a_told(rt: HostRuntime) {
     let opening = opening(&rt, Profile::One, 2);
-    play_all::<Brand, _>(&rt, rt.alloc(), opening, &[Step::LearnBoth]);
-}
-
-/// The second eight are taken in by the copy that took the first eight in last.
-const MANY: &[Step] = &[
-    Step::CreateMany,
-    Step::MoveEight([10, 11, 12, 13, 14, 15, 16, 17], 8),
-    Step::MoveEight([18, 19, 20, 21, 22, 23, 24, 25], 16),
-];
-
-#[test]
-fn orders_over_many_accounts(rt: HostRuntime) {
-    let opening = opening(&rt, Profile::One, 2);
-    play_all::<Brand, _>(&rt, rt.alloc(), opening, MANY);
+    play_all::<Brand, _>(&rt, rt.alloc(), opening, FIRST_ROWS);
 }

@@ -1,20 +1,19 @@
 //! A publisher and two seats by steps: what is done, and its result. One function owns the publisher, and lends it to each step.
 ghost use Rattle.std.specs.Prelude.{◌≡◌};
 
-use crate::comparing::{holds, holds_at};
-use crate::making::{Asked, Numbers, opened, request};
-use crate::published::learning::expect_both;
-use crate::published::progress::{show_together, take_each};
-use crate::published::refusals::{expect_code, refuse_each, register_each};
-use crate::published::showing::expect_shown;
-use crate::published::touching::{create, move_eight};
+use crate::comparing::holds_at;
+use crate::making::{Asked, Numbers, opened};
+use crate::published::expecting::{
+    Row, expect_accounts, expect_entered, expect_entries, expect_row, expect_status, expect_taken,
+    expect_transfers, learn,
+};
 use std::alloc::Global;
 use std::process::Abort;
 use std::sync::Wait;
 use tb_published::{Naming, Opening, Publisher, Seat, TakeFault, Taken};
+use tb_records::Status;
 
 /// What is done, and its result.
-#[derive(Clone, Copy)]
 pub(crate) enum Step {
     /// A request is taken at a moment.
     Take(Numbers, Asked, u64, Result<Taken, TakeFault>),
@@ -22,45 +21,60 @@ pub(crate) enum Step {
     RegisterEach(u64),
     /// No client up to this one has a session.
     RefuseEach(u64),
-    /// Client 7's request of a number is taken: the code of its first event.
-    Code(u32, Asked, u32),
-    /// This many of client 7's requests are taken one by one.
-    TakeEach(u32),
-    /// From a number on, this many are entered, and one call shows them all.
-    ShowTogether(u32, u32),
-    /// A register is entered, and is not shown until the copies are told to.
-    EnterAlone,
-    /// The first rows, and what two seats learn of them.
-    LearnBoth,
-    /// Client 7 registers and creates many accounts.
-    CreateMany,
-    /// Eight transfers are entered and shown: the amount on account 2 then.
-    MoveEight([u32; 8], u128),
+    /// A row's request is taken, and the first seat has its answer.
+    Row(Row),
+    /// The first seat finds accounts 2 and 1: the number of entries, and what went from account 1 to account 2.
+    Accounts(u64, u128),
+    /// The first seat finds transfer 11.
+    Transfers,
+    /// A request is entered at moment 10.
+    Enter(Numbers, Asked, Taken),
+    /// One call shows all entries, as many as these.
+    Show(u64),
+    /// The first seat returns this status for a request, and has seen this many entries then.
+    Status(Numbers, Asked, Status, u64),
+    /// The same of the second seat.
+    SecondStatus(Numbers, Asked, Status, u64),
+    /// The second seat learns what the publisher tells.
+    SecondLearns,
     /// The history has this many entries, and the copies show as many.
     Entries(usize),
 }
 
-/// Takes a request at a moment.
-fn expect_taken<J: Naming, R: Wait + Abort>(
+/// Clients up to this one register by turns, each with the next commit number.
+fn register_each<J: Naming, R: Wait + Abort>(
     rt: &R,
     alloc: Global,
     publisher: &mut Publisher<J>,
-    numbers: Numbers,
-    asked: Asked,
-    moment: u64,
-    wanted: Result<Taken, TakeFault>,
+    last: u64,
 ) {
-    let request = request(rt, alloc, numbers, asked);
-    let taken = publisher.take(rt, request, moment);
-    holds_at(rt, taken == wanted, &numbers);
+    for client in 1..=last {
+        let numbers = (u128::from(client), 0, 0);
+        let wanted = Ok(Taken::Committed(client));
+        expect_taken(rt, alloc, publisher, numbers, Asked::Register, 10, wanted);
+    }
 }
 
-/// The history has `entries` entries, and the copies show as many.
-fn expect_entries<J: Naming>(rt: &impl Abort, publisher: &Publisher<J>, entries: usize) {
-    holds(rt, publisher.history().len() == entries, "entries");
-    let told = publisher.tell();
-    holds(rt, told.commit() == entries as u64, "what is told");
-    drop(told);
+/// No client up to this one has a session.
+fn refuse_each<J: Naming, R: Wait + Abort>(
+    rt: &R,
+    alloc: Global,
+    publisher: &mut Publisher<J>,
+    last: u64,
+) {
+    for client in 1..=last {
+        let numbers = (u128::from(client), client, 1);
+        let wanted = Ok(Taken::Refused(Status::NoSession));
+        expect_taken(
+            rt,
+            alloc,
+            publisher,
+            numbers,
+            Asked::Lookup(&[]),
+            10,
+            wanted,
+        );
+    }
 }
 
 /// Does one step.
@@ -70,27 +84,28 @@ fn play<J: Naming, R: Wait + Abort>(
     publisher: &mut Publisher<J>,
     one: &mut Seat<J>,
     two: &mut Seat<J>,
-    step: Step,
+    step: &Step,
 ) {
-    match step {
+    match *step {
         Step::Take(numbers, asked, moment, wanted) => {
             expect_taken(rt, alloc, publisher, numbers, asked, moment, wanted)
         }
-        Step::RegisterEach(last) => register_each(rt, publisher, last),
+        Step::RegisterEach(last) => register_each(rt, alloc, publisher, last),
         Step::RefuseEach(last) => refuse_each(rt, alloc, publisher, last),
-        Step::Code(number, asked, code) => {
-            expect_code(rt, alloc, publisher, one, number, asked, code)
+        Step::Row(row) => expect_row(rt, alloc, publisher, one, row),
+        Step::Accounts(entries, posted) => expect_accounts(rt, one, entries, posted),
+        Step::Transfers => expect_transfers(rt, one),
+        Step::Enter(numbers, asked, wanted) => {
+            expect_entered(rt, alloc, publisher, numbers, asked, wanted)
         }
-        Step::TakeEach(count) => take_each(rt, alloc, publisher, one, count),
-        Step::ShowTogether(first, count) => {
-            show_together(rt, alloc, publisher, one, first, count)
+        Step::Show(entries) => holds_at(rt, publisher.show(rt) == Ok(entries), &entries),
+        Step::Status(numbers, asked, status, seen) => {
+            expect_status(rt, alloc, one, numbers, asked, status, seen)
         }
-        Step::EnterAlone => expect_shown(rt, publisher, one),
-        Step::LearnBoth => expect_both(rt, alloc, publisher, one, two),
-        Step::CreateMany => create(rt, alloc, publisher),
-        Step::MoveEight(numbers, amount) => {
-            move_eight(rt, alloc, publisher, one, numbers, amount)
+        Step::SecondStatus(numbers, asked, status, seen) => {
+            expect_status(rt, alloc, two, numbers, asked, status, seen)
         }
+        Step::SecondLearns => learn(publisher, two),
         Step::Entries(entries) => expect_entries(rt, publisher, entries),
     }
 }
@@ -105,7 +120,7 @@ fn play_each<J: Naming, R: Wait + Abort>(
     steps: &[Step],
 ) {
     for step in steps {
-        play(rt, alloc, publisher, one, two, *step);
+        play(rt, alloc, publisher, one, two, step);
     }
 }
 

@@ -2,33 +2,33 @@
 ghost use Rattle.std.specs.Prelude.{◌≡◌};
 
 use crate::comparing::holds;
-use crate::making::{Asked, opened, opening, register_or_lookup, request};
+use crate::making::{in_order, opened, opening};
 use std::alloc::Global;
 use std::marker::Brand;
 use std::process::Abort;
 use std::sync::Wait;
 use std::sync::atomic::{AtomicU64, Ordering};
-use std::thread::{self, Threads, join};
-use tb_published::{Naming, Opening, Publisher, Seat, SeatFault, Taken, Told};
+use std::thread::{self, Threads, for_each_mut, join};
+use tb_published::{Naming, Opening, Publisher, Seat, Taken, Told};
 use tb_records::{Profile, Request, Status};
 use tb_test_fixtures::reaches;
 
 /// How often a thread that waits looks at most.
 const LOOKS: u32 = 20_000_000;
 
-/// How many seats have seen some of the history, but not all of it.
+/// How many seats have seen some of the history, but not all of it, and how many have then seen all of it.
 #[derive(Drop)]
-struct Between(AtomicU64);
+struct Seen {
+    some: AtomicU64,
+    all: AtomicU64,
+}
 
-impl Between {
-    /// Counts one more seat.
-    fn count(&self) {
-        self.0.fetch_add(1, Ordering::SeqCst);
-    }
-
-    /// Waits until all four have; says whether they have.
-    fn are_all(&self) -> bool {
-        reaches(&self.0, 4, LOOKS)
+impl Seen {
+    fn new() -> Seen {
+        Seen {
+            some: AtomicU64::new(0),
+            all: AtomicU64::new(0),
+        }
     }
 }
 
@@ -36,7 +36,7 @@ impl Between {
 /// seen fell, or the status is not that after as many entries.
 fn look<J: Naming>(seat: &mut Seat<J>, last: &Request) -> Option<u64> {
     let before = seat.seen();
-    let status: Result<Status, SeatFault> = seat.status(last);
+    let status = seat.status(last);
     let seen = seat.seen();
     let expected = match seen {
         0 => Status::NoSession,
@@ -50,102 +50,70 @@ fn look<J: Naming>(seat: &mut Seat<J>, last: &Request) -> Option<u64> {
     Some(seen)
 }
 
-/// Asks a seat until it has seen all, and says whether it saw less than that on its way and no call failed.
-fn watch<J: Naming>(seat: &mut Seat<J>, last: &Request, between: &Between) -> bool {
+/// Asks a seat until it has seen all, and counts it if it saw less than that on its way and no call failed.
+fn watch<J: Naming>(seat: &mut Seat<J>, last: &Request, counts: &Seen) {
     let mut beside = false;
     for _ in 0..LOOKS {
         let Some(seen) = look(seat, last) else {
-            return false;
+            return;
         };
         if seen == 200 {
-            return beside;
+            counts.all.fetch_add(u64::from(beside), Ordering::SeqCst);
+            return;
         }
         if seen > 0 && !beside {
             beside = true;
-            between.count();
+            counts.some.fetch_add(1, Ordering::SeqCst);
         }
         thread::yield_now();
     }
-    false
 }
 
-/// Asks seats, one after another.
-fn watch_all<J: Naming>(seats: &mut [Seat<J>], last: &Request, between: &Between) -> bool {
-    for seat in seats {
-        if !watch(seat, last, between) {
-            return false;
-        }
-    }
-    true
-}
-
-/// Asks two seats, each in a thread of its own.
-fn watch_two<J: Naming + Send + Sync, R: Threads + Sync>(
-    rt: &R,
-    seats: &mut [Seat<J>],
-    last: &Request,
-    between: &Between,
-) -> bool {
-    let (one, two) = seats.split_at_mut(seats.len() / 2);
-    let (a, b) = join(
-        rt,
-        || watch_all(one, last, between),
-        || watch_all(two, last, between),
-    );
-    a && b
-}
-
-/// Asks four seats, each in a thread of its own.
-fn watch_four<J: Naming + Send + Sync, R: Threads + Sync>(
-    rt: &R,
-    seats: &mut [Seat<J>],
-    last: &Request,
-    between: &Between,
-) -> bool {
-    let (low, high) = seats.split_at_mut(seats.len() / 2);
-    let (a, b) = join(
-        rt,
-        || watch_two(rt, low, last, between),
-        || watch_two(rt, high, last, between),
-    );
-    a && b
-}
-
-/// Takes client 7's register and 199 lookups, and says whether each was committed. Before the last it waits until each seat has
+/// Takes client 7's register and 199 requests, and says whether each was committed. Before the last it waits until each seat has
 /// seen some.
 fn take_many<J: Naming, R: Wait + Abort>(
     rt: &R,
     alloc: Global,
     publisher: &mut Publisher<J>,
-    between: &Between,
+    counts: &Seen,
 ) -> bool {
     for number in 0..200 {
-        if number == 199 && !between.are_all() {
+        if number == 199 && !reaches(&counts.some, 4, LOOKS) {
             return false;
         }
-        let request = register_or_lookup(rt, alloc, (7, u64::from(number.min(1)), number));
-        if publisher.take(rt, request, 10) != Ok(Taken::Committed(u64::from(number) + 1)) {
+        let taken = publisher.take(rt, in_order(rt, alloc, number), 10);
+        if taken != Ok(Taken::Committed(u64::from(number) + 1)) {
             return false;
         }
     }
     true
 }
 
-/// Four threads ask four seats next to the publisher.
+/// Asks four seats, each in a thread of its own.
+fn watch_four<J: Naming + Send + Sync, R: Threads + Sync>(
+    rt: &R,
+    last: &Request,
+    counts: &Seen,
+    seats: &mut [Seat<J>],
+) {
+    for_each_mut(rt, seats, 4, &|_, seat| watch(seat, last, counts));
+}
+
+/// Four threads ask four seats next to the publisher. Says whether all was taken.
 fn watch_beside<J: Naming + Send + Sync, R: Threads + Wait + Abort + Sync>(
     rt: &R,
     alloc: Global,
     publisher: &mut Publisher<J>,
-    seats: &mut [Seat<J>],
     last: &Request,
+    counts: &Seen,
+    seats: &mut [Seat<J>],
 ) -> bool {
-    let between = Between(AtomicU64::new(0));
-    let (taken, risen) = join(
+    let (taken, ()) = join(
         rt,
-        || take_many(rt, alloc, publisher, &between),
-        || watch_four(rt, seats, last, &between),
+        || take_many(rt, alloc, publisher, counts),
+        || watch_four(rt, last, counts, seats),
     );
-    taken && risen
+    taken
 }
 
 /// A seat that learns what was told last finds the last request answered.
@@ -169,10 +137,13 @@ fn watch_writer<J: Naming + Send + Sync, R: Threads + Wait + Abort + Sync>(
 )
     requires { opening ≡ J.opening }
 {
-    let last = request(rt, alloc, (7, 1, 199), Asked::Lookup(&[]));
+    let last = in_order(rt, alloc, 199);
+    let counts = Seen::new();
     let (mut publisher, mut seats) = opened::<J, R>(rt, alloc, opening, 4);
-    let risen = watch_beside(rt, alloc, &mut publisher, seats.as_mut_slice(), &last);
-    holds(rt, risen, "all four");
+    let all = seats.as_mut_slice();
+    let taken = watch_beside(rt, alloc, &mut publisher, &last, &counts, all);
+    holds(rt, taken, "all are taken");
+    holds(rt, counts.all.load(Ordering::SeqCst) == 4, "all four");
     let told = publisher.tell();
     for seat in seats.iter_mut() {
         expect_learnt(rt, seat, &told, &last);
