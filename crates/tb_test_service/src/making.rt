@@ -10,7 +10,7 @@ use std::process::Abort;
 use std::sync::Wait;
 use tb_published::{Naming, Opening, Publisher, Seat, SeatCount, open};
 use tb_records::{Body, ClientsMax, Profile, Request};
-use tb_service::{Closed, Finished, Moments, Open, Port, PortCount, Server, service};
+use tb_service::{Gate, Moments, Port, PortCount, Server, service};
 use tb_test_fixtures::{account, creation, lookup, transfer, transfers};
 
 /// A request's client, session and number.
@@ -50,36 +50,20 @@ pub fn nth(rt: &impl Abort, alloc: Global, number: u32, asked: Asked) -> Request
     request(rt, alloc, (7, u64::from(number.min(1)), number), asked)
 }
 
-pub fn register(rt: &impl Abort, client: u128) -> Request {
-    Request::new(client, 0, 0, Body::Register).expect(rt, "a request")
-}
-
-/// A register if the number is 0, otherwise a lookup of no account.
-pub fn register_or_lookup(rt: &impl Abort, alloc: Global, numbers: Numbers) -> Request {
-    match numbers.2 {
-        0 => register(rt, numbers.0),
-        _ => request(rt, alloc, numbers, Asked::Lookup(&[])),
-    }
-}
-
-/// What client 7 asks by the requests of an order: its register, two accounts, and transfers of 10.
-pub fn asked_in_order(number: u32) -> Asked {
-    match number {
+/// Client 7's request of this number: its register, two accounts, and then transfers of 10.
+pub fn in_order(rt: &impl Abort, alloc: Global, number: u32) -> Request {
+    let asked = match number {
         0 => Asked::Register,
         1 => Asked::TwoAccounts,
         _ => Asked::Transfer(u128::from(number) + 89, 1, 10),
-    }
+    };
+    nth(rt, alloc, number, asked)
 }
 
-/// Client 7's request of this number, as it asks by the requests of an order.
-pub fn in_order(rt: &impl Abort, alloc: Global, number: u32) -> Request {
-    nth(rt, alloc, number, asked_in_order(number))
-}
-
-/// Eight requests of client 7: its register, two accounts, and six transfers of 10.
-pub fn eight(rt: &impl Abort, alloc: Global) -> Vec<Request> {
+/// Client 7's first requests, up to this number.
+pub fn first_requests(rt: &impl Abort, alloc: Global, count: u32) -> Vec<Request> {
     let mut all = Vec::new(alloc);
-    for number in 0..8 {
+    for number in 0..count {
         all.push(in_order(rt, alloc, number)).expect(rt, "memory");
     }
     all
@@ -134,14 +118,27 @@ pub fn offer<R: Wait + Abort>(rt: &R, port: &mut Port, request: Request)
     drop(outcome);
 }
 
-pub type Started<'a, J, R> = Server<J, &'a R, Every, Open>;
-
-pub fn ports(rt: &impl Abort, count: u32) -> PortCount {
-    PortCount::new(count).expect(rt, "ports")
+/// An opening's server with `count` ports, and two seats.
+pub fn started<'a, J: Naming, R: Wait + Abort, M: Moments + Drop, G: Gate + Drop>(
+    rt: &'a R,
+    alloc: Global,
+    opening: Opening,
+    count: u32,
+    moments: M,
+    gate: G,
+) -> (Server<J, &'a R, M, G>, Vec<Port>, Vec<Seat<J>>)
+    requires { opening ≡ J.opening }
+    ensures { AreNumbered result.0.service 0 result.1.items }
+{
+    let (publisher, seats) = opened::<J, R>(rt, alloc, opening, 2);
+    let count = PortCount::new(count).expect(rt, "ports");
+    let made = service(alloc, publisher, rt, count, moments, gate);
+    let (server, ports) = made.expect(rt, "a server");
+    (server, ports, seats)
 }
 
 /// The last port that is left.
-fn next_port(rt: &impl Abort, ports: &mut Vec<Port>) -> Port
+pub fn next_port(rt: &impl Abort, ports: &mut Vec<Port>) -> Port
     ensures { (name : Name) (n : ℕ) → AreNumbered name n ports.old.items
         → AreNumbered name n ports.new.items × (result.service ≡ name) }
 {
@@ -149,47 +146,4 @@ fn next_port(rt: &impl Abort, ports: &mut Vec<Port>) -> Port
         return port;
     }
     panic!(rt; "a port");
-}
-
-/// A server and one port.
-pub fn one_port<'a, J: Naming, R: Wait + Abort>(
-    rt: &'a R,
-    alloc: Global,
-    publisher: Publisher<J>,
-    moments: Every,
-) -> (Started<'a, J, R>, Port)
-    ensures { result.1.service ≡ result.0.service }
-{
-    let count = ports(rt, 1);
-    let made = service(alloc, publisher, rt, count, moments, Open);
-    let (server, mut ports) = made.expect(rt, "a server");
-    let port = next_port(rt, &mut ports);
-    drop(ports);
-    (server, port)
-}
-
-/// A server and two ports.
-pub fn two_ports<'a, J: Naming, R: Wait + Abort>(
-    rt: &'a R,
-    alloc: Global,
-    publisher: Publisher<J>,
-    moments: Every,
-) -> (Started<'a, J, R>, Port, Port)
-    ensures { (result.1.service ≡ result.0.service) × (result.2.service ≡ result.0.service) }
-{
-    let count = ports(rt, 2);
-    let made = service(alloc, publisher, rt, count, moments, Open);
-    let (server, mut ports) = made.expect(rt, "a server");
-    let second = next_port(rt, &mut ports);
-    let first = next_port(rt, &mut ports);
-    drop(ports);
-    (server, first, second)
-}
-
-/// The places of a port, after the run.
-pub fn places<J: Naming>(finished: &mut Finished<J>, closed: Closed) -> Option<Vec<u64>>
-    requires { closed.service ≡ finished.old.service }
-    ensures { finished.new.service ≡ finished.old.service }
-{
-    finished.offered_by(closed).ok()
 }

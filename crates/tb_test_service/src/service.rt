@@ -5,12 +5,14 @@
 //! - `steps`: a server, two ports and a seat by steps.
 //! - `examples`: examples by steps.
 //! - `handovers`: a server that is gone.
-//! - `gates`: a gate passed before a request has its moment.
+//! - `gates`: a gate at which a request waits.
 //! - `progress`: answers while the server still runs.
-//! - `threads`: ports, a server and seats in threads.
+//! - `repeats`: the same requests by two ports.
+//! - `threads`: what is done next to a server that runs.
 mod examples;
 mod gates;
 mod handovers;
 mod progress;
+mod repeats;
 mod steps;
 mod threads;

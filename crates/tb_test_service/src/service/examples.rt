@@ -25,7 +25,7 @@ fn eight_in_one_order(rt: HostRuntime) {
         opening,
         rising(),
         &[Step::Eight],
-        ALL_EIGHT,
+        &ALL_EIGHT,
     );
 }
 
@@ -47,7 +47,7 @@ fn call_without_turns(rt: HostRuntime) {
         opening,
         rising(),
         &[Step::CallOnce],
-        CALLED,
+        &CALLED,
     );
 }
 
@@ -70,7 +70,7 @@ const PLACES: Left = Left {
 #[test]
 fn places_of_each_port(rt: HostRuntime) {
     let opening = opening(&rt, Profile::One, 2);
-    serve_all::<Brand, _>(&rt, rt.alloc(), opening, rising(), BY_TURNS, PLACES);
+    serve_all::<Brand, _>(&rt, rt.alloc(), opening, rising(), BY_TURNS, &PLACES);
 }
 
 /// The registers of three clients.
@@ -97,5 +97,5 @@ fn time_runs_out_in_the_server(rt: HostRuntime) {
         step: 0,
     };
     let opening = opening(&rt, Profile::One, 2);
-    serve_all::<Brand, _>(&rt, rt.alloc(), opening, last, THREE, LATE);
+    serve_all::<Brand, _>(&rt, rt.alloc(), opening, last, THREE, &LATE);
 }

@@ -1,105 +1,110 @@
-//! A gate that is passed before its request has a moment, and so before it is entered.
+//! A gate at which a request waits, and what seats find then.
 ghost use Rattle.std.specs.Prelude.{◌≡◌};
 
-use crate::comparing::holds;
-use crate::making::{offer, opened, opening, ports, register};
+use crate::making::{in_order, offer};
 use std::alloc::Global;
-use std::marker::Brand;
 use std::process::Abort;
 use std::sync::Wait;
 use std::sync::atomic::{AtomicU64, Ordering};
-use tb_published::{Naming, Opening};
-use tb_records::Profile;
-use tb_service::{Gate, Moments, Port, service as serve};
+use tb_published::{Naming, Seat};
+use tb_records::{Request, Status};
+use tb_service::{Gate, Moments, Port};
+use tb_test_fixtures::reaches;
 
-/// The last place that a gate was passed with, and how many moments were given before it was passed with theirs.
+/// How often a thread that waits for ten seat calls looks at most.
+const LOOKS: u32 = 100_000_000;
+
+/// The place that waits at a gate, or 0 if a limit was reached or a moment told too early, and how many seat calls were made.
 #[derive(Drop)]
-struct Order {
-    passed: AtomicU64,
-    early: AtomicU64,
+pub(crate) struct Watch {
+    pub(crate) stands: AtomicU64,
+    calls: AtomicU64,
 }
 
-impl Order {
-    fn new() -> Order {
-        Order {
-            passed: AtomicU64::new(0),
-            early: AtomicU64::new(0),
+impl Watch {
+    pub(crate) fn new() -> Watch {
+        Watch {
+            stands: AtomicU64::new(0),
+            calls: AtomicU64::new(0),
         }
     }
 }
 
-/// A gate that lets all pass, and notes with which place it was passed.
+/// A gate that reports that a request waits at it, and lets it pass once ten seat calls were made.
 #[derive(Drop)]
-struct Marking<'a>(&'a Order);
+pub(crate) struct Waiting<'a>(pub(crate) &'a Watch);
 
-impl Gate for Marking<'_> {
+impl Gate for Waiting<'_> {
     ghost passes = { λ before place after. Unit {0} };
 
     fn pass(&mut self, place: u64) {
-        self.0.passed.store(place, Ordering::SeqCst);
+        self.0.stands.store(place, Ordering::SeqCst);
+        if !reaches(&self.0.calls, 10, LOOKS) {
+            self.0.stands.store(0, Ordering::SeqCst);
+        }
     }
 }
 
-/// Moments 1, 2, 3 and so on, which look whether the gate was passed with the place of the same number. A request is entered
-/// with its moment, so it cannot be entered before.
+/// Moments 10, each of which looks whether the gate was passed. A request is entered with its moment, so it cannot be entered
+/// before.
 #[derive(Drop)]
-struct Watching<'a> {
-    told: u64,
-    order: &'a Order,
-}
+pub(crate) struct Behind<'a>(pub(crate) &'a Watch);
 
-impl Moments for Watching<'_> {
-    ghost tells = { λ before moment after. moment ≡ after.told };
+impl Moments for Behind<'_> {
+    ghost tells = { λ before moment after. moment ≡ 10 };
 
     fn now(&mut self) -> u64 {
-        self.told = self.told.saturating_add(1);
-        if self.order.passed.load(Ordering::SeqCst) != self.told {
-            self.order.early.fetch_add(1, Ordering::SeqCst);
+        if self.0.calls.load(Ordering::SeqCst) < 10 {
+            self.0.stands.store(0, Ordering::SeqCst);
         }
-        self.told
+        10
     }
 }
 
-/// The last port that is left offers three registers, and is closed.
-fn offer_three<R: Wait + Abort>(rt: &R, ports: &mut Vec<Port>) {
-    let mut port = ports.pop().expect(rt, "a port");
-    for client in [7, 8, 9] {
-        offer(rt, &mut port, register(rt, client));
+/// A seat is asked for the request, or for account 1: it finds neither.
+fn sees_nothing<J: Naming>(seat: &mut Seat<J>, request: &Request, turn: u32) -> bool {
+    if turn % 2 == 0 {
+        return seat.status(request) == Ok(Status::NotYet);
     }
-    drop(port.close(rt));
+    match seat.lookup_accounts(&[1]) {
+        Ok((commit, accounts)) => {
+            let nothing = commit == 0 && accounts.is_empty();
+            drop(accounts);
+            nothing
+        }
+        Err(_) => false,
+    }
 }
 
-/// The gate is passed with each place before the moment of that place is given.
-fn pass_three<J: Naming, R: Wait + Abort>(rt: &R, alloc: Global, opening: Opening)
-    requires { opening ≡ J.opening }
-{
-    let (publisher, seats) = opened::<J, R>(rt, alloc, opening, 2);
-    drop(seats);
-    let order = Order::new();
-    let moments = Watching {
-        told: 0,
-        order: &order,
-    };
-    let made = serve(alloc, publisher, rt, ports(rt, 1), moments, Marking(&order));
-    let (server, mut ports) = made.expect(rt, "a server");
-    offer_three(rt, &mut ports);
-    drop(ports);
-    let entries = server.run(rt).close(rt);
-    holds(rt, entries.len() == 3, "entries");
-    drop(entries);
-    holds(
-        rt,
-        order.passed.load(Ordering::SeqCst) == 3,
-        "the last place",
-    );
-    holds(
-        rt,
-        order.early.load(Ordering::SeqCst) == 0,
-        "moments told early",
-    );
+/// Five calls of each seat, while the request waits at the gate.
+fn call_ten<J: Naming>(
+    one: &mut Seat<J>,
+    two: &mut Seat<J>,
+    request: &Request,
+    watch: &Watch,
+) -> bool {
+    let mut unseen = reaches(&watch.stands, 1, LOOKS);
+    for turn in 0..5 {
+        unseen = sees_nothing(one, request, turn) && unseen;
+        watch.calls.fetch_add(1, Ordering::SeqCst);
+        unseen = sees_nothing(two, request, turn) && unseen;
+        watch.calls.fetch_add(1, Ordering::SeqCst);
+    }
+    unseen
 }
 
-#[test]
-fn gate_before_its_moment(rt: HostRuntime) {
-    pass_three::<Brand, _>(&rt, rt.alloc(), opening(&rt, Profile::One, 2));
+/// A port offers client 7's register, which both seats are asked for while it waits at the gate. Says whether they see nothing.
+pub(crate) fn call_while_held<J: Naming, R: Wait + Abort>(
+    rt: &R,
+    alloc: Global,
+    port: &mut Port,
+    one: &mut Seat<J>,
+    two: &mut Seat<J>,
+    watch: &Watch,
+) -> bool {
+    offer(rt, port, in_order(rt, alloc, 0));
+    let request = in_order(rt, alloc, 0);
+    let unseen = call_ten(one, two, &request, watch);
+    drop(request);
+    unseen
 }

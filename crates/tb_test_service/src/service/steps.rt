@@ -3,17 +3,16 @@ ghost use Rattle.std.specs.Prelude.{◌≡◌};
 
 use crate::comparing::holds;
 use crate::making::{
-    Asked, Every, Numbers, eight, offer, opened, places, register, request, two_ports,
+    Asked, Every, Numbers, first_requests, in_order, next_port, offer, request, started,
 };
 use std::alloc::Global;
 use std::process::Abort;
 use std::sync::Wait;
 use tb_published::{Naming, Opening, Seat, TakeFault};
 use tb_records::Status;
-use tb_service::{Closed, Ended, Finished, Port};
+use tb_service::{Closed, Ended, Finished, Open, Port};
 
 /// What is sent.
-#[derive(Clone, Copy)]
 pub(crate) enum Step {
     /// A request by the first port.
     First(Numbers, Asked),
@@ -27,7 +26,6 @@ pub(crate) enum Step {
 
 /// What is left of a run: the length of the history, what account 2 was credited with, the places of each port's requests,
 /// and those of all requests that were left out because no time was left.
-#[derive(Clone, Copy)]
 pub(crate) struct Left {
     pub(crate) entries: usize,
     pub(crate) credited: u128,
@@ -37,10 +35,10 @@ pub(crate) struct Left {
 }
 
 /// Sends eight requests in one order.
-fn offer_eight<R: Wait + Abort>(rt: &R, alloc: Global, port: &mut Port)
+pub(crate) fn offer_eight<R: Wait + Abort>(rt: &R, alloc: Global, port: &mut Port)
     ensures { port.new.service ≡ port.old.service }
 {
-    let requests = eight(rt, alloc);
+    let requests = first_requests(rt, alloc, 8);
     assert!(rt; requests.len() == 8);
     let outcome = port.offer_many(rt, requests);
     holds(rt, outcome.is_ok(), "handed over");
@@ -48,10 +46,10 @@ fn offer_eight<R: Wait + Abort>(rt: &R, alloc: Global, port: &mut Port)
 }
 
 /// A call that never asks again.
-fn call_once<J: Naming, R: Wait + Abort>(rt: &R, port: &mut Port, seat: &mut Seat<J>)
+fn call_once<J: Naming, R: Wait + Abort>(rt: &R, alloc: Global, port: &mut Port, seat: &mut Seat<J>)
     ensures { port.new.service ≡ port.old.service }
 {
-    let asked = register(rt, 7);
+    let asked = in_order(rt, alloc, 0);
     let reply = port.call(rt, seat, &asked, 0).expect(rt, "a reply");
     holds(rt, reply.status() == Status::NotYet, "not yet");
     drop(reply);
@@ -65,15 +63,15 @@ fn play<J: Naming, R: Wait + Abort>(
     first: &mut Port,
     second: &mut Port,
     seat: &mut Seat<J>,
-    step: Step,
+    step: &Step,
 )
     ensures { (first.new.service ≡ first.old.service) × (second.new.service ≡ second.old.service) }
 {
-    match step {
+    match *step {
         Step::First(numbers, asked) => offer(rt, first, request(rt, alloc, numbers, asked)),
         Step::Second(numbers, asked) => offer(rt, second, request(rt, alloc, numbers, asked)),
         Step::Eight => offer_eight(rt, alloc, first),
-        Step::CallOnce => call_once(rt, first, seat),
+        Step::CallOnce => call_once(rt, alloc, first, seat),
     }
 }
 
@@ -89,16 +87,9 @@ fn play_each<J: Naming, R: Wait + Abort>(
     ensures { (result.0.service ≡ first.service) × (result.1.service ≡ second.service) }
 {
     for step in steps {
-        play(rt, alloc, &mut first, &mut second, seat, *step);
+        play(rt, alloc, &mut first, &mut second, seat, step);
     }
     (first.close(rt), second.close(rt))
-}
-
-/// The places of a port are these, as many as it sent.
-fn expect_places(rt: &impl Abort, places: Option<Vec<u64>>, wanted: &[u64]) {
-    let places = places.expect(rt, "places");
-    holds(rt, places.as_slice() == wanted, "the places");
-    drop(places);
 }
 
 /// These places, and no others, were left out, because no time was left.
@@ -115,7 +106,7 @@ fn are_late(refused: &[(u64, TakeFault)], places: &[u64]) -> bool {
 }
 
 /// The run ended because its ports were closed, and this is left of it.
-fn expect_left<J: Naming>(rt: &impl Abort, finished: &Finished<J>, left: Left) {
+pub(crate) fn expect_left<J: Naming>(rt: &impl Abort, finished: &Finished<J>, left: &Left) {
     holds(rt, finished.ended == Ended::Closed, "the end");
     let entries = finished.publisher.history().len();
     holds(rt, entries == left.entries, "entries");
@@ -124,7 +115,7 @@ fn expect_left<J: Naming>(rt: &impl Abort, finished: &Finished<J>, left: Left) {
 }
 
 /// A seat finds what account 2 was credited with.
-fn expect_credited<J: Naming>(rt: &impl Abort, seat: &mut Seat<J>, left: Left) {
+pub(crate) fn expect_credited<J: Naming>(rt: &impl Abort, seat: &mut Seat<J>, left: &Left) {
     let (commit, accounts) = seat.lookup_accounts(&[2]).expect(rt, "accounts");
     let credited = accounts.iter().map(|it| it.credits_posted).max();
     drop(accounts);
@@ -136,32 +127,20 @@ fn expect_credited<J: Naming>(rt: &impl Abort, seat: &mut Seat<J>, left: Left) {
     );
 }
 
-/// Closes what a server left, once the places of both ports are known.
-fn settle<J: Naming, R: Wait + Abort>(
-    rt: &R,
-    mut finished: Finished<J>,
-    first: Closed,
-    second: Closed,
-    left: Left,
+/// The places of a closed port are these, as many as it sent.
+fn expect_places<J: Naming>(
+    rt: &impl Abort,
+    finished: &mut Finished<J>,
+    closed: Closed,
+    wanted: &[u64],
 )
-    requires { (first.service ≡ finished.service) × (second.service ≡ finished.service) }
+    requires { closed.service ≡ finished.old.service }
+    ensures { finished.new.service ≡ finished.old.service }
 {
-    holds(
-        rt,
-        first.offered() == left.first.len() as u64,
-        "offers of the first",
-    );
-    holds(
-        rt,
-        second.offered() == left.second.len() as u64,
-        "offers of the second",
-    );
-    expect_left(rt, &finished, left);
-    let first = places(&mut finished, first);
-    let second = places(&mut finished, second);
-    drop(finished.close(rt));
-    expect_places(rt, first, left.first);
-    expect_places(rt, second, left.second);
+    holds(rt, closed.offered() == wanted.len() as u64, "offers");
+    let places = finished.offered_by(closed).ok().expect(rt, "places");
+    holds(rt, places.as_slice() == wanted, "places");
+    drop(places);
 }
 
 /// Does steps with a server's two ports, closes both, and runs the server.
@@ -171,16 +150,23 @@ pub(crate) fn serve_all<J: Naming, R: Wait + Abort>(
     opening: Opening,
     moments: Every,
     steps: &[Step],
-    left: Left,
+    left: &Left,
 )
     requires { opening ≡ J.opening }
 {
-    let (publisher, mut seats) = opened::<J, R>(rt, alloc, opening, 2);
+    let (server, mut ports, mut seats) = started::<J, R, Every, Open>(
+        rt, alloc, opening, 2, moments, Open,
+    );
+    let second = next_port(rt, &mut ports);
+    let first = next_port(rt, &mut ports);
+    drop(ports);
     let seat = seats.iter_mut().next().expect(rt, "a seat");
-    let (server, first, second) = two_ports(rt, alloc, publisher, moments);
     let (first, second) = play_each(rt, alloc, first, second, seat, steps);
-    let finished = server.run(rt);
+    let mut finished = server.run(rt);
     expect_credited(rt, seat, left);
-    settle(rt, finished, first, second, left);
+    expect_left(rt, &finished, left);
+    expect_places(rt, &mut finished, first, left.first);
+    expect_places(rt, &mut finished, second, left.second);
+    drop(finished.close(rt));
     drop(seats);
 }

@@ -1,4 +1,4 @@
-use Rattle.tb_test_service.proofs.service.progress.each_is_answered_before_the_next.Given as goal
+use Rattle.tb_test_service.proofs.service.threads.each_is_answered_before_the_next.Given as goal
 
 -- the opening that was just made
 abbrev pub ghosts-serve_beside : goal.ghosts-serve_beside
