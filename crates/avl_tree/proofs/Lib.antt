@@ -7,6 +7,5 @@ pub mod Shape
 pub mod Steps
 pub mod TwoInPlace
 pub mod MapInvariants
-pub mod Rotations
 pub mod MapViews
 pub mod LeastEntry

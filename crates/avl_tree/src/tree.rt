@@ -1,5 +1,5 @@
 // The nodes of the tree, and their rotations.
-ghost use Rattle.std.specs.Prelude.{◌≡◌, ◌+◌, ◌<◌, ◌≤◌, ◌++◌, ◌∷◌, max, IfSome};
+ghost use Rattle.std.specs.Prelude.{◌≡◌, ◌+◌, ◌<◌, ◌≤◌, max, IfSome};
 ghost use Rattle.avl_tree.specs.Nodes.{entries, entries_at, entry, height_at, stored_height, IsAvl, IsNearlyAvl, SettlesTo, IsBare, IsHeightOver, IsLevelAt, IsGrown, DifferByAtMost};
 ghost use Rattle.std.specs.Borrow.{sem};
 ghost use Rattle.avl_tree.specs.private.Sides.{lends_side, side_of};
@@ -100,29 +100,9 @@ fn over<K, V, A: Allocator>(node: Box<Node<K, V, A>, A>) -> Tree<K, V, A>
     Tree::Fork(height, node)
 }
 
-/// The tree of a node with no sides over these two, which differ by at most one level.
-fn join<K, V, A: Allocator>(
-    left: Tree<K, V, A>,
-    mut node: Box<Node<K, V, A>, A>,
-    right: Tree<K, V, A>,
-) -> Tree<K, V, A>
-    requires bare { IsBare node.value }
-    requires left { IsAvl left }
-    requires right { IsAvl right }
-    requires close { DifferByAtMost 1 (stored_height left) (stored_height right) }
-    requires height_fits { max (stored_height left) (stored_height right) < 255 }
-    ensures balanced { IsAvl result }
-    ensures entries { entries result ≡ entries left ++ entry node.value ∷ entries right }
-    ensures height { stored_height result ≡ max (stored_height left) (stored_height right) + 1 }
-{
-    put(&mut node.left, left);
-    put(&mut node.right, right);
-    over(node)
-}
-
 /// The tree of a node whose left side is two levels higher. That side's root comes over the node; or, if it leans to the right, the root of its right
 /// side comes over both.
-fn lean_left<K, V, A: Allocator>(node: Box<Node<K, V, A>, A>) -> Tree<K, V, A>
+fn lean_left<K, V, A: Allocator>(mut node: Box<Node<K, V, A>, A>) -> Tree<K, V, A>
     requires left { IsAvl node.value.left }
     requires right { IsAvl node.value.right }
     requires two_higher { stored_height node.value.left ≡ stored_height node.value.right + 2 }
@@ -131,23 +111,26 @@ fn lean_left<K, V, A: Allocator>(node: Box<Node<K, V, A>, A>) -> Tree<K, V, A>
     ensures entries { entries result ≡ entries_at node.value }
     ensures height { IsGrown (stored_height node.value.left) (stored_height result) }
 {
-    let (left, node, right) = split(node);
-    let Tree::Fork(_, top) = left else {
+    let Tree::Fork(_, mut top) = take(&mut node.left) else {
         unreachable!()
     };
-    let (outer, top, inner) = split(top);
-    if height(&outer) >= height(&inner) {
-        return join(outer, top, join(inner, node, right));
+    if height(&top.left) >= height(&top.right) {
+        put(&mut node.left, take(&mut top.right));
+        put(&mut top.right, over(node));
+        return over(top);
     }
-    let Tree::Fork(_, middle) = inner else {
+    let Tree::Fork(_, mut middle) = take(&mut top.right) else {
         unreachable!()
     };
-    let (low, middle, high) = split(middle);
-    join(join(outer, top, low), middle, join(high, node, right))
+    put(&mut top.right, take(&mut middle.left));
+    put(&mut node.left, take(&mut middle.right));
+    put(&mut middle.left, over(top));
+    put(&mut middle.right, over(node));
+    over(middle)
 }
 
 /// The tree of a node whose right side is two levels higher, as [`lean_left`] makes it.
-fn lean_right<K, V, A: Allocator>(node: Box<Node<K, V, A>, A>) -> Tree<K, V, A>
+fn lean_right<K, V, A: Allocator>(mut node: Box<Node<K, V, A>, A>) -> Tree<K, V, A>
     requires left { IsAvl node.value.left }
     requires right { IsAvl node.value.right }
     requires two_higher { stored_height node.value.right ≡ stored_height node.value.left + 2 }
@@ -156,19 +139,22 @@ fn lean_right<K, V, A: Allocator>(node: Box<Node<K, V, A>, A>) -> Tree<K, V, A>
     ensures entries { entries result ≡ entries_at node.value }
     ensures height { IsGrown (stored_height node.value.right) (stored_height result) }
 {
-    let (left, node, right) = split(node);
-    let Tree::Fork(_, top) = right else {
+    let Tree::Fork(_, mut top) = take(&mut node.right) else {
         unreachable!()
     };
-    let (inner, top, outer) = split(top);
-    if height(&inner) <= height(&outer) {
-        return join(join(left, node, inner), top, outer);
+    if height(&top.right) >= height(&top.left) {
+        put(&mut node.right, take(&mut top.left));
+        put(&mut top.left, over(node));
+        return over(top);
     }
-    let Tree::Fork(_, middle) = inner else {
+    let Tree::Fork(_, mut middle) = take(&mut top.left) else {
         unreachable!()
     };
-    let (low, middle, high) = split(middle);
-    join(join(left, node, low), middle, join(high, top, outer))
+    put(&mut top.left, take(&mut middle.right));
+    put(&mut node.right, take(&mut middle.left));
+    put(&mut middle.left, over(node));
+    put(&mut middle.right, over(top));
+    over(middle)
 }
 
 /// The tree of a node over its sides, which differ by at most two levels.
