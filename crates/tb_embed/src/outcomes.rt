@@ -3,7 +3,7 @@ ghost use Rattle.std.specs.Prelude.{◌≡◌};
 ghost use Rattle.tb_embed.specs.Outcomes.{outcome_status, length_of};
 
 /// The outcome of a call.
-#[derive(Clone, Copy)]
+#[derive(Clone, Copy, Debug, PartialEq, Eq)]
 pub enum Outcome {
     /// It did what it is for, and wrote this many bytes.
     Done(usize),

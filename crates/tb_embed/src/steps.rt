@@ -8,7 +8,7 @@ use tb_caller::{CallFault, FieldFault, Heard};
 /// a request waits for its reply, 2 no request waits, 3 the session is over. The frame of the request that waits, or was
 /// left in doubt, is kept next to it. A new client is all 0 except its id.
 #[repr(C)]
-#[derive(Clone, Copy)]
+#[derive(Clone, Copy, Debug, PartialEq, Eq)]
 pub struct TbCaller {
     pub id_low: u64,
     pub id_high: u64,
@@ -18,7 +18,7 @@ pub struct TbCaller {
 }
 
 /// The outcome of a call over a client's session.
-#[derive(Clone, Copy)]
+#[derive(Clone, Copy, Debug, PartialEq, Eq)]
 pub enum Step {
     /// It did what it is for: a frame of this many bytes was written or read.
     Done(usize),
