@@ -4,7 +4,6 @@
 Installs the Debian packages of tools/packages.txt that are missing (as root; another user gets
 their names and a failure), and runs `rt ci`. Over the programs that it built come formats, types,
 the quick tests of tests/, telovamish, books and the host, and the own tests of the four clients.
-The library for C is built once more, since `rt ci` leaves no archive of it, and called.
 After the proofs two lanes of parts run next to each other; what a part prints goes out when it has
 ended. The last line is 'N passed, M failed' over all parts; a part that cannot be run counts as one
 failure.
@@ -97,8 +96,6 @@ FORMATS, LANGUAGES = [PYTHON, "tools/formats.py"], ["C", "Java", "JavaScript", "
 PACKAGES = ["clients/python", "apps/telovamish", "apps/host", "apps/books"]
 WORDS = [f"tests/test_{it}.py" for it in ("run", "page", "sending", "recorded_texts")]
 HOST = [f"tests/test_{it}.py" for it in ("shares", "early", "pipes", "host")]
-EMBEDDED = [f"tests/embedding/test_{it}.py" for it in ("calls", "caller")]
-ARCHIVE = "(cd crates/tb_embed && rt lib --jobs 2)"
 BOOKS = [f"tests/test_{it}.py" for it in ("load", "check", "views", "names", "books", "drawn")]
 PARTS = [
     Part("proofs", ".", ["rt", "ci"], closing_line),
@@ -115,12 +112,6 @@ PARTS = [
     Part("books", "apps/books", [*PYTEST, "-n", "2", *BOOKS], pytest_counts),
     Part("host", "apps/host", [*PYTEST, "-n", "2", *HOST], pytest_counts),
     Part("client in Python", "clients/python", [*PYTEST, "-n", "2", "tests"], pytest_counts),
-    Part(
-        "embedded library",
-        ".",
-        ["sh", "-c", f"{ARCHIVE} && {shlex.join([*PYTEST, *EMBEDDED])}"],
-        pytest_counts,
-    ),
     Part("embedded in Python", "clients/embed/python", PYTEST, pytest_counts),
     Part("conformance kit", "clients/conformance", [*PYTEST, "-n", "2"], pytest_counts),
     Part("format of Go", "clients/go", ["sh", "-c", 'test -z "$(gofmt -l .)"'], by_status),

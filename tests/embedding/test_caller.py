@@ -1,13 +1,16 @@
 """The proved session of a client, by the wrapper in Python over tb_embed's library: each call, each
-fault by its name, and each allocation refused in turn. conftest.py says what they need."""
+fault by its name, and each allocation refused in turn. Needs cc and the library that
+`rt lib` leaves in crates/tb_embed/out, or for most of it a shared object in TB_EMBED_SO."""
 
 import ctypes
+import os
+import subprocess
 import sys
+from pathlib import Path
 
 import pytest
 
 from ..conftest import ROOT
-from .conftest import shared
 
 sys.path.append(str(ROOT / "clients/embed/python"))
 
@@ -15,6 +18,7 @@ from tb_caller import Caller, Fault, Fields, Heard, Library, Phase  # noqa: E402
 
 pytestmark = pytest.mark.slow
 HERE = ROOT / "tests" / "embedding"
+ARCHIVE = ROOT / "crates/tb_embed/out/libtb_embed.a"
 ACCOUNT = 131
 
 
@@ -37,9 +41,20 @@ LOOKUP = frame(body=(5).to_bytes(16, "little"))
 CLIENT = 2**64 + 7
 
 
+def shared(made, *more):
+    """The whole archive as a shared object, with these sources and archives."""
+    whole = ["-Wl,--whole-archive", str(ARCHIVE), "-Wl,--no-whole-archive"]
+    subprocess.run(["cc", "-shared", "-fPIC", "-O1", *whole, *more, "-o", str(made)], check=True)
+    return made
+
+
 @pytest.fixture(scope="module")
-def library(shared_object):
-    return Library(shared_object)
+def library(tmp_path_factory):
+    if named := os.environ.get("TB_EMBED_SO"):
+        return Library(named)
+    said = subprocess.run(["rt", "doc"], stdout=subprocess.PIPE, check=True, text=True).stdout
+    heap = Path(os.environ.get("KIT") or Path(said.strip()).parent, "c/liblibc_c.a")
+    return Library(shared(tmp_path_factory.mktemp("caller") / "libtb_embed.so", str(heap)))
 
 
 def registered(library):

@@ -7,8 +7,6 @@ ghost use Rattle.tb_machine.specs.Runs.{IsTimely};
 ghost use Rattle.tb_embed.specs.Calls.{IsMalformed, IsAnsweredAgain};
 ghost use Rattle.tb_embed.specs.CallRuns.{CallsMakeHistory, OneStatus};
 
-use crate::servers::TbServer;
-
 /// The frame of a request is not malformed. So `tb_embed_serve` returns status 4 only if the bytes have a fault or more
 /// bytes follow a frame.
 pub fn frames_are_not_malformed()
@@ -35,11 +33,3 @@ pub fn calls_make_history()
 pub fn one_status()
     ensures { OneStatus }
 {}
-
-/// Takes a type whose values may go to another thread.
-fn expect_send<T: Send>() {}
-
-/// A handle may go to another thread.
-pub fn handles_may_be_sent() {
-    expect_send::<TbServer>();
-}

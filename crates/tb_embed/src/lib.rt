@@ -17,6 +17,7 @@
 //! - `calling`: what the calls over a client's session do.
 //! - `callers`: what C calls over a client's session.
 //! - `laws`: laws of the calls: functions that do nothing.
+//! - `tests`: the calls, made as C makes them.
 #![tactic(auto)]
 
 mod asking;
@@ -33,6 +34,8 @@ mod rooms;
 pub mod servers;
 mod showing;
 pub mod steps;
+#[cfg(test)]
+mod tests;
 
 pub use servers::TbServer;
 pub use steps::TbCaller;
