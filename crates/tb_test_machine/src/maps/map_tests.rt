@@ -83,7 +83,7 @@ fn spare_nodes_are_kept(rt: HostRuntime) {
     drop(map);
 }
 
-/// So many that they have to be let go without a call for each within another.
+/// So many that they have to be freed without a call for each within another.
 #[test]
 fn many_spare_nodes_are_let_go(rt: HostRuntime) {
     let map = with_room(&rt, rt.alloc(), 1_000_000);

@@ -14,7 +14,7 @@ use tb_test_fixtures::reaches;
 /// How often a thread that waits for ten seat calls looks at most.
 const LOOKS: u32 = 100_000_000;
 
-/// The place that waits at a gate, or 0 if a limit was reached or a moment told too early, and how many seat calls were made.
+/// The place that waits at a gate, or 0 if a limit was reached or a moment was asked for too early, and how many seat calls were made.
 #[derive(Drop)]
 pub(crate) struct Watch {
     pub(crate) stands: AtomicU64,
