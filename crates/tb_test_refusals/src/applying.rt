@@ -1,65 +1,16 @@
 //! `Machine::apply`: a refused call leaves all as it was, and made again it gives the answer.
-use crate::scripts::{Pair, copy_of, put_reply};
-use crate::troubles::{Trouble, Why, expect, note};
+use crate::scripts::{Pair, Script, copy_of, put_reply};
+use crate::troubles::{Trouble, Why, expect, note_no_memory};
 use std::alloc::{AllocError, Global};
 use tb_machine::{Entry, Machine, answer_of};
-use tb_records::{Account, Body, ClientsMax, Profile, Reply, Transfer};
+use tb_records::{Account, Body, Profile, Reply, Request, Transfer};
 use tb_sessions::Class;
 
-/// The bytes that the replies of all clients may have.
-const ROOM_BYTES: usize = 1 << 20;
+/// The bytes of replies that there is capacity for.
+const BYTES_CAPACITY: usize = 1 << 20;
 
-/// Whatever a script names.
-#[derive(Drop)]
-struct Named {
-    accounts: Vec<u128>,
-    transfers: Vec<u128>,
-    clients: Vec<u128>,
-}
-
-impl Named {
-    /// Notes what a request names.
-    fn add(&mut self, pair: &Pair) -> Result<(), Trouble> {
-        self.clients.push(pair.request.client())?;
-        match pair.request.body() {
-            Body::CreateAccounts(events) => {
-                for event in events.as_slice() {
-                    self.accounts.push(event.id)?;
-                }
-            }
-            Body::CreateTransfers(events) => {
-                for event in events.as_slice() {
-                    self.transfers.push(event.id)?;
-                }
-            }
-            _ => {}
-        }
-        Ok(())
-    }
-}
-
-/// Notes what requests name.
-fn add_all(named: &mut Named, pairs: &[Pair]) -> Result<(), Trouble> {
-    for pair in pairs {
-        named.add(pair)?;
-    }
-    Ok(())
-}
-
-fn named_in(alloc: Global, pairs: &[Pair]) -> Result<Named, Trouble> {
-    let mut named = Named {
-        accounts: Vec::new(alloc),
-        transfers: Vec::new(alloc),
-        clients: Vec::new(alloc),
-    };
-    match add_all(&mut named, pairs) {
-        Ok(()) => Ok(named),
-        Err(trouble) => {
-            drop(named);
-            Err(trouble)
-        }
-    }
-}
+/// The accounts, and the transfers, that there is capacity for.
+const ROWS_CAPACITY: usize = 1 << 10;
 
 /// What a machine shows of whatever a script names: its accounts, transfers and stored replies, its last commit number and
 /// time.
@@ -73,66 +24,77 @@ struct Shown {
 }
 
 impl Shown {
-    /// Nothing, with capacity for all that a script names.
-    fn with_room(alloc: Global, named: &Named) -> Result<Shown, Trouble> {
-        Ok(Shown {
+    /// Nothing, without memory.
+    fn new(alloc: Global) -> Shown {
+        Shown {
             commit: 0,
             time: 0,
-            accounts: Vec::with_capacity(alloc, named.accounts.len())?,
-            transfers: Vec::with_capacity(alloc, named.transfers.len())?,
-            replies: Vec::with_capacity(alloc, ROOM_BYTES)?,
-        })
+            accounts: Vec::new(alloc),
+            transfers: Vec::new(alloc),
+            replies: Vec::new(alloc),
+        }
     }
 
+    /// Reserves memory for what the scripts of the tests name.
+    fn reserve(&mut self) -> Result<(), AllocError> {
+        self.accounts.reserve(ROWS_CAPACITY)?;
+        self.transfers.reserve(ROWS_CAPACITY)?;
+        self.replies.reserve(BYTES_CAPACITY)
+    }
+
+    /// Looks for the accounts of these ids.
     fn look_for_accounts(
         &mut self,
         machine: &Machine<Global>,
-        named: &Named,
+        events: &[Account],
     ) -> Result<(), Trouble> {
-        self.accounts.clear();
-        for id in named.accounts.as_slice() {
-            if let Some(account) = machine.account(*id) {
+        for event in events {
+            if let Some(account) = machine.account(event.id) {
                 self.accounts.push(account)?;
             }
         }
         Ok(())
     }
 
+    /// Looks for the transfers of these ids.
     fn look_for_transfers(
         &mut self,
         machine: &Machine<Global>,
-        named: &Named,
+        events: &[Transfer],
     ) -> Result<(), Trouble> {
-        self.transfers.clear();
-        for id in named.transfers.as_slice() {
-            if let Some(transfer) = machine.transfer(*id) {
+        for event in events {
+            if let Some(transfer) = machine.transfer(event.id) {
                 self.transfers.push(transfer)?;
             }
         }
         Ok(())
     }
 
-    fn look_for_replies(
-        &mut self,
-        machine: &Machine<Global>,
-        named: &Named,
-    ) -> Result<(), Trouble> {
-        self.replies.clear();
-        for client in named.clients.as_slice() {
-            if let Some(reply) = machine.reply_of(*client) {
-                put_reply(reply, &mut self.replies)?;
-            }
+    /// Looks for what a request names.
+    fn look_for(&mut self, machine: &Machine<Global>, request: &Request) -> Result<(), Trouble> {
+        if let Some(reply) = machine.reply_of(request.client()) {
+            put_reply(reply, &mut self.replies)?;
         }
-        Ok(())
+        match request.body() {
+            Body::CreateAccounts(events) => self.look_for_accounts(machine, events.as_slice()),
+            Body::CreateTransfers(events) => self.look_for_transfers(machine, events.as_slice()),
+            _ => Ok(()),
+        }
     }
 
     /// Looks at a machine.
-    fn look(&mut self, machine: &Machine<Global>, named: &Named) -> Result<(), Trouble> {
+    fn look(&mut self, machine: &Machine<Global>, pairs: &[Pair]) -> Result<(), Trouble> {
         self.commit = machine.commit();
         self.time = machine.time();
-        self.look_for_accounts(machine, named)?;
-        self.look_for_transfers(machine, named)?;
-        self.look_for_replies(machine, named)
+        self.accounts.clear();
+        self.transfers.clear();
+        self.replies.clear();
+        for pair in pairs {
+            if let Err(trouble) = self.look_for(machine, &pair.request) {
+                return Err(trouble);
+            }
+        }
+        Ok(())
     }
 
     fn same(&self, other: &Shown) -> bool {
@@ -144,176 +106,164 @@ impl Shown {
     }
 }
 
-/// A machine, what it showed before the last call, and what after it.
-struct Watched<'a> {
-    machine: Machine<Global>,
-    named: &'a Named,
+/// A script, what a machine showed of it before the last call, and what after it.
+#[derive(Drop)]
+struct Watch<'a> {
+    script: &'a Script<'a>,
     before: Shown,
-    behind: Shown,
+    after: Shown,
 }
 
-impl Drop for Watched<'_> {
-    fn drop(self) {
-        let Watched {
-            machine,
-            named: _,
-            before,
-            behind,
-        } = self;
-        drop(machine);
-        drop(before);
-        drop(behind);
+impl Watch<'_> {
+    /// After a refused call: nothing has changed.
+    fn expect_same(&mut self, machine: &Machine<Global>) -> Result<(), Trouble> {
+        if let Err(trouble) = self.after.look(machine, self.script.pairs) {
+            return Err(trouble);
+        }
+        expect(self.before.same(&self.after), Why::Changed)
     }
-}
 
-impl Watched<'_> {
     /// Applies an entry that may come next; if that is refused, nothing has changed, and it is applied again.
-    fn apply<R: Eprint>(&mut self, rt: &R, entry: &Entry) -> Result<(), Trouble> {
-        self.before.look(&self.machine, self.named)?;
-        if !self.machine.fits(entry) {
+    fn apply<R: Eprint>(
+        &mut self,
+        rt: &R,
+        machine: &mut Machine<Global>,
+        entry: &Entry,
+    ) -> Result<(), Trouble> {
+        if !machine.fits(entry) {
             return Err(Trouble::Wrong(Why::Unfit));
         }
-        if self.machine.apply(entry).is_ok() {
+        if let Err(trouble) = self.before.look(machine, self.script.pairs) {
+            return Err(trouble);
+        }
+        if machine.apply(entry).is_ok() {
             return Ok(());
         }
-        note(rt, "apply NoMemory");
-        self.behind.look(&self.machine, self.named)?;
-        expect(self.before.same(&self.behind), Why::Changed)?;
-        if self.machine.fits(entry) && self.machine.apply(entry).is_ok() {
-            return Ok(());
+        note_no_memory(rt, "apply");
+        if let Err(trouble) = self.expect_same(machine) {
+            return Err(trouble);
         }
-        Err(Trouble::Wrong(Why::RefusedTwice))
+        expect(
+            machine.fits(entry) && machine.apply(entry).is_ok(),
+            Why::RefusedTwice,
+        )
     }
 
     /// Enters the request of a pair, if it is new.
-    fn enter<R: Eprint>(&mut self, rt: &R, alloc: Global, pair: &Pair) -> Result<(), Trouble> {
-        if self.machine.class(&pair.request) != Class::New {
+    fn enter<R: Eprint>(
+        &mut self,
+        rt: &R,
+        machine: &mut Machine<Global>,
+        pair: &Pair,
+    ) -> Result<(), Trouble> {
+        if machine.class(&pair.request) != Class::New {
             return Ok(());
         }
         let events = pair.request.body().event_count() as u64;
-        let time = self.machine.next_time(pair.moment, events);
-        let entry = Entry {
-            commit: self.machine.commit() + 1,
-            time: time.ok_or(Trouble::Wrong(Why::NoTime))?,
-            request: copy_of(rt, alloc, &pair.request)?,
+        let Some(time) = machine.next_time(pair.moment, events) else {
+            return Err(Trouble::Wrong(Why::NoTime));
         };
-        let applied = self.apply(rt, &entry);
+        let entry = Entry {
+            commit: machine.commit() + 1,
+            time,
+            request: copy_of(rt, self.script.alloc, &pair.request)?,
+        };
+        let applied = self.apply(rt, machine, &entry);
         drop(entry);
         applied
     }
 
-    /// The answer to a request.
-    fn answer<R: Eprint>(&self, rt: &R, alloc: Global, pair: &Pair) -> Result<Reply, Trouble> {
-        match answer_of(alloc, &self.machine, &pair.request) {
-            Ok(reply) => Ok(reply),
-            Err(AllocError) => {
-                note(rt, "answer_of NoMemory");
-                Ok(answer_of(alloc, &self.machine, &pair.request)?)
-            }
-        }
-    }
-
-    /// Enters the request of a pair, and appends the answer to it.
+    /// Enters the request of each pair, and appends the answer to it.
     fn serve<R: Eprint>(
         &mut self,
         rt: &R,
-        alloc: Global,
-        pair: &Pair,
+        machine: &mut Machine<Global>,
         out: &mut Vec<u8>,
     ) -> Result<(), Trouble> {
-        self.enter(rt, alloc, pair)?;
-        let reply = self.answer(rt, alloc, pair)?;
-        let put = put_reply(&reply, out);
-        drop(reply);
-        put
-    }
-
-    /// Serves all pairs, one after another.
-    fn serve_all<R: Eprint>(
-        &mut self,
-        rt: &R,
-        alloc: Global,
-        pairs: &[Pair],
-        out: &mut Vec<u8>,
-    ) -> Result<(), Trouble> {
-        for pair in pairs {
-            self.serve(rt, alloc, pair, out)?;
+        for pair in self.script.pairs {
+            if let Err(trouble) = self.enter(rt, machine, pair) {
+                return Err(trouble);
+            }
+            if let Err(trouble) = put_answer(rt, self.script.alloc, machine, &pair.request, out) {
+                return Err(trouble);
+            }
         }
         Ok(())
     }
 }
 
-fn new_machine<R: Eprint>(
+/// The answer to a request; the allocation for it may be refused once.
+fn answer<R: Eprint>(
     rt: &R,
     alloc: Global,
-    clients_max: ClientsMax,
-) -> Result<Machine<Global>, Trouble> {
+    machine: &Machine<Global>,
+    request: &Request,
+) -> Result<Reply, AllocError> {
+    match answer_of(alloc, machine, request) {
+        Ok(reply) => Ok(reply),
+        Err(AllocError) => {
+            note_no_memory(rt, "answer_of");
+            answer_of(alloc, machine, request)
+        }
+    }
+}
+
+/// Appends the answer to a request.
+fn put_answer<R: Eprint>(
+    rt: &R,
+    alloc: Global,
+    machine: &Machine<Global>,
+    request: &Request,
+    out: &mut Vec<u8>,
+) -> Result<(), Trouble> {
+    match answer(rt, alloc, machine, request) {
+        Ok(reply) => {
+            let put = put_reply(&reply, out);
+            drop(reply);
+            put
+        }
+        Err(AllocError) => Err(Trouble::SetUp),
+    }
+}
+
+/// A machine; an allocation for it may be refused once.
+fn new_machine<R: Eprint>(rt: &R, script: &Script<'_>) -> Result<Machine<Global>, AllocError> {
+    let (alloc, clients_max) = (script.alloc, script.clients_max);
     match Machine::new_in(alloc, alloc, Profile::One, clients_max) {
         Ok(machine) => Ok(machine),
         Err(AllocError) => {
-            note(rt, "new_in NoMemory");
-            Ok(Machine::new_in(alloc, alloc, Profile::One, clients_max)?)
+            note_no_memory(rt, "new_in");
+            Machine::new_in(alloc, alloc, Profile::One, clients_max)
         }
     }
 }
 
-/// A machine that is watched for whatever a script names.
-fn watch<'a, R: Eprint>(
+/// Serves a script, which is watched, by a new machine.
+fn apply_watched<R: Eprint>(
     rt: &R,
-    alloc: Global,
-    clients_max: ClientsMax,
-    named: &'a Named,
-) -> Result<Watched<'a>, Trouble> {
-    let before = Shown::with_room(alloc, named)?;
-    let behind = match Shown::with_room(alloc, named) {
-        Ok(behind) => behind,
-        Err(trouble) => {
-            drop(before);
-            return Err(trouble);
-        }
-    };
-    match new_machine(rt, alloc, clients_max) {
-        Ok(machine) => {
-            Ok(Watched {
-                machine,
-                named,
-                before,
-                behind,
-            })
-        }
-        Err(trouble) => {
-            drop(before);
-            drop(behind);
-            Err(trouble)
-        }
-    }
-}
-
-/// Serves the pairs of a script, which name these.
-fn apply_named<R: Eprint>(
-    rt: &R,
-    alloc: Global,
-    clients_max: ClientsMax,
-    named: &Named,
-    pairs: &[Pair],
+    watch: &mut Watch<'_>,
     out: &mut Vec<u8>,
 ) -> Result<(), Trouble> {
-    let mut watched = watch(rt, alloc, clients_max, named)?;
-    let served = watched.serve_all(rt, alloc, pairs, out);
-    drop(watched);
-    served
+    watch.before.reserve()?;
+    watch.after.reserve()?;
+    match new_machine(rt, watch.script) {
+        Ok(mut machine) => {
+            let served = watch.serve(rt, &mut machine, out);
+            drop(machine);
+            served
+        }
+        Err(AllocError) => Err(Trouble::SetUp),
+    }
 }
 
 /// Applies the entries of a script, and appends the answers to its requests.
-pub fn apply_all<R: Eprint>(
-    rt: &R,
-    alloc: Global,
-    clients_max: ClientsMax,
-    pairs: &[Pair],
-    out: &mut Vec<u8>,
-) -> Result<(), Trouble> {
-    let named = named_in(alloc, pairs)?;
-    let served = apply_named(rt, alloc, clients_max, &named, pairs, out);
-    drop(named);
+pub fn apply_all<R: Eprint>(rt: &R, script: &Script<'_>, out: &mut Vec<u8>) -> Result<(), Trouble> {
+    let mut watch = Watch {
+        script,
+        before: Shown::new(script.alloc),
+        after: Shown::new(script.alloc),
+    };
+    let served = apply_watched(rt, &mut watch, out);
+    drop(watch);
     served
 }

@@ -2,20 +2,18 @@
 //! refused call again. tests/programs/test_refusals.py runs it with each allocation refused in turn, one a run. `tb_test_refusals
 //! read` reads frames.
 //!
-//! The forms `apply`, `take`, `offer` and `call` look at what a refused call left behind; `run`, `dump` and `replay` (which
-//! reads a dump) end at their first fault, and print its kind. What was answered goes to standard output, and a line for
-//! each refusal to standard error; Trouble::exit_status gives the exit statuses.
+//! The forms `apply`, `take`, `offer` and `call` look at what a refused call left. What was answered goes to standard
+//! output, and a line for each refusal to standard error; Trouble::exit_status gives the exit statuses.
 //!
 //! Modules, each over those before it:
 //!
 //! - `troubles`: exit statuses, and the line of a refusal.
 //! - `scripts`: the pairs of a script, and what is written of a history.
-//! - `openings`: openings that may be refused.
 //! - `applying`: `apply`, one machine.
 //! - `taking`: `take`, a publisher and a seat.
+//! - `ports`: the ports of a service, and the moments of its requests.
 //! - `offering`: `offer`, ports that are closed before the server runs.
 //! - `calling`: `call`, a port's calls next to the server.
-//! - `running`: `run`, `dump` and `replay`.
 //! - `reading`: `read`: frames that are read, and written again.
 #![tactic(auto)]
 
@@ -24,15 +22,13 @@ ghost use Rattle.std.specs.Prelude.{◌≡◌};
 mod applying;
 mod calling;
 mod offering;
-mod openings;
+mod ports;
 mod reading;
-mod running;
 mod scripts;
 mod taking;
 mod troubles;
 
-use running::{Call, call_once};
-use scripts::{Pair, Work, read_pairs};
+use scripts::{Script, read_pairs};
 use std::alloc::Global;
 use std::env;
 use std::io::{Read, Write};
@@ -40,12 +36,12 @@ use std::marker::Brand;
 use std::process::ExitCode;
 use std::sync::Wait;
 use std::thread::Threads;
-use tb_published::{Naming, Opening};
+use tb_published::{Naming, Opening, Publisher, Seat, SeatCount, open};
 use tb_records::{ClientsMax, Profile};
-use troubles::{Trouble, Why};
+use troubles::{Trouble, Why, note};
 
 /// The bytes of output that there is capacity for.
-const ROOM_BYTES: usize = 1 << 20;
+const OUTPUT_CAPACITY: usize = 1 << 20;
 
 /// How the script reaches a publisher.
 #[derive(Clone, Copy)]
@@ -65,8 +61,6 @@ enum Served {
     Apply,
     /// A publisher and a seat.
     Publish(Way),
-    /// A call that ends at its first fault.
-    Once(Call),
 }
 
 /// What the program was asked to do.
@@ -85,24 +79,33 @@ fn served_by(word: &str) -> Option<Served> {
         "take" => Some(Served::Publish(Way::Take)),
         "offer" => Some(Served::Publish(Way::Offer)),
         "call" => Some(Served::Publish(Way::Call)),
-        "run" => Some(Served::Once(Call::Run)),
-        "dump" => Some(Served::Once(Call::Dump)),
-        "replay" => Some(Served::Once(Call::Replay)),
+        _ => None,
+    }
+}
+
+/// The most clients with a session, in digits.
+fn clients_by(word: &str) -> Option<ClientsMax> {
+    match word.parse::<u32>() {
+        Ok(clients) => ClientsMax::new(clients),
+        Err(_) => None,
+    }
+}
+
+/// The form that a word names, with a number.
+fn form_by(form: &str, clients: &str) -> Option<Form> {
+    match (served_by(form), clients_by(clients)) {
+        (Some(by), Some(clients_max)) => Some(Form::Serve(by, clients_max)),
         _ => None,
     }
 }
 
 /// The form that words name.
-fn form_of(words: &[String]) -> Result<Form, Trouble> {
-    let word = words.get(0).ok_or(Trouble::SetUp)?;
-    if word.as_str() == "read" {
-        return Ok(Form::Read);
+fn form_of(words: &[String]) -> Option<Form> {
+    match (words.get(0), words.get(1)) {
+        (Some(form), Some(clients)) => form_by(form.as_str(), clients.as_str()),
+        (Some(form), None) if form.as_str() == "read" => Some(Form::Read),
+        _ => None,
     }
-    let clients = words.get(1).ok_or(Trouble::SetUp)?;
-    let served = served_by(word.as_str()).ok_or(Trouble::SetUp)?;
-    let clients = clients.as_str().parse::<u32>().map_err(|_| Trouble::SetUp)?;
-    let clients_max = ClientsMax::new(clients).ok_or(Trouble::SetUp)?;
-    Ok(Form::Serve(served, clients_max))
 }
 
 /// The form that the program's words name.
@@ -111,44 +114,62 @@ fn read_words(rt: &HostRuntime) -> Result<Form, Trouble> {
     for word in env::args(rt)?.skip(1) {
         words.push(word)?;
     }
-    form_of(words.as_slice())
+    form_of(words.as_slice()).ok_or(Trouble::SetUp)
+}
+
+/// Serves a script by a publisher and a seat. False if their service is refused.
+fn serve_opened<J: Naming + Send + Sync, R: Threads + Wait + Eprint + Sync>(
+    rt: &R,
+    way: Way,
+    script: &Script<'_>,
+    publisher: Publisher<J>,
+    seat: &mut Seat<J>,
+    out: &mut Vec<u8>,
+) -> Result<bool, Trouble> {
+    match way {
+        Way::Take => taking::take_all(rt, script, publisher, seat, out),
+        Way::Offer => offering::offer_all(rt, script, publisher, seat, out),
+        Way::Call => calling::call_all(rt, script, publisher, seat, out),
+    }
 }
 
 /// Serves a script by an opening. False if the opening, or its service, is refused.
 fn serve_opening<J: Naming + Send + Sync, R: Threads + Wait + Eprint + Sync>(
     rt: &R,
     way: Way,
-    work: Work<'_>,
+    script: &Script<'_>,
+    opening: Opening,
+    out: &mut Vec<u8>,
 ) -> Result<bool, Trouble>
-    requires { work.opening ≡ J.opening }
+    requires { opening ≡ J.opening }
 {
-    match way {
-        Way::Take => taking::take_all::<J, R>(rt, work),
-        Way::Offer => offering::offer_all::<J, R>(rt, work),
-        Way::Call => calling::call_all::<J, R>(rt, work),
+    match open::<J, R>(script.alloc, rt, opening, SeatCount::new(2).unwrap()) {
+        Ok((publisher, mut seats)) => {
+            let seat = seats.first_mut().unwrap();
+            let served = serve_opened(rt, way, script, publisher, seat, out);
+            drop(seats);
+            served
+        }
+        Err(fault) => {
+            note(rt, "open", fault.name());
+            Ok(false)
+        }
     }
 }
 
 /// Serves a script by a publisher: by another one if the first is refused, because one allocation a run is refused.
 fn serve_published<R: Threads + Wait + Eprint + Sync>(
     rt: &R,
-    alloc: Global,
     way: Way,
-    clients_max: ClientsMax,
-    pairs: &[Pair],
+    script: &Script<'_>,
     out: &mut Vec<u8>,
 ) -> Result<(), Trouble> {
     for _ in 0..2 {
-        let opening = Opening::new(Profile::One, clients_max);
-        let work = Work {
-            alloc,
-            opening,
-            clients_max,
-            pairs,
-            out: &mut *out,
-        };
-        if serve_opening::<Brand, R>(rt, way, work)? {
-            return Ok(());
+        let opening = Opening::new(Profile::One, script.clients_max);
+        match serve_opening::<Brand, R>(rt, way, script, opening, out) {
+            Ok(true) => return Ok(()),
+            Ok(false) => {}
+            Err(trouble) => return Err(trouble),
         }
     }
     Err(Trouble::Wrong(Why::RefusedTwice))
@@ -160,27 +181,21 @@ fn serve<R: Threads + Wait + Eprint + Sync>(
     alloc: Global,
     by: Served,
     clients_max: ClientsMax,
-    script: &[u8],
+    bytes: &[u8],
     out: &mut Vec<u8>,
 ) -> Result<(), Trouble> {
-    match by {
-        Served::Once(call) => {
-            call_once(rt, alloc, call, clients_max, script, out);
-            Ok(())
-        }
-        Served::Apply => {
-            let pairs = read_pairs(alloc, script)?;
-            let served = applying::apply_all(rt, alloc, clients_max, pairs.as_slice(), out);
-            drop(pairs);
-            served
-        }
-        Served::Publish(way) => {
-            let pairs = read_pairs(alloc, script)?;
-            let served = serve_published(rt, alloc, way, clients_max, pairs.as_slice(), out);
-            drop(pairs);
-            served
-        }
-    }
+    let pairs = read_pairs(alloc, bytes)?;
+    let script = Script {
+        alloc,
+        clients_max,
+        pairs: pairs.as_slice(),
+    };
+    let served = match by {
+        Served::Apply => applying::apply_all(rt, &script, out),
+        Served::Publish(way) => serve_published(rt, way, &script, out),
+    };
+    drop(pairs);
+    served
 }
 
 /// What the program was asked to do, what it was given, and its output.
@@ -196,7 +211,7 @@ fn read_task(rt: &HostRuntime) -> Result<Task, Trouble> {
     let form = read_words(rt)?;
     let mut input = Vec::new(rt.alloc());
     rt.stdin().read_to_end(&mut input)?;
-    let out = Vec::with_capacity(rt.alloc(), ROOM_BYTES)?;
+    let out = Vec::with_capacity(rt.alloc(), OUTPUT_CAPACITY)?;
     Ok(Task { form, input, out })
 }
 

@@ -20,36 +20,50 @@ fn compared(bytes: &[u8], length: usize, written: &[u8]) -> u8 {
     }
 }
 
+/// The line of a frame that is read: what the comparison says, if there was memory for what was written.
+fn answer_of(wrote: Result<(), AllocError>, answer: u8) -> u8 {
+    match wrote {
+        Ok(()) => answer,
+        Err(AllocError) => FrameFault::NoMemory.number(),
+    }
+}
+
 /// Reads a request's frame, and writes it again.
-fn judge_request(alloc: Global, bytes: &[u8]) -> Result<u8, FrameFault> {
-    let (request, length) = read_request(alloc, bytes)?;
-    let mut written = Vec::new(alloc);
-    match write_request(&request, &mut written) {
-        Ok(()) => Ok(compared(bytes, length, written.as_slice())),
-        Err(AllocError) => Err(FrameFault::NoMemory),
+fn judge_request(alloc: Global, bytes: &[u8]) -> u8 {
+    match read_request(alloc, bytes) {
+        Ok((request, length)) => {
+            let mut written = Vec::new(alloc);
+            let wrote = write_request(&request, &mut written);
+            let answer = compared(bytes, length, written.as_slice());
+            drop(written);
+            drop(request);
+            answer_of(wrote, answer)
+        }
+        Err(fault) => fault.number(),
     }
 }
 
 /// Reads a reply's frame, and writes it again.
-fn judge_reply(alloc: Global, bytes: &[u8]) -> Result<u8, FrameFault> {
-    let (reply, length) = read_reply(alloc, bytes)?;
-    let mut written = Vec::new(alloc);
-    match write_reply(&reply, &mut written) {
-        Ok(()) => Ok(compared(bytes, length, written.as_slice())),
-        Err(AllocError) => Err(FrameFault::NoMemory),
+fn judge_reply(alloc: Global, bytes: &[u8]) -> u8 {
+    match read_reply(alloc, bytes) {
+        Ok((reply, length)) => {
+            let mut written = Vec::new(alloc);
+            let wrote = write_reply(&reply, &mut written);
+            let answer = compared(bytes, length, written.as_slice());
+            drop(written);
+            drop(reply);
+            answer_of(wrote, answer)
+        }
+        Err(fault) => fault.number(),
     }
 }
 
 /// The line of a frame.
 fn judge(alloc: Global, kind: u8, bytes: &[u8]) -> u8 {
-    let judged = match kind {
+    match kind {
         1 => judge_request(alloc, bytes),
         2 => judge_reply(alloc, bytes),
-        _ => Ok(OTHERWISE),
-    };
-    match judged {
-        Ok(answer) => answer,
-        Err(fault) => fault.number(),
+        _ => OTHERWISE,
     }
 }
 
@@ -60,20 +74,20 @@ fn next_frame(input: &[u8]) -> Option<(u8, &[u8], &[u8])> {
         return None;
     };
     let length = u32::from_le_bytes([a, b, c, d]) as usize;
-    let (frame, behind) = rest.split_at_checked(length)?;
-    Some((kind, frame, behind))
+    let (frame, left) = rest.split_at_checked(length)?;
+    Some((kind, frame, left))
 }
 
 /// Appends a line for each frame.
 pub fn read_all(alloc: Global, input: &[u8], out: &mut Vec<u8>) -> Result<(), Trouble> {
     let mut rest = input;
     for _ in 0..=input.len() {
-        let Some((kind, frame, behind)) = next_frame(rest) else {
+        let Some((kind, frame, left)) = next_frame(rest) else {
             break;
         };
         let answer = judge(alloc, kind, frame);
         writeln!(out, "{answer}")?;
-        rest = behind;
+        rest = left;
     }
     Ok(())
 }

@@ -1,8 +1,7 @@
 //! The pairs of a script, and what is written of a history.
-use crate::troubles::{Trouble, Why, expect, note};
+use crate::troubles::{Trouble, Why, expect, note_no_memory};
 use std::alloc::{AllocError, Global};
 use tb_machine::Entry;
-use tb_published::Opening;
 use tb_records::dumps::{send_entry, send_head};
 use tb_records::{
     ClientsMax, Counting, DumpHead, Profile, Reply, Request, RequestStream, write_reply,
@@ -18,14 +17,12 @@ pub struct Pair {
     pub request: Request,
 }
 
-/// A script that publishers are to serve, and where the answers go.
-#[derive(Drop)]
-pub struct Work<'a> {
+/// A script that is to be served.
+#[derive(Clone, Copy)]
+pub struct Script<'a> {
     pub alloc: Global,
-    pub opening: Opening,
     pub clients_max: ClientsMax,
     pub pairs: &'a [Pair],
-    pub out: &'a mut Vec<u8>,
 }
 
 /// Appends all pairs of a script.
@@ -58,40 +55,15 @@ pub fn copy_of<R: Eprint>(rt: &R, alloc: Global, request: &Request) -> Result<Re
     match request.copy(alloc) {
         Ok(copy) => Ok(copy),
         Err(AllocError) => {
-            note(rt, "copy NoMemory");
+            note_no_memory(rt, "copy");
             Ok(request.copy(alloc)?)
-        }
-    }
-}
-
-/// Appends copies of all requests.
-fn put_copies<R: Eprint>(
-    rt: &R,
-    alloc: Global,
-    pairs: &[Pair],
-    all: &mut Vec<Request>,
-) -> Result<(), Trouble> {
-    for pair in pairs {
-        all.push(copy_of(rt, alloc, &pair.request)?)?;
-    }
-    Ok(())
-}
-
-/// Copies of all requests.
-pub fn copy_all<R: Eprint>(rt: &R, alloc: Global, pairs: &[Pair]) -> Result<Vec<Request>, Trouble> {
-    let mut all = Vec::with_capacity(alloc, pairs.len())?;
-    match put_copies(rt, alloc, pairs, &mut all) {
-        Ok(()) => Ok(all),
-        Err(trouble) => {
-            drop(all);
-            Err(trouble)
         }
     }
 }
 
 /// Appends a reply, for which there is capacity.
 pub fn put_reply(reply: &Reply, out: &mut Vec<u8>) -> Result<(), Trouble> {
-    expect(write_reply(reply, out).is_ok(), Why::NoRoom)
+    expect(write_reply(reply, out).is_ok(), Why::NoCapacity)
 }
 
 /// Appends a history as a dump, for which there is capacity.
@@ -109,5 +81,5 @@ pub fn put_history(
     for entry in history {
         whole = send_entry(&mut writer, entry.commit, entry.time, &entry.request).is_ok() && whole;
     }
-    expect(whole, Why::NoRoom)
+    expect(whole, Why::NoCapacity)
 }

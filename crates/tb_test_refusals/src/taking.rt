@@ -1,48 +1,65 @@
-//! `open`, `take` and `Seat::answer`: what is refused leaves what it must, and made again it gives the answer.
-ghost use Rattle.std.specs.Prelude.{◌≡◌};
-
-use crate::openings::opened;
-use crate::scripts::{Pair, Work, copy_of, put_history, put_reply};
+//! `take` and `Seat::answer`: what is refused leaves what it must, and made again it gives the answer.
+use crate::scripts::{Pair, Script, copy_of, put_history, put_reply};
 use crate::troubles::{Trouble, Why, expect, note};
-use std::alloc::Global;
 use std::sync::Wait;
-use tb_published::{Naming, Opening, Publisher, Seat, SeatCount, SeatFault, TakeFault, Taken};
-use tb_records::{ClientsMax, Reply, Request, Status};
+use tb_published::{Naming, Publisher, Seat, TakeFault, Taken};
+use tb_records::{Reply, Request, Status};
 
-/// A call of `take` after a refused one: if the history has grown, it is a repeat.
-fn expect_repeat(again: Result<Taken, TakeFault>, commit: u64) -> Result<(), Trouble> {
-    match again {
-        Ok(Taken::Repeat(c)) if c == commit => Ok(()),
-        _ => Err(Trouble::Wrong(Why::NoRepeat)),
-    }
+/// What a call of `take` returned, and how long the history was before it and after it.
+#[derive(Clone, Copy)]
+struct Call {
+    taken: Result<Taken, TakeFault>,
+    before: u64,
+    after: u64,
 }
 
-/// What `take` returns once nothing is refused: the history has grown by one entry if the result says so, and otherwise
-/// stayed.
-fn expect_taken(taken: Result<Taken, TakeFault>, before: u64, behind: u64) -> Result<(), Trouble> {
-    match taken {
-        Ok(Taken::Committed(c)) => {
-            expect(
-                c == behind && c == before.saturating_add(1),
-                Why::OtherCommit,
-            )
+impl Call {
+    /// The history has grown by this entry, and no other.
+    fn grew_by(self, commit: u64) -> Result<(), Trouble> {
+        expect(
+            commit == self.after && commit == self.before.saturating_add(1),
+            Why::OtherCommit,
+        )
+    }
+
+    /// Nothing is refused: the history has grown by one entry if the result says so, and otherwise stayed.
+    fn expect_taken(self) -> Result<(), Trouble> {
+        match self.taken {
+            Ok(Taken::Committed(c)) => self.grew_by(c),
+            Ok(_) => expect(self.before == self.after, Why::Changed),
+            Err(_) => Err(Trouble::Wrong(Why::RefusedTwice)),
         }
-        Ok(_) => expect(before == behind, Why::Changed),
-        Err(_) => Err(Trouble::Wrong(Why::RefusedTwice)),
+    }
+
+    /// A call after a refused one that entered the request: it is a repeat.
+    fn expect_repeat(self, commit: u64) -> Result<(), Trouble> {
+        match self.taken {
+            Ok(Taken::Repeat(c)) => expect(c == commit, Why::NoRepeat),
+            _ => Err(Trouble::Wrong(Why::NoRepeat)),
+        }
     }
 }
 
-/// Takes a request again that was refused.
-fn take_again<J: Naming, R: Wait + Eprint>(
+/// Takes a copy of the request of a pair.
+fn take_once<J: Naming, R: Wait + Eprint>(
     rt: &R,
-    alloc: Global,
+    script: &Script<'_>,
     publisher: &mut Publisher<J>,
     pair: &Pair,
-    before: u64,
-) -> Result<(), Trouble> {
-    let copy = copy_of(rt, alloc, &pair.request)?;
-    let again = publisher.take(rt, copy, pair.moment);
-    expect_taken(again, before, publisher.history().len() as u64)
+) -> Result<Call, Trouble> {
+    let before = publisher.history().len() as u64;
+    match copy_of(rt, script.alloc, &pair.request) {
+        Ok(copy) => {
+            let taken = publisher.take(rt, copy, pair.moment);
+            let after = publisher.history().len() as u64;
+            Ok(Call {
+                taken,
+                before,
+                after,
+            })
+        }
+        Err(trouble) => Err(trouble),
+    }
 }
 
 /// The copies show less than the history: what a seat sees then.
@@ -52,162 +69,199 @@ fn expect_less<J: Naming>(
     commit: u64,
 ) -> Result<(), Trouble> {
     let seen = seat.seen();
-    expect(seat.status(request).is_ok(), Why::NoStatus)?;
+    if seat.status(request).is_err() {
+        return Err(Trouble::Wrong(Why::NoStatus));
+    }
     expect(
         seen <= seat.seen() && seat.seen() < commit,
         Why::SeenTooMuch,
     )
 }
 
+/// Prints that `take` was refused.
+fn note_take<R: Eprint>(rt: &R, fault: TakeFault, before: u64) {
+    let fault = match fault {
+        TakeFault::Unpublished(c) if c == before => "Unpublished before",
+        TakeFault::Unpublished(_) => "Unpublished after",
+        fault => fault.name(),
+    };
+    note(rt, "take", fault);
+}
+
+/// What a refused call left. The number of the entry if it entered the request all the same, which is not shown then.
+fn entered_by<J: Naming>(
+    call: Call,
+    seat: &mut Seat<J>,
+    request: &Request,
+) -> Result<Option<u64>, Trouble> {
+    match call.taken {
+        Err(TakeFault::TimeExhausted) => Err(Trouble::Wrong(Why::NoTime)),
+        Err(TakeFault::Unpublished(c)) if c != call.before => {
+            if let Err(trouble) = call.grew_by(c) {
+                return Err(trouble);
+            }
+            match expect_less(seat, request, c) {
+                Ok(()) => Ok(Some(c)),
+                Err(trouble) => Err(trouble),
+            }
+        }
+        _ => {
+            match expect(call.after == call.before, Why::Changed) {
+                Ok(()) => Ok(None),
+                Err(trouble) => Err(trouble),
+            }
+        }
+    }
+}
+
+/// Takes the request of a pair again, which is an entry already or not.
+fn take_again<J: Naming, R: Wait + Eprint>(
+    rt: &R,
+    script: &Script<'_>,
+    publisher: &mut Publisher<J>,
+    pair: &Pair,
+    entered: Option<u64>,
+) -> Result<(), Trouble> {
+    match (take_once(rt, script, publisher, pair), entered) {
+        (Ok(again), Some(commit)) => again.expect_repeat(commit),
+        (Ok(again), None) => again.expect_taken(),
+        (Err(trouble), _) => Err(trouble),
+    }
+}
+
 /// Takes the request of a pair; if that is refused, it is taken again.
 fn take_pair<J: Naming, R: Wait + Eprint>(
     rt: &R,
-    alloc: Global,
+    script: &Script<'_>,
     publisher: &mut Publisher<J>,
     seat: &mut Seat<J>,
     pair: &Pair,
 ) -> Result<(), Trouble> {
-    let before = publisher.history().len() as u64;
-    let copy = copy_of(rt, alloc, &pair.request)?;
-    let taken = publisher.take(rt, copy, pair.moment);
-    let behind = publisher.history().len() as u64;
-    match taken {
-        Ok(_) => expect_taken(taken, before, behind),
-        Err(TakeFault::NoMemory) => {
-            note(rt, "take NoMemory");
-            expect(behind == before, Why::Changed)?;
-            take_again(rt, alloc, publisher, pair, before)
+    match take_once(rt, script, publisher, pair) {
+        Ok(call) => {
+            match call.taken {
+                Ok(_) => call.expect_taken(),
+                Err(fault) => {
+                    note_take(rt, fault, call.before);
+                    match entered_by(call, seat, &pair.request) {
+                        Ok(entered) => take_again(rt, script, publisher, pair, entered),
+                        Err(trouble) => Err(trouble),
+                    }
+                }
+            }
         }
-        Err(TakeFault::Unpublished(c)) if c == before => {
-            note(rt, "take Unpublished before");
-            expect(behind == before, Why::Changed)?;
-            take_again(rt, alloc, publisher, pair, before)
-        }
-        Err(TakeFault::Unpublished(c)) => {
-            note(rt, "take Unpublished behind");
-            expect(
-                c == behind && c == before.saturating_add(1),
-                Why::OtherCommit,
-            )?;
-            expect_less(seat, &pair.request, c)?;
-            let copy = copy_of(rt, alloc, &pair.request)?;
-            expect_repeat(publisher.take(rt, copy, pair.moment), c)
-        }
-        Err(TakeFault::TimeExhausted) => Err(Trouble::Wrong(Why::NoTime)),
+        Err(trouble) => Err(trouble),
     }
-}
-
-/// A seat's answer; None if it is refused.
-fn ask<J: Naming, R: Eprint>(
-    rt: &R,
-    seat: &mut Seat<J>,
-    request: &Request,
-) -> Result<Option<Reply>, Trouble> {
-    let seen = seat.seen();
-    let answered = seat.answer(request);
-    if seat.seen() < seen {
-        drop(answered);
-        return Err(Trouble::Wrong(Why::SeenFell));
-    }
-    match answered {
-        Ok(reply) => Ok(Some(reply)),
-        Err(SeatFault::NoMemory) => {
-            note(rt, "answer NoMemory");
-            Ok(None)
-        }
-        Err(SeatFault::NoCopy) => {
-            note(rt, "answer NoCopy");
-            Ok(None)
-        }
-    }
-}
-
-/// A seat's answer; if that is refused, it is asked again.
-fn answer<J: Naming, R: Eprint>(
-    rt: &R,
-    seat: &mut Seat<J>,
-    request: &Request,
-) -> Result<Reply, Trouble> {
-    for _ in 0..2 {
-        if let Some(reply) = ask(rt, seat, request)? {
-            return Ok(reply);
-        }
-    }
-    Err(Trouble::Wrong(Why::RefusedTwice))
 }
 
 /// Appends a reply, which is not NotYet.
 fn put_answer(reply: &Reply, out: &mut Vec<u8>) -> Result<(), Trouble> {
-    expect(reply.status() != Status::NotYet, Why::NotShown)?;
+    if reply.status() == Status::NotYet {
+        return Err(Trouble::Wrong(Why::NotShown));
+    }
     put_reply(reply, out)
+}
+
+/// Appends a seat's answer to a request; false if it is refused.
+fn ask_once<J: Naming, R: Eprint>(
+    rt: &R,
+    seat: &mut Seat<J>,
+    request: &Request,
+    out: &mut Vec<u8>,
+) -> Result<bool, Trouble> {
+    match seat.answer(request) {
+        Ok(reply) => {
+            let put = put_answer(&reply, out);
+            drop(reply);
+            match put {
+                Ok(()) => Ok(true),
+                Err(trouble) => Err(trouble),
+            }
+        }
+        Err(fault) => {
+            note(rt, "answer", fault.name());
+            Ok(false)
+        }
+    }
+}
+
+/// The same. What the seat has seen does not fall, also if it is refused.
+fn ask<J: Naming, R: Eprint>(
+    rt: &R,
+    seat: &mut Seat<J>,
+    request: &Request,
+    out: &mut Vec<u8>,
+) -> Result<bool, Trouble> {
+    let seen = seat.seen();
+    let answered = ask_once(rt, seat, request, out);
+    if seat.seen() < seen {
+        return Err(Trouble::Wrong(Why::SeenFell));
+    }
+    answered
+}
+
+/// Appends a seat's answer to a request; if that is refused, it is asked again.
+fn answer<J: Naming, R: Eprint>(
+    rt: &R,
+    seat: &mut Seat<J>,
+    request: &Request,
+    out: &mut Vec<u8>,
+) -> Result<(), Trouble> {
+    let answered = match ask(rt, seat, request, out) {
+        Ok(false) => ask(rt, seat, request, out),
+        answered => answered,
+    };
+    match answered {
+        Ok(answered) => expect(answered, Why::RefusedTwice),
+        Err(trouble) => Err(trouble),
+    }
 }
 
 /// Takes the pairs of a script, and appends the seat's answer to each.
 fn take_pairs<J: Naming, R: Wait + Eprint>(
     rt: &R,
-    alloc: Global,
+    script: &Script<'_>,
     publisher: &mut Publisher<J>,
     seat: &mut Seat<J>,
-    pairs: &[Pair],
     out: &mut Vec<u8>,
 ) -> Result<(), Trouble> {
-    for pair in pairs {
-        take_pair(rt, alloc, publisher, seat, pair)?;
-        answer_pair(rt, seat, pair, out)?;
+    for pair in script.pairs {
+        if let Err(trouble) = take_pair(rt, script, publisher, seat, pair) {
+            return Err(trouble);
+        }
+        if let Err(trouble) = answer(rt, seat, &pair.request, out) {
+            return Err(trouble);
+        }
     }
     Ok(())
-}
-
-/// Appends a seat's answer to the request of a pair.
-fn answer_pair<J: Naming, R: Eprint>(
-    rt: &R,
-    seat: &mut Seat<J>,
-    pair: &Pair,
-    out: &mut Vec<u8>,
-) -> Result<(), Trouble> {
-    let reply = answer(rt, seat, &pair.request)?;
-    let put = put_answer(&reply, out);
-    drop(reply);
-    put
 }
 
 /// Takes the pairs of a script, and appends the seat's answers and the history.
 fn take_over<J: Naming, R: Wait + Eprint>(
     rt: &R,
-    alloc: Global,
+    script: &Script<'_>,
     publisher: &mut Publisher<J>,
-    seats: &mut Vec<Seat<J>>,
-    clients_max: ClientsMax,
-    pairs: &[Pair],
+    seat: &mut Seat<J>,
     out: &mut Vec<u8>,
 ) -> Result<(), Trouble> {
-    let Some(seat) = seats.iter_mut().next() else {
-        return Err(Trouble::Wrong(Why::NoSeat));
-    };
-    take_pairs(rt, alloc, publisher, seat, pairs, out)?;
-    put_history(clients_max, publisher.history(), out)
+    if let Err(trouble) = take_pairs(rt, script, publisher, seat, out) {
+        return Err(trouble);
+    }
+    put_history(script.clients_max, publisher.history(), out)
 }
 
-/// Takes the pairs of a script, and appends the seat's answers and the history; false if the opening is refused.
-pub fn take_all<J: Naming, R: Wait + Eprint>(rt: &R, work: Work<'_>) -> Result<bool, Trouble>
-    requires { work.opening ≡ J.opening }
-{
-    let (alloc, clients_max, pairs) = (work.alloc, work.clients_max, work.pairs);
-    let count = SeatCount::new(2).ok_or(Trouble::SetUp)?;
-    let Some((mut publisher, mut seats)) = opened::<J, R>(rt, alloc, work.opening, count) else {
-        return Ok(false);
-    };
-    let taken = take_over(
-        rt,
-        alloc,
-        &mut publisher,
-        &mut seats,
-        clients_max,
-        pairs,
-        work.out,
-    );
-    drop(seats);
+/// Takes the pairs of a script, appends the seat's answers and the history, and closes the publisher. Never false.
+pub fn take_all<J: Naming, R: Wait + Eprint>(
+    rt: &R,
+    script: &Script<'_>,
+    mut publisher: Publisher<J>,
+    seat: &mut Seat<J>,
+    out: &mut Vec<u8>,
+) -> Result<bool, Trouble> {
+    let taken = take_over(rt, script, &mut publisher, seat, out);
     drop(publisher.close(rt));
-    taken?;
-    Ok(true)
+    match taken {
+        Ok(()) => Ok(true),
+        Err(trouble) => Err(trouble),
+    }
 }

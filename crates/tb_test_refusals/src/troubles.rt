@@ -2,8 +2,8 @@
 use std::alloc::{AllocError, AllocFailed};
 use std::io;
 
-/// What a call returned, or left behind, that it must not.
-#[derive(Clone, Copy, Debug, PartialEq, Eq)]
+/// What is wrong with what a call returned, or with what is there after it.
+#[derive(Clone, Copy, Debug)]
 pub enum Why {
     /// It was refused though allocations are refused once.
     RefusedTwice,
@@ -33,24 +33,20 @@ pub enum Why {
     NoAnswer,
     /// A seat has no status for a request.
     NoStatus,
-    /// There are fewer seats than asked for.
-    NoSeat,
-    /// There are fewer ports than asked for.
-    NoPort,
     /// The script has more pairs than a queue holds.
     TooManyPairs,
     /// More was answered than there is capacity for.
-    NoRoom,
+    NoCapacity,
 }
 
 /// Why the program ends with an exit status other than 0.
-#[derive(Clone, Copy, Debug, PartialEq, Eq)]
+#[derive(Clone, Copy, Debug)]
 pub enum Trouble {
     /// There is no memory for what the program itself needs, or it was given no such script.
     SetUp,
     /// The server is gone: it ended out of memory.
     Gone,
-    /// A call returned, or left behind, what it must not.
+    /// A call returned what it must not, or changed what it must not.
     Wrong(Why),
 }
 
@@ -83,9 +79,14 @@ impl From<io::Error> for Trouble {
     }
 }
 
-/// Prints that a call was refused.
-pub fn note<R: Eprint>(rt: &R, what: &str) {
-    let _ = eprintln!(rt; "{what}");
+/// Prints that a call was refused, and by which fault.
+pub fn note<R: Eprint>(rt: &R, call: &str, fault: &str) {
+    let _ = eprintln!(rt; "{call} {fault}");
+}
+
+/// Prints that a call had no memory.
+pub fn note_no_memory<R: Eprint>(rt: &R, call: &str) {
+    note(rt, call, "NoMemory");
 }
 
 /// Wrong, unless it holds.
