@@ -1,6 +1,9 @@
 -- What is read of a dump, by where its reading ended.
-use Rattle.std.proofs.Common.{◌≡◌, ℕ, ◌^◌, ◌<◌, ◌≤◌, List, [], ◌∷◌, ◌++◌, length, take, drop, Option, Some, None, Result, Ok, Err, OnOk, inl, inr, refl, sym, ap, subst, ◌∙◌, arith, length-append, length-take, drop_at, append_assoc, append-nil, take_all}
+use Rattle.std.proofs.Common.{◌≡◌, true, nat_eq, ℕ, ◌^◌, ◌<◌, ◌≤◌, List, [], ◌∷◌, ◌++◌, length, take, drop, Option, Some, None, Result, Ok, Err, OnOk, inl, inr, refl, sym, ap, subst, ◌∙◌, arith, length-append, length-take, drop_at, append_assoc, append-nil, take_all}
+use Rattle.std.proofs.lemmas.Bool.Decides.{Decides-eqb}
 use Rattle.std.proofs.lemmas.List.{drop_all}
+use Rattle.std.proofs.lemmas.Slice.Eq.{slice_eq-Decides}
+use Rattle.std.specs.List.{starts_with}
 use Rattle.tb_records.specs.declared.dumps.DumpFault.TheVariants.{Head, Mark, Frame}
 use Rattle.tb_records.specs.declared.dumps.DumpItem.TheVariants as item
 use Rattle.tb_records.specs.declared.faults.FrameFault.{FrameFault}
@@ -17,14 +20,14 @@ use Rattle.tb_records.specs.private.Reading.{Filled, Lost}
 use Rattle.tb_records.specs.declared.dumps.DumpHead.{DumpHead}
 use Rattle.tb_records.proofs.FrameFaults.{cut_header}
 use Rattle.tb_records.proofs.NumberBytes.{split_at}
-use Rattle.tb_records.proofs.Rows.{Fit, Stand, row_stands, one_row}
+use Rattle.tb_records.proofs.Rows.{Fit, Stand, row_bytes, row_stands, one_row}
 
 -- heads
 
--- the signature as a number
-pub signed : le_bytes 8 3553425134609187412 ≡ signature
-unfolding le_bytes
-signed = refl
+-- it begins with the signature
+pub signed : (profile : Profile) (clients_max : ℕ) (rest : List ℕ) → starts_with nat_eq (head_bytes profile clients_max ++ rest) signature ≡ true
+unfolding head_bytes
+signed profile clients_max rest = refl
 
 pub length-head : (profile : Profile) (clients_max : ℕ) → length (head_bytes profile clients_max) ≡ 16
 unfolding head_bytes
@@ -32,15 +35,15 @@ length-head profile clients_max = simp (length-append, length-le_bytes)
 
 -- the numbers of a head
 abbrev head_row : Profile → ℕ → List ℕ
-head_row profile clients_max = 3553425134609187412 ∷ profile_number profile ∷ clients_max ∷ []
+head_row profile clients_max = profile_number profile ∷ clients_max ∷ []
 
-head_fits : (profile : Profile) (clients_max : ℕ) → IsClients clients_max → Fit (8 ∷ 4 ∷ 4 ∷ []) (head_row profile clients_max)
+head_fits : (profile : Profile) (clients_max : ℕ) → IsClients clients_max → Fit (4 ∷ 4 ∷ []) (head_row profile clients_max)
 head_fits profile clients_max few = grind arith
 
 -- they are in bytes that begin with it
-pub head_stands : (profile : Profile) (clients_max : ℕ) (rest : List ℕ) → IsClients clients_max → Stand (8 ∷ 4 ∷ 4 ∷ []) (head_row profile clients_max) 0 (head_bytes profile clients_max ++ rest)
+pub head_stands : (profile : Profile) (clients_max : ℕ) (rest : List ℕ) → IsClients clients_max → Stand (4 ∷ 4 ∷ []) (head_row profile clients_max) 8 (head_bytes profile clients_max ++ rest)
 unfolding head_bytes le_bytes
-head_stands profile clients_max rest few = row_stands (8 ∷ 4 ∷ 4 ∷ []) (head_row profile clients_max) 0 [] rest refl (head_fits profile clients_max few)
+head_stands profile clients_max rest few = row_stands (4 ∷ 4 ∷ []) (head_row profile clients_max) 8 signature rest refl (head_fits profile clients_max few)
 
 -- too few bytes for a head
 short_head : (b : List ℕ) → length b < 16 → HasNoHead b
@@ -170,17 +173,20 @@ two_numbers buf n first second old new h long f first_bytes second_bytes first_f
     grind arith
 
 -- the head that 16 bytes encode
-pub spelled_head : (buf : List ℕ) (sign number clients_max : ℕ) (profile : Profile) → length buf ≡ 16 → sign ≡ 3553425134609187412 → number ≡ profile_number profile
-    → take 8 buf ≡ take 0 buf ++ le_bytes 8 sign → take 12 buf ≡ take 8 buf ++ le_bytes 4 number → take 16 buf ≡ take 12 buf ++ le_bytes 4 clients_max → buf ≡ head_bytes profile clients_max
+pub spelled_head : (buf : List ℕ) (number clients_max : ℕ) (profile : Profile) → length buf ≡ 16 → starts_with nat_eq buf signature ≡ true → number ≡ profile_number profile
+    → take 12 buf ≡ take 8 buf ++ le_bytes 4 number → take 16 buf ≡ take 12 buf ++ le_bytes 4 clients_max → buf ≡ head_bytes profile clients_max
 unfolding head_bytes
-spelled_head buf sign number clients_max profile long is_signed is_number e f g = cc (take_all 16 buf (omega arith), signed)
+spelled_head buf number clients_max profile long is_signed is_number f g =
+    let first : signature ≡ take 8 buf = (slice_eq-Decides Decides-eqb signature (take 8 buf) (starts_with nat_eq buf signature) refl).0 is_signed in
+    cc (take_all 16 buf (omega arith), first)
 
 -- one reading
 
 pub one_head : (p q : Profile) (m n : ℕ) (xs ys : List ℕ) → IsClients m → IsClients n → head_bytes p m ++ xs ≡ head_bytes q n ++ ys → (p ≡ q) × (m ≡ n) × (xs ≡ ys)
 unfolding head_bytes le_bytes
 one_head p q m n xs ys few_m few_n e =
-    let same = one_row (8 ∷ 4 ∷ 4 ∷ []) (head_row p m) (head_row q n) xs ys refl refl (head_fits p m few_m) (head_fits q n few_n) e in
+    let cut = split_at signature signature (row_bytes (4 ∷ 4 ∷ []) (head_row p m) ++ xs) (row_bytes (4 ∷ 4 ∷ []) (head_row q n) ++ ys) refl e in
+    let same = one_row (4 ∷ 4 ∷ []) (head_row p m) (head_row q n) xs ys refl refl (head_fits p m few_m) (head_fits q n few_n) cut.1 in
     let profile : p ≡ q = grind arith in
     (profile, cc same.0, same.1)
 

@@ -1,5 +1,5 @@
 -- The bytes of a dump: a head of 16 bytes, and after it entries and at most one mark, one after another.
-use Rattle.std.specs.Prelude.{ℕ, ◌≡◌, ◌≢◌, ◌⊎◌, ◌+◌, ◌^◌, ◌<◌, ◌≤◌, List, [], ◌∷◌, ◌++◌, length, drop, Option, Some, None, Result, Ok, Err}
+use Rattle.std.specs.Prelude.{ℕ, ◌≡◌, ◌≢◌, ◌⊎◌, ◌+◌, ◌^◌, ◌<◌, ◌≤◌, List, [], ◌++◌, length, drop, codes, Option, Some, None, Result, Ok, Err}
 use Rattle.tb_records.specs.declared.dumps.DumpFault.{DumpFault}
 use Rattle.tb_records.specs.declared.dumps.DumpFault.TheVariants.{Head, Mark, Frame}
 use Rattle.tb_records.specs.declared.dumps.DumpHead.{DumpHead}
@@ -16,9 +16,9 @@ use Rattle.tb_records.specs.Messages.{Message}
 use Rattle.tb_records.specs.Numbers.{le_bytes}
 use Rattle.tb_records.specs.Transport.{Input, IsOfBytes, Fails, FaultCounts}
 
--- TBSDUMP1
+-- what a dump begins with
 abbrev pub signature : List ℕ
-signature = 84 ∷ 66 ∷ 83 ∷ 68 ∷ 85 ∷ 77 ∷ 80 ∷ 49 ∷ []
+signature = codes "TBSDUMP1"
 
 abbrev pub profile_number : Profile → ℕ
 profile_number One = 1

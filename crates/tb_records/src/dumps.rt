@@ -17,8 +17,8 @@ use std::alloc::{AllocError, Global};
 use std::fmt;
 use thiserror::Error;
 
-/// The bytes `TBSDUMP1`, as a number.
-const SIGNATURE: u64 = 0x3150_4d55_4453_4254;
+/// The bytes that a dump begins with.
+const SIGNATURE: [u8; 8] = *b"TBSDUMP1";
 
 /// Why a dump is not replayed to its end.
 #[derive(Clone, Copy, Debug, PartialEq, Eq, Error)]
@@ -148,7 +148,7 @@ fn head_in(bytes: &[u8]) -> Option<DumpHead>
     ensures some { IfSome result (IsHead bytes.now) }
     ensures none { result ≡ None → HasNoHead bytes.now }
 {
-    if u64_at(bytes, 0) != SIGNATURE {
+    if !bytes.starts_with(&SIGNATURE) {
         return None;
     }
     let profile = profile_of(u32_at(bytes, 8))?;
@@ -232,7 +232,7 @@ fn bytes_of_head(head: DumpHead) -> [u8; 16]
     ensures right { IsClients head.clients_max }
 {
     let mut bytes = [0; 16];
-    put_u64(&mut bytes, 0, SIGNATURE);
+    bytes[..8].copy_from_slice(&SIGNATURE);
     put_u32(&mut bytes, 8, number_of(head.profile));
     put_u32(&mut bytes, 12, head.clients_max.get());
     bytes
