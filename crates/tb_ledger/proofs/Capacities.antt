@@ -1,5 +1,5 @@
 -- The capacity that events use, and what a refused event leaves.
-use Rattle.tb_ledger.proofs.Common.{◌≡◌, ℕ, ◌+◌, ◌-◌, ◌≤◌, Bool, true, false, if◌then◌else◌, refl, sym, subst, ◌∙◌, arith, Rows, Work, Timeout, TransferRow, Capacity, capacity_of, Uses, AreRowsKept, times_out, timeout_of, listed, unlisted, Leaves, KeepsRecords, Stored, with_timeout, without_timeout}
+use Rattle.tb_ledger.proofs.Common.{◌≡◌, ℕ, ◌+◌, ◌-◌, ◌≤◌, true, false, if◌then◌else◌, refl, sym, subst, ◌∙◌, arith, Rows, Work, Timeout, TransferRow, Capacity, capacity_of, Uses, AreRowsKept, times_out, timeout_of, listed, unlisted, Leaves, KeepsRecords, Stored, with_timeout, without_timeout}
 
 pub uses_none : (n : ℕ) (c : Capacity) → Uses n c c
 uses_none n c = record { accounts = omega arith; transfers = omega arith; timeouts = omega arith; failed = omega arith; keeps_failed = refl }

@@ -1,5 +1,5 @@
 -- What changes a tree's pairs changes the rows that they are.
-use Rattle.tb_ledger.proofs.Common.{AbsentIds, pairs_in, rows_in, KnowsAbsent, MayBeKey, put, rising-put, rising-taken_out, each-taken_out, own-agrees, own-inserted, own-removed, rows-inserted, rows-removed, insert_entry, remove_entry, ◌≡◌, ℕ, ◌+◌, ◌*◌, ◌<◌, ◌≤◌, Bool, true, false, cond, eqb, ltb, ◌==◌, List, [], ◌∷◌, length, map, find, is_some, Option, Some, None, IfSome, IfNone, ◌⊎◌, inl, inr, Result, Ok, Err, IfOk, IfErr, refl, sym, ap, subst, ◌∙◌, arith, nat_tests, Ordering, Less, Equal, Greater, nat_cmp, ordering_then, lookup, set_value, values_of, is_at, Mut, MutBor, Changed, ChangedTwo, replaced, taken_out, Each, Rising, IsTable, KeepsKey, ChangedRow, KeepsKeys, ChangedRows, slice_get, Map, entries, get, Search, leaf, fork, entries_of, path_length, each-map, each-both, each-back, found_key, rising-replaced, Agrees, Own, found-row, rows-replaced, own-replaced, timeout_key, timeout_at, timeouts_of, AreTimeouts, Timeout, with_first, AMOUNT_MAX}
+use Rattle.tb_ledger.proofs.Common.{AbsentIds, pairs_in, rows_in, KnowsAbsent, MayBeKey, put, rising-put, rising-taken_out, each-taken_out, own-agrees, own-inserted, own-removed, rows-inserted, rows-removed, insert_entry, remove_entry, ◌≡◌, ℕ, ◌+◌, ◌*◌, ◌<◌, ◌≤◌, Bool, true, false, cond, eqb, ltb, ◌==◌, List, [], ◌∷◌, length, map, find, is_some, Option, Some, None, IfSome, IfNone, ◌⊎◌, inl, inr, Result, Ok, Err, IfOk, IfErr, refl, sym, ap, subst, ◌∙◌, arith, nat_tests, Ordering, Less, Equal, Greater, nat_cmp, ordering_then, lookup, set_value, values_of, is_at, Mut, MutBor, Changed, ChangedTwo, replaced, taken_out, Each, Rising, KeepsKey, ChangedRow, KeepsKeys, ChangedRows, slice_get, Map, entries, get, Search, leaf, fork, entries_of, path_length, each-map, each-both, each-back, found_key, rising-replaced, Agrees, Own, found-row, rows-replaced, own-replaced, timeout_key, timeout_at, timeouts_of, AreTimeouts, Timeout, with_first, AMOUNT_MAX}
 use Rattle.tb_ledger.proofs.AbsentKeys.{OfKeys, known-put, known-replaced}
 
 set-absent : {V : Type 0} (test : ℕ → Bool) (v : V) (es : List (ℕ × V)) → lookup test es ≡ None → set_value test es v ≡ es

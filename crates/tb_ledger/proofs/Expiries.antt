@@ -1,5 +1,5 @@
 -- The rows when time moves on: transfers that are due hold no more.
-use Rattle.tb_ledger.proofs.Common.{Rows, books_in, AreRowsKept, KeepsRecords, ◌≡◌, ◌≢◌, ℕ, ◌≤◌, Bool, true, false, ◌&&◌, ◌==◌, List, map, find, if◌then◌else◌, Option, Some, None, option_map, IsSome, refl, sym, ap, subst, ◌∙◌, Transfer, replaced, changed, Each, Rising, each-map, each-both, each-find, each-replaced_all, find-map, map-replaced, map-changed, rising-changed, State, Posted, Voided, Expired, AccountRow, TransferRow, Timeout, Books, posts, pending, resolves, is_open, is_due, state_by, closing_debit, closing_credit, debit, credit, IdsRise, ledger_at, Sound, account_row_key, transfer_row_key, books_of, row_holds, lapses, IsIndex, HasSums, HasState, AreKept, AreLedgerRows, on_debits, on_credits, released, settled, accounts_released}
+use Rattle.tb_ledger.proofs.Common.{Rows, books_in, AreRowsKept, KeepsRecords, ◌≡◌, ◌≢◌, ℕ, ◌≤◌, Bool, true, false, ◌&&◌, ◌==◌, List, map, find, if◌then◌else◌, Option, Some, None, option_map, IsSome, refl, sym, ap, subst, ◌∙◌, Transfer, replaced, changed, Each, Rising, each-map, each-both, each-find, each-replaced_all, find-map, map-replaced, map-changed, rising-changed, State, Posted, Voided, Expired, AccountRow, TransferRow, Books, posts, pending, resolves, is_open, is_due, state_by, closing_debit, closing_credit, debit, credit, IdsRise, ledger_at, Sound, account_row_key, transfer_row_key, row_holds, lapses, IsIndex, HasSums, HasState, AreKept, on_debits, on_credits, released, settled, accounts_released}
 use Rattle.tb_ledger.proofs.RowSums.{both_hold}
 use Rattle.tb_ledger.proofs.Pairs.{sums_released}
 use Rattle.tb_ledger.proofs.Sides.{due_later}

@@ -1,5 +1,5 @@
 -- What is found of many ids at once.
-use Rattle.tb_ledger.proofs.Common.{◌≡◌, ℕ, ◌+◌, ◌++◌, ◌==◌, List, [], ◌∷◌, length, map, find, replicate, take, drop, Option, None, Bor, option_map, option_copied, refl, sym, ap, ◌∙◌, arith, filter_map, lookup, values_of, is_at, nat_cmp, length-append, length-map, take-append-drop, Each, Own, found-row}
+use Rattle.tb_ledger.proofs.Common.{◌≡◌, ℕ, ◌+◌, ◌++◌, ◌==◌, List, [], ◌∷◌, length, map, find, replicate, take, drop, Option, None, Bor, option_map, option_copied, refl, sym, ap, ◌∙◌, filter_map, length-append, length-map, take-append-drop}
 
 -- the shown values of rows found, and of what a search gives
 pub found-many : {T X : Type 0} (f : T → X) (g : ℕ → Option T) (rs : List (Option (Bor T))) (ids : List ℕ) → map option_copied rs ≡ map g ids → filter_map (λ r. option_map f (option_copied r)) rs ≡ filter_map (λ id. option_map f (g id)) ids

@@ -1,5 +1,5 @@
 -- The profile that books go by stays through a batch.
-use Rattle.tb_ledger.proofs.Common.{◌≡◌, ℕ, Bool, true, false, List, Option, Some, None, if◌then◌else◌, refl, ◌∙◌, option_map, Account, Transfer, put, Books, profile_by, profile_of, is_final, account_events, transfer_events, batch_after}
+use Rattle.tb_ledger.proofs.Common.{◌≡◌, ℕ, true, false, List, Option, Some, None, if◌then◌else◌, refl, ◌∙◌, option_map, Account, Transfer, put, Books, profile_by, profile_of, is_final, account_events, transfer_events, batch_after}
 use Rattle.tb_ledger.proofs.BatchLaws.{batch_kept}
 
 profile_put : (id : ℕ) (failed : Option (List ℕ)) → profile_by (option_map (put (λ id. id) id) failed) ≡ profile_by failed

@@ -84,25 +84,21 @@ fn accounts_of(row: &Option<&TransferRow>) -> (u128, u128) {
     }
 }
 
+/// The accounts of eight rows, as far as they exist.
+fn accounts_of_eight(rows: &[Option<&TransferRow>; 8]) -> [(u128, u128); 8] {
+    let mut pairs = [(0, 0); 8];
+    for i in 0..8 {
+        pairs[i] = accounts_of(&rows[i]);
+    }
+    pairs
+}
+
 /// Brings the next eight transfers that have timeouts, and their accounts, into the cache.
 fn touch_next<A: Allocator + Clone>(rows: &mut Rows<A>)
     ensures { rows.new ≡ rows.old }
 {
-    let [a, b, c, d, e, f, g, h] = rows.transfers.get_many(&rows.timeouts.next_eight());
-    let first = [
-        accounts_of(&a),
-        accounts_of(&b),
-        accounts_of(&c),
-        accounts_of(&d),
-    ];
-    let later = [
-        accounts_of(&e),
-        accounts_of(&f),
-        accounts_of(&g),
-        accounts_of(&h),
-    ];
-    rows.accounts.touch_pairs(first);
-    rows.accounts.touch_pairs(later);
+    let pairs = accounts_of_eight(&rows.transfers.get_many(&rows.timeouts.next_eight()));
+    rows.accounts.touch_pairs(pairs);
 }
 
 /// Looks ahead after `ended` transfers have expired: after the first and every eighth from there, if there are many transfers.

@@ -17,17 +17,11 @@ fn accounts_of(t: &Transfer, pending: &Option<&TransferRow>) -> (u128, u128) {
 
 /// The pending transfers that eight transfers name.
 fn named_by(eight: &[Transfer; 8]) -> [u128; 8] {
-    let [a, b, c, d, e, f, g, h] = eight;
-    [
-        a.pending_id,
-        b.pending_id,
-        c.pending_id,
-        d.pending_id,
-        e.pending_id,
-        f.pending_id,
-        g.pending_id,
-        h.pending_id,
-    ]
+    let mut ids = [0; 8];
+    for i in 0..8 {
+        ids[i] = eight[i].pending_id;
+    }
+    ids
 }
 
 /// The rows of the pending transfers that eight transfers name. If none of the eight is a post or void, nothing is searched for.
@@ -42,26 +36,16 @@ fn pending_rows<'a, A: Allocator + Clone>(
     }
 }
 
-/// The accounts of eight transfers, or of the pending ones that they name: of the first four, and of the other four.
-fn accounts_of_eight<A: Allocator + Clone>(
-    rows: &Rows<A>,
+/// The accounts of eight transfers, or of the pending ones that they name.
+fn accounts_of_eight(
     eight: &[Transfer; 8],
-) -> ([(u128, u128); 4], [(u128, u128); 4]) {
-    let [a, b, c, d, e, f, g, h] = eight;
-    let [pa, pb, pc, pd, pe, pf, pg, ph] = pending_rows(rows, eight);
-    let first = [
-        accounts_of(a, &pa),
-        accounts_of(b, &pb),
-        accounts_of(c, &pc),
-        accounts_of(d, &pd),
-    ];
-    let later = [
-        accounts_of(e, &pe),
-        accounts_of(f, &pf),
-        accounts_of(g, &pg),
-        accounts_of(h, &ph),
-    ];
-    (first, later)
+    pending: &[Option<&TransferRow>; 8],
+) -> [(u128, u128); 8] {
+    let mut pairs = [(0, 0); 8];
+    for i in 0..8 {
+        pairs[i] = accounts_of(&eight[i], &pending[i]);
+    }
+    pairs
 }
 
 /// Brings the rows of the accounts that eight transfers need into the cache, if there are many accounts.
@@ -69,8 +53,7 @@ pub(crate) fn touch_accounts<A: Allocator + Clone>(rows: &mut Rows<A>, eight: &[
     ensures { rows.new ≡ rows.old }
 {
     if rows.accounts.is_large() {
-        let (first, later) = accounts_of_eight(rows, eight);
-        rows.accounts.touch_pairs(first);
-        rows.accounts.touch_pairs(later);
+        let pairs = accounts_of_eight(eight, &pending_rows(rows, eight));
+        rows.accounts.touch_pairs(pairs);
     }
 }

@@ -7,7 +7,7 @@ use std::marker::Model;
 use tb_records::{Account, AccountFlag};
 
 /// One side of an account: its two sums, and whether a pending transfer holds it closed.
-#[derive(Clone, Copy, Debug, PartialEq, Eq)]
+#[derive(Clone, Copy)]
 pub struct Side {
     pub pending: u128,
     pub posted: u128,

@@ -2,7 +2,7 @@
 ghost use Rattle.std.specs.Prelude.{◌≡◌, ◌≢◌, ◌↔◌, ℕ, ◌+◌, ◌-◌, ◌<◌, ◌≤◌, ◌==◌, max, [], length, map, None, find, IsTrue, OnOk, IfSome, IfNone};
 ghost use Rattle.std.specs.Option.{option_copied};
 ghost use Rattle.tb_records.specs.Ordered.{put, replaced, taken_out, Rising};
-ghost use Rattle.tb_ledger.specs.Tables.{freed, IsShortSearch, KeepsKey, ChangedRow, KeepsKeys, ChangedRows, LacksOneOf};
+ghost use Rattle.tb_ledger.specs.Tables.{freed, IsShortSearch, KeepsKey, ChangedRow, KeepsKeys, ChangedRows, LacksOneOf, pairs_in, spare_in};
 
 use crate::tables::absent_ids::{AbsentIds, unfound};
 use avl_tree::AvlMap;
@@ -29,6 +29,29 @@ impl Keyed for u128 {
 
     fn mixed(&self) -> u128 {
         *self
+    }
+}
+
+/// Makes capacity until `n` more entries fit, in a map that is made if there is none. If there is no memory the entries stay, and no capacity is lost.
+pub(crate) fn reserve_in<K: Ord + Copy + Default, V: Default + Drop, A: Allocator + Clone>(
+    map: &mut Option<AvlMap<K, V, A>>,
+    alloc: &A,
+    n: usize,
+) -> Result<(), AllocError>
+    ensures entries { pairs_in map.new ≡ pairs_in map.old }
+    ensures ok { OnOk result (n ≤ spare_in map.new) }
+    ensures not_less { spare_in map.old ≤ spare_in map.new }
+    ensures no_more { spare_in map.new ≤ max (spare_in map.old) n }
+{
+    match map {
+        Some(map) if n <= map.spare() => Ok(()),
+        Some(map) => map.reserve(n),
+        None => {
+            let mut made = AvlMap::new_in(alloc.clone()?);
+            let reserved = made.reserve(n);
+            *map = Some(made);
+            reserved
+        }
     }
 }
 
@@ -145,12 +168,13 @@ impl<V: Keyed, A: Allocator + Clone> Table<V, A> {
         self.touched ^= mixed;
     }
 
-    /// Touches the rows of four pairs of keys.
-    pub fn touch_pairs(&mut self, pairs: [(u128, u128); 4])
+    /// Touches the rows of eight pairs of keys.
+    pub fn touch_pairs(&mut self, pairs: [(u128, u128); 8])
         ensures { self.new ≡ self.old }
     {
-        let [a, b, c, d] = pairs;
+        let [a, b, c, d, e, f, g, h] = pairs;
         self.touch(&[a.0, a.1, b.0, b.1, c.0, c.1, d.0, d.1]);
+        self.touch(&[e.0, e.1, f.0, f.1, g.0, g.1, h.0, h.1]);
     }
 
     /// The row with the key, and the number of nodes that the search visited.
@@ -171,15 +195,7 @@ impl<V: Keyed, A: Allocator + Clone> Table<V, A> {
         ensures not_less { self.old.spare ≤ self.new.spare }
         ensures no_more { self.new.spare ≤ max self.old.spare n }
     {
-        match &mut self.rows {
-            Some(rows) => rows.reserve(n),
-            None => {
-                let mut rows = AvlMap::new_in(alloc.clone()?);
-                let reserved = rows.reserve(n);
-                self.rows = Some(rows);
-                reserved
-            }
-        }
+        reserve_in(&mut self.rows, alloc, n)
     }
 
     /// Inserts a row whose key does not exist, if there is capacity.

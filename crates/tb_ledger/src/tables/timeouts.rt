@@ -5,12 +5,13 @@ ghost use Rattle.avl_tree.specs.Map.{entries};
 ghost use Rattle.tb_ledger.specs.Tables.{freed};
 ghost use Rattle.tb_ledger.specs.private.Timeouts.{timeout_key, timeouts_of, AreTimeouts, with_timeout, without_timeout, TakesDue, IsFirstDue, stored_timeouts};
 
+use crate::tables::map::reserve_in;
 use avl_tree::AvlMap;
 use std::alloc::{AllocError, Allocator};
 use std::marker::Model;
 
 /// When a pending transfer expires, in nanoseconds, and its id.
-#[derive(Clone, Copy, Debug, PartialEq, Eq)]
+#[derive(Clone, Copy)]
 pub struct Timeout {
     pub at: u64,
     pub id: u128,
@@ -103,16 +104,7 @@ impl<A: Allocator + Clone> Timeouts<A> {
         ensures not_less { self.old.spare ≤ self.new.spare }
         ensures no_more { self.new.spare ≤ max self.old.spare n }
     {
-        match &mut self.keys {
-            Some(keys) if n <= keys.spare() => Ok(()),
-            Some(keys) => keys.reserve(n),
-            None => {
-                let mut keys = AvlMap::new_in(alloc.clone()?);
-                let reserved = keys.reserve(n);
-                self.keys = Some(keys);
-                reserved
-            }
-        }
+        reserve_in(&mut self.keys, alloc, n)
     }
 
     /// Inserts a new timeout, if there is capacity.

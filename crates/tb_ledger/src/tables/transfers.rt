@@ -7,7 +7,7 @@ use std::marker::Model;
 use tb_records::Transfer;
 
 /// The state of a pending transfer.
-#[derive(Clone, Copy, Debug, PartialEq, Eq, Default)]
+#[derive(Clone, Copy, Default)]
 pub enum State {
     /// It holds its amount on both accounts.
     #[default]

@@ -1,4 +1,4 @@
-use Rattle.tb_ledger.proofs.Common.{◌≡◌, map, refl, arith, KeepsRecords}
+use Rattle.tb_ledger.proofs.Common.{map, refl, arith, KeepsRecords}
 use Rattle.tb_ledger.proofs.Index.{none_lapses}
 use Rattle.tb_ledger.proofs.Expiries.{will_be, arrived, ledger_then}
 use Rattle.tb_ledger.proofs.expiry.expire.Goals as goal

@@ -1,4 +1,4 @@
-use Rattle.tb_ledger.proofs.Common.{◌≡◌, ◌-◌, sym, ap, subst, ◌∙◌, arith, entries, nat_cmp, own-agrees, unseen, spare_in, MayBeKey}
+use Rattle.tb_ledger.proofs.Common.{◌≡◌, ◌-◌, sym, ap, subst, ◌∙◌, arith, entries, spare_in, MayBeKey}
 use Rattle.tb_ledger.proofs.Entries.{found_in}
 use Rattle.tb_ledger.proofs.Entries.{holds, holds_put}
 use Rattle.tb_ledger.proofs.tables.map.Table.insert_reserved.Goals as goal
