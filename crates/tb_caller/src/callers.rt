@@ -1,7 +1,7 @@
 //! The session of one client.
 ghost use Rattle.std.specs.Prelude.{◌≡◌, MatchOption, Some, None, Ok, Err};
 ghost use Rattle.tb_records.specs.Messages.{is_register};
-ghost use Rattle.tb_caller.specs.private.Calling.{refused_by};
+ghost use Rattle.tb_caller.specs.private.Calling.{phase_fault};
 ghost use Rattle.tb_caller.specs.Clients.{client_with, fresh, open_request, stored_request_fault, field_fault, called, names, heard_by, heard, received, ended_in, IsMade, Makes, WritesCall, WritesAgain, ReadsReply};
 
 use crate::faults::{CallFault, FieldFault};
@@ -219,7 +219,7 @@ impl Caller {
 
     /// Why a call makes no request in this phase; `register` says that it is a register.
     fn phase_fault(&self, register: bool) -> Option<CallFault>
-        ensures { result ≡ refused_by self.now.phase self.now.last register }
+        ensures { result ≡ phase_fault self.now.phase self.now.last register }
     {
         match &self.phase {
             Phase::Unregistered => {

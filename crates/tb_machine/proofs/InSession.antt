@@ -1,5 +1,5 @@
 -- A request that is New compared with its client's row: its entry may come next, and its step puts the row in place of that one.
-use Rattle.std.proofs.Common.{◌≡◌, ℕ, ◌+◌, ◌<◌, ◌≤◌, inl, inr, Bool, true, false, cond, ◌==◌, List, [], ◌∷◌, Some, is_none, is_some, find, Result, Ok, Err, is_err, OnOk, OnErr, refl, sym, ap, ◌∙◌, subst, IsTrue, arith, eqb, le-leb}
+use Rattle.std.proofs.Common.{◌≡◌, ℕ, ◌+◌, ◌<◌, ◌≤◌, inl, inr, Bool, true, false, cond, ◌==◌, List, [], ◌∷◌, Some, is_none, is_some, find, Result, Ok, Err, OnOk, OnErr, refl, sym, ap, ◌∙◌, subst, IsTrue, arith, eqb, le-leb}
 use Rattle.tb_records.specs.Messages.{Message, Answer, IsLawful}
 use Rattle.tb_records.specs.Ordered.{Each, replaced}
 use Rattle.tb_records.proofs.ByKey.{found_key}
@@ -9,16 +9,16 @@ use Rattle.tb_sessions.specs.declared.classes.Class.TheVariants.{New}
 use Rattle.tb_sessions.specs.Judged.{row_of, class_of, client_of}
 use Rattle.tb_sessions.specs.Renewal.{IsNewBeside, IsRenewal}
 use Rattle.tb_sessions.proofs.ByRow.{class_by}
-use Rattle.std.specs.declared.alloc.AllocError.{AllocError}
 use Rattle.tb_records.specs.Transport.{Output}
 use Rattle.tb_records.specs.declared.limits.TheConstants.{LAST_MOMENT}
 use Rattle.tb_machine.specs.declared.executing.Delivery.{Delivery}
 use Rattle.tb_machine.specs.declared.executing.Delivery.TheVariants as delivery
+use Rattle.tb_machine.specs.declared.executing.Served.TheVariants as served
 use Rattle.tb_machine.specs.declared.serving.RunFault.TheVariants as fault
 use Rattle.tb_machine.proofs.PairAnswers.{entered_answer}
 use Rattle.tb_machine.specs.Histories.{State, time_of, fits, executed, reply_at, step}
 use Rattle.tb_machine.specs.Scripts.{Pair, entry_of, has_time}
-use Rattle.tb_machine.specs.private.Serving.{made_entry, row_in, MayBeExecuted, DeliversReply, served_as, ServesPair}
+use Rattle.tb_machine.specs.private.Serving.{made_entry, row_in, MayBeExecuted, DeliversReply, ServesPair}
 use Rattle.tb_machine.specs.private.Sound.{IsSound}
 use Rattle.tb_machine.proofs.Judging.{comes}
 use Rattle.tb_machine.proofs.SoundSteps.{may_be_executed, commits_before, sound_step}
@@ -36,21 +36,11 @@ replaced_same key x (y ∷ ys) found = by (eqb (key y) (key x)) (replaced_same k
 pub same_state : (S : State) (clients_max : ℕ) (B : Books) (rows : List Row) → clients_max ≡ S.clients_max → B ≡ S.books → rows ≡ S.rows → record { clients_max = clients_max; commit = S.commit; books = B; rows = rows } ≡ S
 same_state S clients_max B rows size books same = rw (size, books, same) refl
 
-module _ {A E P : Type 0} where
-  pub of_ok : (o : Result A E) (refused : Bool) → refused ≡ is_err o → refused ≡ false → OnOk o P → P
-  of_ok (Ok a) refused delivery is p = p
-  of_ok (Err e) refused delivery is p = absurd (let both : false ≡ true = sym is ∙ delivery in cc)
-
-  pub of_err : (o : Result A E) (refused : Bool) → refused ≡ is_err o → refused ≡ true → OnErr o P → P
-  of_err (Ok a) refused delivery is p = absurd (let both : true ≡ false = sym is ∙ delivery in cc)
-  of_err (Err e) refused delivery is p = p
-
 -- what the server returns if the step was made
-serves_delivered : (answer : Result Delivery AllocError) (S T : State) (p : Pair) (before after : Output) → IsLawful p.1 → class_of S.rows p.1 ≡ New → has_time S p ≡ true → T ≡ step S (entry_of S p)
-    → (refused : Bool) → refused ≡ is_err answer → refused ≡ false → DeliversReply answer (reply_at S (entry_of S p)) before after → ServesPair (served_as answer) S T p before after
-serves_delivered (Ok delivery.Whole) S T p before after lawful class time stepped refused is none delivers = entered_answer (Ok tt) S T p before after lawful class time stepped delivers.delivery.0 delivers.delivery.1
-serves_delivered (Ok (delivery.Cut f)) S T p before after lawful class time stepped refused is none delivers = entered_answer (Err (fault.Frame f)) S T p before after lawful class time stepped (ap fault.Frame delivers.delivery.0.0, delivers.delivery.0.1) tt
-serves_delivered (Err f) S T p before after lawful class time stepped refused is none delivers = absurd (let both : false ≡ true = sym none ∙ is in cc)
+serves_delivered : (delivery : Delivery) (S T : State) (p : Pair) (before after : Output) → IsLawful p.1 → class_of S.rows p.1 ≡ New → has_time S p ≡ true → T ≡ step S (entry_of S p)
+    → DeliversReply (Ok delivery) (reply_at S (entry_of S p)) before after → ServesPair (served.Executed delivery) S T p before after
+serves_delivered delivery.Whole S T p before after lawful class time stepped delivers = entered_answer (Ok tt) S T p before after lawful class time stepped delivers.delivery.0 delivers.delivery.1
+serves_delivered (delivery.Cut f) S T p before after lawful class time stepped delivers = entered_answer (Err (fault.Frame f)) S T p before after lawful class time stepped (ap fault.Frame delivers.delivery.0.0, delivers.delivery.0.1) tt
 
 module _ (S : State) (sound : IsSound S) (moment time : ℕ) (r : Message) (lawful : IsLawful r) (time_is : time ≡ time_of S moment r) (in_range : time ≤ LAST_MOMENT) (row : Row) (new : IsNewBeside S.rows r row) where
   pub class_new : class_of S.rows r ≡ New
@@ -111,9 +101,8 @@ module _ (S : State) (sound : IsSound S) (moment time : ℕ) (r : Message) (lawf
       sound_after = sound_step S (made_entry (S.commit + 1) time r) sound entry_comes (row_in S.books (made_entry (S.commit + 1) time r)) refl refl (record { clients_max = clients_max; commit = S.commit + 1; books = B; rows = rows }) refl books rows_are
 
       -- what the server returns
-      pub serves : (answer : Result Delivery AllocError) (before after : Output) (refused : Bool) → refused ≡ is_err answer → refused ≡ false
-          → DeliversReply answer (row_in S.books (made_entry (S.commit + 1) time r)).reply before after
-          → ServesPair (served_as answer) S (record { clients_max = clients_max; commit = S.commit + 1; books = B; rows = rows }) (moment, r) before after
-      serves answer before after refused is none delivers =
-          serves_delivered answer S (record { clients_max = clients_max; commit = S.commit + 1; books = B; rows = rows }) (moment, r) before after lawful class_new timely stepped refused is none
-          (subst (λ (a : Answer). DeliversReply answer a before after) reply_is delivers)
+      pub serves : (delivery : Delivery) (before after : Output) → DeliversReply (Ok delivery) (row_in S.books (made_entry (S.commit + 1) time r)).reply before after
+          → ServesPair (served.Executed delivery) S (record { clients_max = clients_max; commit = S.commit + 1; books = B; rows = rows }) (moment, r) before after
+      serves delivery before after delivers =
+          serves_delivered delivery S (record { clients_max = clients_max; commit = S.commit + 1; books = B; rows = rows }) (moment, r) before after lawful class_new timely stepped
+          (subst (λ (a : Answer). DeliversReply (Ok delivery) a before after) reply_is delivers)

@@ -8,7 +8,7 @@ ghost use Rattle.tb_sessions.specs.Admission.{admitted};
 ghost use Rattle.tb_sessions.specs.Judged.{class_of};
 ghost use Rattle.tb_machine.specs.Histories.{executed, session_of, step, fits};
 ghost use Rattle.tb_machine.specs.Judging.{IsDelivered, IfWhole, EntersAndReplies};
-ghost use Rattle.tb_machine.specs.private.Serving.{made_entry, row_in, MayBeExecuted, DeliversReply, ExecutesBody, MakesRow, served_as, ServesPair, IfUnserved, reply_with};
+ghost use Rattle.tb_machine.specs.private.Serving.{made_entry, row_in, MayBeExecuted, DeliversReply, ExecutesBody, MakesRow, ServesPair, IfUnserved, reply_with};
 
 use crate::entries::Entry;
 use crate::machines::Machine;
@@ -38,18 +38,6 @@ pub(crate) enum Served {
     NoMemory,
     /// It has this class and is not New there, or there is no time for it: nothing was called or changed.
     Unserved(Class),
-}
-
-impl Served {
-    /// What happened to a request that was executed, by what happened to its reply.
-    fn of(delivery: Result<Delivery, AllocError>) -> Served
-        ensures { result ≡ served_as delivery }
-    {
-        match delivery {
-            Ok(delivery) => Served::Executed(delivery),
-            Err(AllocError) => Served::NoMemory,
-        }
-    }
 }
 
 impl<A: Allocator + Clone> Machine<A> {
@@ -107,14 +95,11 @@ impl<A: Allocator + Clone> Machine<A> {
             },
         );
         match served {
-            Ok(delivery) => {
-                let refused = delivery.is_err();
-                if refused {
-                    return Served::NoMemory;
-                }
+            Ok(Ok(delivery)) => {
                 self.commit = commit;
-                Served::of(delivery)
+                Served::Executed(delivery)
             }
+            Ok(Err(AllocError)) => Served::NoMemory,
             Err(class) => Served::Unserved(class),
         }
     }

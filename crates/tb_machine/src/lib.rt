@@ -7,7 +7,7 @@
 //! - `machines`: `Machine`, a ledger and its sessions, which entries move on.
 //! - `judgements`: how a machine judges a request at a moment: new, with its entry, or of another class.
 //! - `executing`: its steps: what a request does to the ledger, the reply to it, the row that it leaves.
-//! - `pools`: the pool in which a server's records are.
+//! - `pools`: the pools in which a server's records are.
 //! - `serving`: `run`, which reads and executes a script and writes the replies; `serve_pair`, one pair of it.
 //! - `answering`: the answer to a request from a machine that stays as it is.
 //! - `dumping`: `dump`, a script executed, and its history written.

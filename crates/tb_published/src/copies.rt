@@ -9,7 +9,7 @@ use crate::limits::SeatCount;
 use crate::naming::Naming;
 use crate::replica::{Posted, Replica};
 use crate::rule::{Look, Notes, Published, View};
-use crate::seat::Place;
+use crate::seat::ReplicaReader;
 use core::mem::replace_with;
 use left_right::Absorb;
 use left_right::writer::Writer;
@@ -118,7 +118,7 @@ impl<J: Naming> Copies<J> {
     }
 
     /// A reader's place at the copies, which has seen what they show.
-    pub(crate) fn place(&mut self) -> Result<Place<J>, AllocError>
+    pub(crate) fn place(&mut self) -> Result<ReplicaReader<J>, AllocError>
         ensures same { self.new ≡ self.old }
         ensures place { IfOk result (λ p. view p.place ≡ self.old.seen) }
     {

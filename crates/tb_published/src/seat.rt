@@ -34,7 +34,7 @@ type Gap = [u64; 8];
 #[repr(C)]
 pub struct Seat<J: Naming> {
     before: Gap,
-    place: Place<J>,
+    place: ReplicaReader<J>,
     front: Front,
     global: Global,
     after: Gap,
@@ -55,7 +55,7 @@ impl<J: Naming> Model for Seat<J> {
 
 impl<J: Naming> Seat<J> {
     /// The seat of a place that has seen no more than a front.
-    pub(crate) fn new(place: Place<J>, front: Front, global: Global) -> Seat<J>
+    pub(crate) fn new(place: ReplicaReader<J>, front: Front, global: Global) -> Seat<J>
         requires knows { Knows (known place.place) front }
         requires named { front.opening ≡ J.opening }
         ensures { result ≡ front.list }
@@ -189,7 +189,7 @@ impl<J: Naming> Seat<J> {
 }
 
 /// A reader's place at the copies.
-pub(crate) type Place<J> = Reader<Replica<J>, View, Published>;
+pub(crate) type ReplicaReader<J> = Reader<Replica<J>, View, Published>;
 
 /// A reader with the copy that it reads, until it leaves.
 pub(crate) type Looking<J> = Reading<Replica<J>, View, Published>;
@@ -197,9 +197,9 @@ pub(crate) type Looking<J> = Reading<Replica<J>, View, Published>;
 /// Enters the copy that is shown, and returns its front; the place comes back if there is no copy. A copy that shows less
 /// than the reader knows is refused too: no copy does, because a reader knows only what was shown.
 pub(crate) fn enter<J: Naming>(
-    place: Place<J>,
+    place: ReplicaReader<J>,
     front: &Front,
-) -> Result<(Looking<J>, Front), Place<J>>
+) -> Result<(Looking<J>, Front), ReplicaReader<J>>
     requires knows { Knows (view place.place) front.now }
     requires named { front.now.opening ≡ J.opening }
     ensures known { IfOk result (λ r. Knows (view r.0.place) r.1) }
@@ -221,10 +221,10 @@ pub(crate) fn enter<J: Naming>(
 
 /// Asks a question of the machine of the copy that is shown: returns the front of the copy, and what the machine returned.
 pub(crate) fn look<J: Naming, T, Q: FnOnce(&Machine<Global>) -> T>(
-    place: Place<J>,
+    place: ReplicaReader<J>,
     front: &Front,
     question: Q,
-) -> (Place<J>, Option<(Front, T)>)
+) -> (ReplicaReader<J>, Option<(Front, T)>)
     requires knows { Knows (view place.place) front.now }
     requires named { front.now.opening ≡ J.opening }
     requires asks { Q.IsAlwaysCallable question }

@@ -6,11 +6,11 @@ use Rattle.tb_caller.specs.declared.faults.CallFault.{CallFault}
 use Rattle.tb_caller.specs.declared.faults.CallFault.TheVariants as fault
 
 -- why a call makes no request after the request with this number; register says that it is a register
-abbrev pub refused_by : Phase → ℕ → Bool → Option CallFault
-refused_by Unregistered last register = if register then None else Some fault.NotRegistered
-refused_by (Open s) last register = Some fault.Unanswered
-refused_by Idle last register =
+abbrev pub phase_fault : Phase → ℕ → Bool → Option CallFault
+phase_fault Unregistered last register = if register then None else Some fault.NotRegistered
+phase_fault (Open s) last register = Some fault.Unanswered
+phase_fault Idle last register =
     if register then Some fault.Registered
     else if last == 2 ^ 32 - 1 then Some fault.NoNumber
     else None
-refused_by (Ended s) last register = Some fault.Ended
+phase_fault (Ended s) last register = Some fault.Ended

@@ -76,11 +76,6 @@ MakesRow result B e later = MatchResult result (λ row. (later ≡ executed B e.
 pub record DeliversReply (served : Result Delivery AllocError) (reply : Answer) (before after : Output) : Type 0 where
   pub delivery : IfOk served (λ delivery. IsDelivered delivery (reply_bytes reply) before after × IfWhole delivery (IsReply reply))
 
--- what happened to a request, by what the call at its client's row returned
-abbrev pub served_as : Result Delivery AllocError → Served
-served_as (Ok delivery) = served.Executed delivery
-served_as (Err refused) = served.NoMemory
-
 -- the server's result for a pair that was served by its client's row; for any other pair its class is reported, and nothing changes
 abbrev pub ServesPair : Served → State → State → Pair → Output → Output → Type 0
 ServesPair (served.Executed delivery.Whole) S T p before after = AnswersPair (Ok tt) S T p before after

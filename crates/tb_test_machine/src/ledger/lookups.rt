@@ -45,24 +45,48 @@ fn posts() -> [Transfer; 6] {
     ]
 }
 
-/// Each in a request of its own: the sums of both accounts then, and the records of posts of the whole, a part and nothing.
-#[test]
-fn posts_whole_part_and_none(rt: HostRuntime) {
-    let alloc = rt.alloc();
+/// A ledger with accounts 1 and 2 after transfers, each in a request of its own.
+fn after(rt: &impl Abort, alloc: Global, profile: Profile, events: &[Transfer]) -> Ledger<Global> {
+    let mut ledger = start(rt, alloc, profile);
+    for event in events {
+        ask(rt, alloc, &mut ledger, *event);
+    }
+    ledger
+}
+
+/// By each profile: the time after transfers, how much they posted from account 1 to account 2, and their records.
+fn expect_found(
+    rt: &impl Abort,
+    alloc: Global,
+    events: &[Transfer],
+    time: u64,
+    posted: u128,
+    records: &[Transfer],
+) {
     for profile in &[Profile::One, Profile::Two] {
-        let mut ledger = start(&rt, alloc, *profile);
-        for event in posts() {
-            ask(&rt, alloc, &mut ledger, event);
-        }
-        let first = found([0, 55, 0, 0], 11, account(1));
-        let second = found([0, 0, 0, 55], 12, account(2));
-        expect_accounts(&rt, alloc, &ledger, &[second, first, second]);
-        let records = [
-            recorded(21, 20, 40, 14),
-            recorded(23, 22, 15, 16),
-            recorded(25, 24, 0, 18),
-        ];
-        expect_transfers(&rt, alloc, &ledger, &records);
+        let ledger = after(rt, alloc, *profile, events);
+        holds(rt, ledger.time() == time, "the time");
+        let first = found([0, posted, 0, 0], 11, account(1));
+        let second = found([0, 0, 0, posted], 12, account(2));
+        expect_accounts(rt, alloc, &ledger, &[second, first, second]);
+        expect_transfers(rt, alloc, &ledger, records);
         drop(ledger);
     }
+}
+
+/// Both accounts in one request, and no transfer.
+#[test]
+fn accounts_created(rt: HostRuntime) {
+    expect_found(&rt, rt.alloc(), &[], 12, 0, &[]);
+}
+
+/// The sums of both accounts, and the records of posts of the whole, a part and nothing.
+#[test]
+fn posts_whole_part_and_none(rt: HostRuntime) {
+    let records = [
+        recorded(21, 20, 40, 14),
+        recorded(23, 22, 15, 16),
+        recorded(25, 24, 0, 18),
+    ];
+    expect_found(&rt, rt.alloc(), &posts(), 18, 55, &records);
 }
