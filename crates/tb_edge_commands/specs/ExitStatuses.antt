@@ -19,6 +19,7 @@ use Rattle.tb_machine.specs.Replays.{ReplayRan}
 use Rattle.tb_edge_commands.specs.declared.arguments.Form.{Form}
 use Rattle.tb_edge_commands.specs.declared.arguments.Form.TheVariants.{Run, Dump, Replay}
 use Rattle.tb_edge_commands.specs.Forms.{form_of}
+use Rattle.tb_edge_commands.specs.Streams.{Change, Streams, new, old}
 use Rattle.tb_edge_commands.specs.declared.commands.CommandFault.{CommandFault}
 use Rattle.tb_edge_commands.specs.declared.commands.CommandFault.TheVariants.{Usage, Serving, Replaying}
 
@@ -81,32 +82,26 @@ Performs Replay (Err (Replaying fault)) before after start written = ReplayRan (
 Performs form outcome before after start written = ⊥
 
 -- the same for what a reader gave and a writer took
-abbrev pub PerformsOn : {R W : Type 0} → sources.Ghosts R → sinks.Ghosts W → Form → Result ℕ CommandFault → R → R → W → W → Type 0
-PerformsOn source sink form outcome before after start written =
-    Performs form outcome (source.input before) (source.input after) (sink.output start) (sink.output written)
+abbrev pub PerformsOn : {R W : Type 0} → sources.Ghosts R → sinks.Ghosts W → Form → Result ℕ CommandFault → Change R → Change W → Type 0
+PerformsOn source sink form outcome reader writer =
+    Performs form outcome (source.input (old reader)) (source.input (new reader)) (sink.output (old writer)) (sink.output (new writer))
 
 -- words that ask for no form: the exit status is 2, and nothing is read or written
-abbrev pub RefusesWords : {R W : Type 0} → List (String Global) → ℕ → R → R → W → W → Type 0
-RefusesWords words exit_status before after start written = form_of (map string_bytes words) ≡ None → (exit_status ≡ 2) × (after ≡ before) × (written ≡ start)
+abbrev pub RefusesWords : {R W : Type 0} → List (String Global) → ℕ → Change R → Change W → Type 0
+RefusesWords words exit_status reader writer =
+    form_of (map string_bytes words) ≡ None → (exit_status ≡ 2) × (new reader ≡ old reader) × (new writer ≡ old writer)
 
 -- words that ask for no form: the line of usage is reported
-abbrev pub PrintsUsage : {E : Type 0} → sinks.Ghosts E → List (String Global) → E → E → Type 0
-PrintsUsage lines words quiet told = form_of (map string_bytes words) ≡ None → PrintsLine (fault_line Usage) (lines.output quiet) (lines.output told)
+abbrev pub PrintsUsage : {E : Type 0} → sinks.Ghosts E → List (String Global) → Change E → Type 0
+PrintsUsage lines words faults = form_of (map string_bytes words) ≡ None → PrintsLine (fault_line Usage) (lines.output (old faults)) (lines.output (new faults))
 
 -- a form was served, and the exit status and the line are those of the outcome
-pub record Exits (form : Form) (exit_status : ℕ) (before after : Input) (start written quiet told : Output) : Type 0 where
+pub record Exits (form : Form) (exit_status : ℕ) (before after : Streams) : Type 0 where
   pub outcome : Result ℕ CommandFault
-  pub performed : Performs form outcome before after start written
+  pub performed : Performs form outcome before.source after.source before.sink after.sink
   pub exit_status_is : exit_status ≡ outcome_exit_status outcome
-  pub line : Prints outcome quiet told
+  pub line : Prints outcome before.faults after.faults
 
 -- the form that words ask for was served, if they ask for one
-abbrev pub ServesWords : List (List ℕ) → ℕ → Input → Input → Output → Output → Output → Output → Type 0
-ServesWords words exit_status before after start written quiet told =
-    (form : Form) → form_of words ≡ Some form → Exits form exit_status before after start written quiet told
-
--- the same for what a reader gave, and a writer and a writer of lines took, before and after a call
-abbrev pub On : {R W E : Type 0} → sources.Ghosts R → sinks.Ghosts W → sinks.Ghosts E
-    → (Input → Input → Output → Output → Output → Output → Type 0) → R → R → W → W → E → E → Type 0
-On source sink lines Does first last start written quiet told =
-    Does (source.input first) (source.input last) (sink.output start) (sink.output written) (lines.output quiet) (lines.output told)
+abbrev pub ServesWords : List (List ℕ) → ℕ → Streams → Streams → Type 0
+ServesWords words exit_status before after = (form : Form) → form_of words ≡ Some form → Exits form exit_status before after

@@ -1,2 +1,3 @@
 pub mod Forms
+pub mod Streams
 pub mod ExitStatuses

@@ -60,8 +60,8 @@ pub fn number(word: &[u8], low: u64, high: u64) -> Option<u64>
     }
 }
 
-/// Two texts with the range of a number of clients between them, 1 to `CLIENTS_MAX`: each message and each page of usage
-/// shows it so.
+/// Two texts with the range of a number of clients between them, 1 to `CLIENTS_MAX`. Messages about it are made so; a page of
+/// usage has the range in its own text.
 #[macro_export]
 macro_rules! with_clients_range {
     ($before:literal, $behind:literal) => {
@@ -126,7 +126,7 @@ fn form_with_two(word: &str, clients_max: &str, last: &str) -> Option<Form>
 }
 
 /// What the words ask for; None if they are not one of the three forms.
-pub fn read_form(words: &[String]) -> Option<Form>
+pub(crate) fn read_form(words: &[String]) -> Option<Form>
     ensures { result ≡ form_of (map string_bytes words.now) }
 {
     match words {

@@ -1,6 +1,7 @@
 //! The forms `run`, `dump` and `replay`, over any reader and writer, and the exit status of each outcome.
 ghost use Rattle.std.specs.Prelude.{◌≡◌, ◌<◌, map, string_bytes};
-ghost use Rattle.tb_edge_commands.specs.ExitStatuses.{fault_exit_status, command_fault_name, fault_line, On, PrintsLine, PrintsUsage, PerformsOn, RefusesWords, ServesWords};
+ghost use Rattle.tb_edge_commands.specs.ExitStatuses.{fault_exit_status, command_fault_name, fault_line, PrintsLine, PrintsUsage, PerformsOn, RefusesWords, ServesWords};
+ghost use Rattle.tb_edge_commands.specs.Streams.{OnStreams};
 
 use crate::arguments::{Form, read_form};
 use crate::lines::{LINE_BYTES, line_of, put_line};
@@ -45,7 +46,7 @@ impl From<DumpFault> for CommandFault {
 
 impl CommandFault {
     /// 1 if a device or memory failed, 2 if the input or the arguments are wrong.
-    pub fn exit_status(self) -> u8
+    fn exit_status(self) -> u8
         ensures value { result ≡ fault_exit_status self }
         ensures failing { 0 < result }
     {
@@ -60,7 +61,7 @@ impl CommandFault {
     }
 
     /// The fault's name, as its line shows it.
-    pub fn name(self) -> &'static str
+    fn name(self) -> &'static str
         ensures { result.now ≡ command_fault_name self }
     {
         match self {
@@ -72,7 +73,7 @@ impl CommandFault {
 }
 
 /// Writes the line `tbs: ` and the fault's name. A failure to write it changes no exit status.
-pub fn print_fault<E: Sink>(fault: CommandFault, faults: &mut E)
+fn print_fault<E: Sink>(fault: CommandFault, faults: &mut E)
     ensures { PrintsLine (fault_line fault) (E.output faults.old) (E.output faults.new) }
 {
     put_line(line_of(fault.name()).as_slice(), faults);
@@ -85,7 +86,7 @@ fn perform<R: Source, W: Sink>(
     reader: &mut R,
     writer: &mut W,
 ) -> Result<u64, CommandFault>
-    ensures { PerformsOn R.Source W.Sink form result reader.old reader.new writer.old writer.new }
+    ensures { PerformsOn R.Source W.Sink form result reader writer }
 {
     let count = match form {
         Form::Run(clients_max, profile) => run(alloc, profile, clients_max, reader, writer)?,
@@ -105,11 +106,10 @@ pub fn command<R: Source, W: Sink, E: Sink>(
     writer: &mut W,
     faults: &mut E,
 ) -> u8
-    ensures usage { RefusesWords words.now result reader.old reader.new writer.old writer.new }
-    ensures printed { PrintsUsage E.Sink words.now faults.old faults.new }
+    ensures usage { RefusesWords words.now result reader writer }
+    ensures printed { PrintsUsage E.Sink words.now faults }
     ensures quiet { result ≡ 0 → faults.new ≡ faults.old }
-    ensures served { On R.Source W.Sink E.Sink (ServesWords (map string_bytes words.now) result)
-        reader.old reader.new writer.old writer.new faults.old faults.new }
+    ensures served { OnStreams R.Source W.Sink E.Sink (ServesWords (map string_bytes words.now) result) reader writer faults }
 {
     let Some(form) = read_form(words) else {
         print_fault(CommandFault::Usage, faults);
@@ -125,7 +125,7 @@ pub fn command<R: Source, W: Sink, E: Sink>(
 }
 
 /// The bytes that a program buffers of its input, and of its output.
-pub const BUFFER_BYTES: usize = 65536;
+const BUFFER_BYTES: usize = 65536;
 
 /// The words after the program's name.
 pub fn words<R: Env + AllocGlobal>(rt: &R) -> io::Result<Vec<String>> {

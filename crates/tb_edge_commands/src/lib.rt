@@ -4,8 +4,8 @@
 //!
 //! Modules, each over those before it:
 //!
-//! - `arguments`: `read_form`, what the words of the command line ask for, and `with_clients_range`, what a text says of a
-//!   number of clients.
+//! - `arguments`: what the words of the command line ask for, the numbers in them, and `with_clients_range`, what a text says
+//!   of a number of clients.
 //! - `lines`: the line that reports a fault.
 //! - `commands`: `serve`, the way from arguments, input and output to `command`: each form over any reader and writer, and the exit
 //!   status of each outcome.
@@ -15,8 +15,6 @@ mod arguments;
 mod commands;
 mod lines;
 
-pub use arguments::{Form, number, read_clients_max, read_form, read_profile};
-pub use commands::{
-    BUFFER_BYTES, CommandFault, command, fault_of, print_fault, refuse, serve, words,
-};
-pub use lines::{LINE_BYTES, line_by, line_of, put_line};
+pub use arguments::{Form, number, read_clients_max, read_profile};
+pub use commands::{CommandFault, command, fault_of, refuse, serve, words};
+pub use lines::{LINE_BYTES, line_of, put_line};
