@@ -1,19 +1,13 @@
 -- The first bytes are written over a blank file.
-use Rattle.std.proofs.Common.{◌≡◌, ◌⊎◌, inl, inr, ⊎_elim, ℕ, ◌≤◌, ◌==◌, ◌&&◌, ◌||◌, Bool, true, false, List, [], ◌∷◌, ◌++◌, length, take, drop, refl, sym, ◌∙◌, ap, subst, arith, nat_eq, length-drop, if◌then◌else◌, Result, Ok, Err, OnOk, IfErr}
+use Rattle.std.proofs.Common.{◌≡◌, ◌⊎◌, inl, inr, ⊎_elim, ℕ, ◌≤◌, ◌==◌, ◌&&◌, ◌||◌, Bool, true, false, List, [], ◌∷◌, ◌++◌, length, take, drop, refl, sym, ◌∙◌, ap, subst, arith, nat_eq, length-drop, if◌then◌else◌, Result, Ok, Err, OnOk}
 use Rattle.std.proofs.lemmas.Grind.{common_steps}
 use Rattle.std.proofs.lemmas.List.{append-nil, drop_all}
 use Rattle.std.specs.List.{starts_with}
 use Rattle.tb_file_journal.specs.declared.faults.JournalFault.{JournalFault}
-use Rattle.tb_file_journal.specs.declared.faults.JournalFault.TheVariants as faults
-use Rattle.tb_file_journal.specs.declared.opening.OpenFault.{OpenFault}
-use Rattle.tb_file_journal.specs.declared.opening.OpenFault.TheVariants as open_faults
-use Rattle.tb_file_journal.specs.Device.{Disk, IsSettled, HasFailed, Torn, LeavesOnly, overwritten}
+use Rattle.tb_file_journal.specs.Device.{Disk, IsSettled, Torn, LeavesOnly, overwritten}
 use Rattle.tb_file_journal.specs.Contents.{magic, latch_closed, is_closed, Ends, Spoiled, front, NotAJournal, Damaged, Records, walk, contents, recorded, journal_of}
 use Rattle.tb_file_journal.specs.Steps.{IsWholeFile, Overwrites}
-use Rattle.tb_file_journal.specs.Creating.{is_torn_from, is_blank, IsUnborn, IsCreateCause, HasCreateCause, IsLeft, WritesFirst}
-use Rattle.tb_file_journal.specs.Opening.{device_left, fault_left}
-use Rattle.tb_file_journal.specs.Ready.{Kept}
-use Rattle.tb_file_journal.specs.declared.opening.NotOpened.{NotOpened}
+use Rattle.tb_file_journal.specs.Creating.{is_torn_from, is_blank, IsUnborn, WritesFirst}
 use Rattle.tb_file_journal.proofs.BlockWalks.{walk-ends, walk-spoiled}
 use Rattle.tb_file_journal.proofs.Moments.{started, weaker}
 use Rattle.tb_file_journal.proofs.Publishing.{wholly}
@@ -70,30 +64,6 @@ begun before after result blank write = record {
     done (Ok x) shown =
         let first : after.seen ≡ journal_of [] = shown ∙ whole before.seen (blank_short before.seen blank) in
         wholly after [] (ap contents first) (subst (λ (f : List ℕ). f ≡ take 8 f ++ latch_closed) (sym first) refl)
-
--- a blank file has no other content
-pub left_alone : (before mid after : Disk) (fault : OpenFault) → is_blank mid.seen ≡ true → IsCreateCause mid after fault → IsLeft before after fault
-left_alone before mid after (open_faults.Refused why) blank cause = tt
-left_alone before mid after (open_faults.Device faults.Memory) blank cause = tt
-left_alone before mid after (open_faults.Device faults.Failed) blank cause = tt
-left_alone before mid after (open_faults.Device faults.Full) blank cause = tt
-left_alone before mid after (open_faults.Device faults.TooLong) blank cause = tt
-left_alone before mid after (open_faults.Device faults.SyncFailed) blank cause = tt
-left_alone before mid after (open_faults.Device faults.NotEmpty) blank cause = absurd (⊎_elim by_device (λ own. ⊎_elim by_blank by_memory own.0) cause)
-  where
-    by_device : HasFailed mid after faults.NotEmpty → ⊥
-    by_device failed = grind (arith, common_steps, failed.named)
-
-    by_blank : (faults.NotEmpty ≡ faults.NotEmpty) × (is_blank mid.seen ≡ false) → ⊥
-    by_blank both = let no : true ≡ false = sym blank ∙ both.1 in absurd (cc)
-
-    by_memory : (faults.NotEmpty ≡ faults.Memory) × (is_blank mid.seen ≡ true) → ⊥
-    by_memory both = let no : faults.NotEmpty ≡ faults.Memory = both.0 in absurd (cc)
-
-pub all_left_alone : {D : Type 0} (disk : D → Disk) (before mid : Disk) (result : Result (Kept D) (NotOpened D)) → is_blank mid.seen ≡ true
-    → HasCreateCause (fault_left result) mid (disk (device_left result)) → IfErr result (λ failed. IsLeft before (disk failed.device) failed.fault)
-all_left_alone disk before mid (Ok journal) blank has = tt
-all_left_alone disk before mid (Err failed) blank has = left_alone before mid (disk failed.device) failed.fault blank has.cause
 
 -- before anything is written
 pub still_blank : (disk : Disk) → IsSettled disk → is_blank disk.seen ≡ true → ((c : List ℕ) → disk.left_since disk.moment c → disk.may_leave c) → LeavesOnly disk disk IsUnborn

@@ -1,12 +1,12 @@
 -- No call on a device fails as NotEmpty.
-use Rattle.std.proofs.Common.{arith, ◌≡◌, true, List, ℕ, [], Result, Ok, Err, IfOk, IfErr}
+use Rattle.std.proofs.Common.{arith, ◌≡◌, true, List, ℕ, Result, Ok, Err, IfErr}
 use Rattle.std.proofs.lemmas.Grind.{common_steps}
 use Rattle.tb_file_journal.specs.declared.faults.JournalFault.{JournalFault}
 use Rattle.tb_file_journal.specs.declared.faults.JournalFault.TheVariants.{NotEmpty}
 use Rattle.tb_file_journal.specs.declared.opening.NotOpened.{NotOpened}
 use Rattle.tb_file_journal.specs.declared.opening.OpenFault.TheVariants as open_faults
-use Rattle.tb_file_journal.specs.Device.{Disk, IsOfCall, IsOfSync}
-use Rattle.tb_file_journal.specs.Ready.{Kept, IsOver}
+use Rattle.tb_file_journal.specs.Device.{IsOfCall, IsOfSync}
+use Rattle.tb_file_journal.specs.Ready.{Kept}
 use Rattle.tb_file_journal.specs.Creating.{is_blank, CreatesIn}
 
 pub call_other : (fault : JournalFault) → IsOfCall fault → fault ≡ NotEmpty → ⊥
@@ -25,8 +25,3 @@ pub creates_in : {D : Type 0} (holds : D → List ℕ → Type 0) (result : Resu
     → IfErr result (λ failed. failed.fault ≡ open_faults.Device NotEmpty → ⊥) → CreatesIn holds result file
 creates_in holds (Ok journal) file blank other = blank
 creates_in holds (Err failed) file blank other = λ is. absurd (other is)
-
-pub blank_over : {D : Type 0} (disk : D → Disk) (file : List ℕ) (result : Result (Kept D) (NotOpened D)) → is_blank file ≡ true
-    → IfOk result (IsOver disk []) → IfOk result (λ journal. (is_blank file ≡ true) × IsOver disk [] journal)
-blank_over disk file (Ok journal) blank over = (blank, over)
-blank_over disk file (Err failed) blank over = tt

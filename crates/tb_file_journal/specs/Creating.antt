@@ -1,12 +1,15 @@
 -- How a journal is created, and what a crash may leave of it.
-use Rattle.std.specs.Prelude.{◌≡◌, ◌⊎◌, ◌==◌, ◌&&◌, ◌||◌, ℕ, ◌≤◌, Bool, true, false, List, [], ◌∷◌, ◌++◌, length, codes, refl, Result, Ok, Err, IfOk, OnOk, IfErr}
+use Rattle.std.specs.Prelude.{◌≡◌, ◌⊎◌, ◌==◌, ◌&&◌, ◌||◌, nat_eq, ℕ, ◌≤◌, Bool, true, false, if◌then◌else◌, List, [], ◌∷◌, ◌++◌, length, codes, refl, Result, Ok, Err, IfOk, OnOk, IfErr}
+use Rattle.std.specs.List.{starts_with}
 use Rattle.tb_file_journal.specs.declared.faults.JournalFault.{JournalFault}
 use Rattle.tb_file_journal.specs.declared.faults.JournalFault.TheVariants.{Memory, NotEmpty}
+use Rattle.tb_file_journal.specs.declared.opening.FileContent.{FileContent}
+use Rattle.tb_file_journal.specs.declared.opening.FileContent.TheVariants as content
 use Rattle.tb_file_journal.specs.declared.opening.OpenFault.{OpenFault}
 use Rattle.tb_file_journal.specs.declared.opening.OpenFault.TheVariants as open_faults
 use Rattle.tb_file_journal.specs.declared.opening.NotOpened.{NotOpened}
 use Rattle.tb_file_journal.specs.Device.{Disk, IsSettled, LeavesOnly, FailsNone, HasFailed, HasCause}
-use Rattle.tb_file_journal.specs.Contents.{NotAJournal, Damaged, Records, contents, journal_of, recorded}
+use Rattle.tb_file_journal.specs.Contents.{magic, NotAJournal, Damaged, Records, contents, journal_of, recorded}
 use Rattle.tb_file_journal.specs.Steps.{IsWholeFile}
 use Rattle.tb_file_journal.specs.Ready.{Kept, IsReady}
 use Rattle.tb_file_journal.specs.Opening.{IsAsBefore}
@@ -20,6 +23,10 @@ is_torn_from (byte ∷ bytes) (own ∷ first) = (byte == 0 || byte == own) && is
 -- an empty file, or a torn one as a creation may leave it: a journal may be created there
 abbrev pub is_blank : List ℕ → Bool
 is_blank file = is_torn_from file (journal_of [])
+
+-- what a file has: it is blank, or it begins as a journal does, or it has anything else
+abbrev pub file_content : List ℕ → FileContent
+file_content file = if is_blank file then content.Blank else if starts_with nat_eq file magic then content.Journal else content.Other
 
 -- a file of at most 12 bytes without a record: it is no journal, its first latch is damaged or missing, or it is a journal without records
 pub record IsUnborn (file : List ℕ) : Type 0 where
@@ -60,10 +67,10 @@ pub record IsNew {D : Type 0} (disk : D → Disk) (journal : Kept D) : Type 0 wh
   pub no_records : recorded (disk journal.device).seen ≡ []
   pub none_waits : journal.waiting ≡ []
 
--- whether a file is blank: the bytes of a blank file are durable afterwards
-pub record FindsBlank (result : Result Bool JournalFault) (before after : Disk) : Type 0 where
-  pub ok : IfOk result (λ found. found ≡ is_blank before.seen)
-  pub settled : before.sound ≡ true → IfOk result (λ found. found ≡ true → IsSettled after)
+-- what a file has: its bytes are durable afterwards
+pub record FindsContent (result : Result FileContent JournalFault) (before after : Disk) : Type 0 where
+  pub ok : IfOk result (λ found. found ≡ file_content before.seen)
+  pub settled : before.sound ≡ true → OnOk result (IsSettled after)
   pub seen : after.seen ≡ before.seen
   pub sound : OnOk result (after.sound ≡ before.sound)
   pub any_moment : LeavesOnly before after (IsAsBefore before)
@@ -89,3 +96,13 @@ zeros_in_their_place = refl
 
 pub other_bytes : is_blank (codes "TBX") ≡ false
 other_bytes = refl
+
+-- a journal without records is blank; one byte more, and it is a journal
+pub blank_content : file_content (journal_of []) ≡ content.Blank
+blank_content = refl
+
+pub journal_content : file_content (journal_of [] ++ 0 ∷ []) ≡ content.Journal
+journal_content = refl
+
+pub other_content : file_content (codes "TBJRNL01 is another") ≡ content.Other
+other_content = refl

@@ -16,6 +16,7 @@ pub const OPEN: [u8; 4] = [255; 4];
 
 pub const CLOSED: [u8; 4] = [90, 195, 150, 105];
 
+/// The bytes of a latch, open or closed.
 pub const LATCH_BYTES: usize = 4;
 
 // What is between the latch of a block and its record: length and checksum.

@@ -19,7 +19,7 @@
 //! - `laws`: what holds of every file that grows.
 //! - `scans`: `Scan`, a file read record by record, ahead in pieces of 64 KiB or one whole block; `read_journal`, to its end.
 //! - `seeking`: `Seek`, which seeks a record at any offset of a file by its checksum, for example after damage.
-//! - `opening`: `finds_blank`; `create`, a journal in an empty file; `Journal::open` and `recover`, which cut off what follows the records.
+//! - `opening`: `look`, what a file has; `create`, a journal in an empty file; `Journal::open` and `recover`, which cut off what follows the records.
 //!
 //! specs/Contents is what a file's bytes represent, specs/Device what each call of a device does, specs/Scans what was read of
 //! a file, specs/Steps, Opening and Creating what the journal's calls leave.
@@ -44,12 +44,13 @@ mod systems;
 mod tables;
 mod written;
 
+pub use batches::LATCH_BYTES;
 pub use devices::Device;
 pub use faults::JournalFault;
 pub use growing::Growing;
 pub use journals::{FILE_BYTES_MAX, Journal, RECORD_BYTES_MAX};
 pub use memory::Memory;
-pub use opening::{NotOpened, OpenFault, create, finds_blank, recover};
+pub use opening::{FileContent, NotOpened, OpenFault, create, look, recover};
 pub use posix::Posix;
 pub use reading::{Extent, Refusal, checksum_of};
 pub use real::{FileFault, HostFile, Real, sync_folder};

@@ -6,7 +6,7 @@ ghost use Rattle.tb_file_journal.specs.Steps.{Shortens};
 ghost use Rattle.tb_file_journal.specs.Reading.{extent_of, LooksKept};
 ghost use Rattle.tb_file_journal.specs.Ready.{IsOver};
 ghost use Rattle.tb_file_journal.specs.Opening.{IsOfExtent, Recovers, StandsForTheSame, IsOfDevice, HasOpenCause, IsUntouched, Repairs, device_left, LeavesSameRecords, CausedBy, GivesBack, OpensIfSound, IsAsideBehind};
-ghost use Rattle.tb_file_journal.specs.Creating.{is_torn_from, is_blank, MayBeCreated, IsLeft, HasCreateCause, CreatesIn, IsNew, IsUnborn, FindsBlank, WritesFirst};
+ghost use Rattle.tb_file_journal.specs.Creating.{is_torn_from, is_blank, file_content, MayBeCreated, IsLeft, HasCreateCause, CreatesIn, IsNew, IsUnborn, FindsContent, WritesFirst};
 
 use crate::batches::{Batch, LATCH_BYTES};
 use crate::devices::Device;
@@ -15,6 +15,17 @@ use crate::journals::{FILE_BYTES_MAX, Journal, write_kept};
 use crate::reading::{Extent, MAGIC, Refusal};
 use crate::scans::read_journal;
 use std::alloc::Global;
+
+/// What a file has.
+#[derive(Clone, Copy, Debug, PartialEq, Eq)]
+pub enum FileContent {
+    /// Nothing, or what a crash may leave of a creation: a journal may be created there.
+    Blank,
+    /// The first bytes of a journal, and more than a creation may leave.
+    Journal,
+    /// Anything else: it is no journal.
+    Other,
+}
 
 /// Why a journal was not opened.
 #[derive(Clone, Copy, Debug, PartialEq, Eq)]
@@ -156,33 +167,42 @@ pub fn create<D: Device>(alloc: Global, device: D) -> Result<Journal<D>, NotOpen
     ensures cause { D.tells → CausedBy D.disk device result HasCreateCause }
 {
     let mut device = device;
-    match finds_blank(&mut device) {
-        Ok(true) => begin(alloc, device),
-        Ok(false) => Err(NotOpened::of_device(device, JournalFault::NotEmpty)),
+    match look(&mut device) {
+        Ok(found) => {
+            if found != FileContent::Blank {
+                return Err(NotOpened::of_device(device, JournalFault::NotEmpty));
+            }
+            begin(alloc, device)
+        }
         Err(fault) => Err(NotOpened::of_device(device, fault)),
     }
 }
 
-/// Returns whether a file is blank: empty, or as a crash may leave it during a creation. A file that is longer than the first bytes is not blank, and
-/// is not read.
-pub fn finds_blank<D: Device>(device: &mut D) -> Result<bool, JournalFault>
-    ensures found { OfHeld (D.holds device.old) (λ file. IfOk result (λ found. found ≡ is_blank file)) }
+/// What a file has, by its first bytes, which are durable before they are read. No more of it is read.
+pub fn look<D: Device>(device: &mut D) -> Result<FileContent, JournalFault>
+    ensures found { OfHeld (D.holds device.old) (λ file. IfOk result (λ found. found ≡ file_content file)) }
     ensures same { (file : List ℕ) → D.holds device.old file → D.holds device.new file }
     ensures other { IfErr result (λ fault. fault ≡ JournalFault.NotEmpty → ⊥) }
-    ensures finds { D.tells → FindsBlank result (D.disk device.old) (D.disk device.new) }
+    ensures finds { D.tells → FindsContent result (D.disk device.old) (D.disk device.new) }
 {
-    match device.len() {
-        Ok(len) => {
-            if len > FIRST.len() {
-                return Ok(false);
-            }
-            let mut bytes = [0; 12];
-            match read_kept(device, &mut bytes) {
-                Ok(count) => Ok(is_blank(&bytes[..count])),
-                Err(fault) => Err(fault),
-            }
-        }
+    // A blank file has at most 12 bytes.
+    let mut bytes = [0; 13];
+    match read_kept(device, &mut bytes) {
+        Ok(count) => Ok(content_of(&bytes[..count])),
         Err(fault) => Err(fault),
+    }
+}
+
+// What a file has that begins with these bytes. They are all of it, or more than 12.
+fn content_of(bytes: &[u8]) -> FileContent
+    ensures { result ≡ file_content bytes.now }
+{
+    if is_blank(bytes) {
+        FileContent::Blank
+    } else if bytes.starts_with(&MAGIC) {
+        FileContent::Journal
+    } else {
+        FileContent::Other
     }
 }
 

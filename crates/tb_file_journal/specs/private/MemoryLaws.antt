@@ -49,12 +49,12 @@ cut_whole n file = record {
   front = ap (λ (k : ℕ). take k file) (length-take n file) ∙ take_min n file;
 }
 
-fits : (at n : ℕ) → nat_le at n ≡ true → at ≤ n
-fits at n is = grind (arith, nat_tests)
+at_most_by_test : (at n : ℕ) → nat_le at n ≡ true → at ≤ n
+at_most_by_test at n is = grind (arith, nat_tests)
 
 torn_choice : (at n : ℕ) (bytes old : List ℕ) (shown room : Bool) → length bytes ≤ n → nat_le at (length old) ≡ room
     → Torn at n old (if shown && room then overwritten old at bytes else old)
-torn_choice at n bytes old true true short is = torn_part at n bytes old (fits at (length old) is) short
+torn_choice at n bytes old true true short is = torn_part at n bytes old (at_most_by_test at (length old) is) short
 torn_choice at n bytes old true false short is = torn_same at n old
 torn_choice at n bytes old false room short is = torn_same at n old
 
