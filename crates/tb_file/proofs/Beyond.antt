@@ -15,7 +15,8 @@ use Rattle.tb_file.specs.declared.faults.SalvageFault.TheVariants.{Old, New}
 use Rattle.tb_file.specs.Recovering.{RecordsLead}
 use Rattle.tb_file.specs.ReadingOn.{StandBetween, IsReadOn, LeavesLonger}
 use Rattle.tb_file.specs.private.Behind.{TakenOn, TakesOn}
-use Rattle.tb_file.specs.private.Taking.{IsBetween, line, Queues, TakesRecord, CommitsTaken, IsUntaken}
+use Rattle.tb_file.specs.private.Taking.{TakesRecord, CommitsTaken, IsUntaken}
+use Rattle.tb_file.specs.RecordSteps.{IsBetween, all_records, Queues}
 use Rattle.tb_file.proofs.Entered.{Latest}
 use Rattle.tb_file.proofs.Leading.{leads_none}
 use Rattle.tb_file.proofs.Taking.{queues_none, queues_then, breaks_then, leads_join, leads_one, leads_first}
@@ -123,7 +124,7 @@ module _ {N : Type 0} (disk : N → Disk) (before : Keeping N) (h : History) (ke
   abbrev base : List (List ℕ)
   base = recorded (disk before.journal.device).seen
 
-  lines : (records : List (List ℕ)) → line disk before.journal ++ records ≡ records_of h ++ records
+  lines : (records : List (List ℕ)) → all_records disk before.journal ++ records ≡ records_of h ++ records
   lines records =
       ap (λ (l : List (List ℕ)). l ++ records)
       (ap (λ (l : List (List ℕ)). l ++ before.journal.waiting) keeps.file ∙ ap (λ (w : List (List ℕ)). records_of h ++ w) keeps.fresh.none_waits ∙ append-nil (records_of h))
@@ -135,13 +136,13 @@ module _ {N : Type 0} (disk : N → Disk) (before : Keeping N) (h : History) (ke
       let file = recorded (disk after.journal.device).seen in
       record {
         fresh = record { ready = queues.ready; none_waits = none };
-        file = sym (append-nil file) ∙ ap (λ (l : List (List ℕ)). file ++ l) (sym none) ∙ queues.line_is ∙ lines records ∙ spelled;
+        file = sym (append-nil file) ∙ ap (λ (l : List (List ℕ)). file ++ l) (sym none) ∙ queues.records_are ∙ lines records ∙ spelled;
         state = state;
         keepable = keepable;
       }
 
   module _ (records : List (List ℕ)) (T : State) (more : RecordsLead before.state records T) where
-    crashed : (c : List ℕ) → IsBetween base (line disk before.journal ++ records) c → (others : List Entry) × IsLedger (longer h others) c
+    crashed : (c : List ℕ) → IsBetween base (all_records disk before.journal ++ records) c → (others : List Entry) × IsLedger (longer h others) c
     crashed c (some, rest, reads, is) =
         let parts : records ≡ some ++ rest =
         append_cancel_left (records_of h) records (some ++ rest)
@@ -150,9 +151,9 @@ module _ {N : Type 0} (disk : N → Disk) (before : Keeping N) (h : History) (ke
         let (keepable, state, spelled) = goes_on h keeps.keepable U some before.state keeps.state first in
         (first.entries, record { reads = reads ∙ ap Records (ap (λ (l : List (List ℕ)). l ++ some) keeps.file ∙ spelled); keepable = keepable })
 
-    pub leaves_longer : (to : Disk) → LeavesOnly (disk before.journal.device) to (IsBetween base (line disk before.journal ++ records)) → LeavesLonger h (disk before.journal.device) to
+    pub leaves_longer : (to : Disk) → LeavesOnly (disk before.journal.device) to (IsBetween base (all_records disk before.journal ++ records)) → LeavesLonger h (disk before.journal.device) to
     leaves_longer to leaves =
-        weaker (disk before.journal.device) to (IsBetween base (line disk before.journal ++ records)) (λ c. (others : List Entry) × IsLedger (longer h others) c) crashed leaves
+        weaker (disk before.journal.device) to (IsBetween base (all_records disk before.journal ++ records)) (λ c. (others : List Entry) × IsLedger (longer h others) c) crashed leaves
 
 -- what a call leaves
 

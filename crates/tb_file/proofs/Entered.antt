@@ -17,7 +17,8 @@ use Rattle.tb_file.specs.declared.faults.StartFault.TheVariants as start
 use Rattle.tb_file.specs.Keeping.{head_record}
 use Rattle.tb_file.specs.Recovering.{RecordsLead, StopsAt, AppliesRecord, AppliesRecords, HeadRecordAnswers, IsRestored, IsRestoredFrom, StopsBehindHead, StopsBeginning, StopsReading}
 use Rattle.tb_file.specs.declared.recovering.Rules.{Rules}
-use Rattle.tb_file.specs.private.Entering.{StaysKept, EntersNextRecord, EntersAll, FindsBehind}
+use Rattle.tb_file.specs.private.Entering.{EntersNextRecord, EntersAll, FindsBehind}
+use Rattle.tb_file.specs.RecordSteps.{StaysKept}
 use Rattle.tb_file.proofs.Opened.{Counts, untouched_then}
 use Rattle.tb_file.proofs.Leading.{leads_more, stops_file}
 

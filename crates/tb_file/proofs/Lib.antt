@@ -7,6 +7,7 @@ pub mod Lasting
 pub mod Leading
 pub mod WholeFiles
 pub mod Opened
+pub mod TornBytes
 pub mod Sources
 pub mod Causes
 pub mod Entered

@@ -1,12 +1,13 @@
 -- Why a file is not opened.
-use Rattle.std.proofs.Common.{arith, ◌≡◌, inl, inr, ℕ, ◌+◌, ◌<◌, ◌≤◌, ◌^◌, Bool, true, false, List, [], Result, Ok, Err, IfOk, IfErr, MatchResult, sym, ap, ◌∙◌, subst}
+use Rattle.std.proofs.Common.{arith, ◌≡◌, inl, inr, ℕ, ◌+◌, ◌≤◌, ◌^◌, true, false, List, [], Result, Ok, Err, IfOk, IfErr, MatchResult, sym, ap, ◌∙◌, subst}
 use Rattle.std.proofs.lemmas.Grind.{common_steps}
 use Rattle.tb_records.specs.declared.limits.Profile.{Profile}
 use Rattle.std.specs.Prelude.{drop}
 use Rattle.tb_file_journal.specs.Device.{Disk, LeavesOnly, SetsAside}
 use Rattle.tb_file_journal.specs.Reading.{extent_of}
 use Rattle.tb_file_journal.specs.Contents.{Records, contents, recorded}
-use Rattle.tb_file_journal.specs.Creating.{is_blank, FindsBlank}
+use Rattle.tb_file_journal.specs.Creating.{is_blank, FindsContent}
+use Rattle.tb_file_journal.specs.declared.opening.FileContent.{FileContent}
 use Rattle.tb_file_journal.specs.declared.faults.JournalFault.{JournalFault}
 use Rattle.tb_file_journal.specs.Opening.{IsAsBefore}
 use Rattle.tb_file_journal.specs.declared.reading.Extent.{Extent}
@@ -19,7 +20,7 @@ use Rattle.tb_file.specs.declared.faults.StartFault.{StartFault}
 use Rattle.tb_file.specs.declared.faults.StartFault.TheVariants as start
 use Rattle.tb_file.specs.declared.creating.NotKept.{NotKept}
 use Rattle.tb_file.specs.Keeping.{Keeping, Keeps}
-use Rattle.tb_file.specs.Recovering.{IsRestored, IsRestoredFrom, IsNotOfFile, IsTornTooLong, StopsOpening, AreAside, torn_bytes}
+use Rattle.tb_file.specs.Recovering.{IsRestored, IsRestoredFrom, IsNotOfFile, StopsOpening, AreAside, torn_bytes}
 use Rattle.tb_file.specs.Creating.{OpensFile, StartsFile, CreatesLedgerIn, IsOpenedLedger, IsStarted, IsDiskUntouched, MayBeOpened, LedgerMayBeCreated, MayBeStarted, IsOpenRefused, IsCreateRefused, IsStartRefused, history_of}
 
 abbrev pub Counts : Disk → Type 0
@@ -101,12 +102,6 @@ module _ (profile : Profile) (clients_max : ℕ) (file : List ℕ) where
   )
   opens_file machine extent cut found torn few (Err failed) outside = not_of_file failed.fault (is_told (contents file) extent found.extent_is).reads outside
 
-  pub too_long : (machine : State) (extent : Extent) (at bytes : ℕ) → IsRestoredFrom profile clients_max file machine extent → at ≡ extent.end → bytes ≡ torn_bytes file → 2 ^ 22 < bytes
-      → IsTornTooLong at bytes file
-  too_long machine extent at bytes found place torn many =
-      let told = is_told (contents file) extent found.extent_is in
-      record { reads = told.reads; place = place ∙ told.end; torn = torn; many = many }
-
 -- what a start cut off
 
 pub aside_behind : (saved : ℕ → List ℕ → Type 0) (file : List ℕ) (extent : Extent) (cut : ℕ) → extent_of (contents file) ≡ Ok extent → cut ≡ torn_bytes file
@@ -185,7 +180,7 @@ created_at_last profile clients_max before mid after counts first second =
 
 -- what a look at a file leaves
 
-pub looked : (result : Result Bool JournalFault) (before after : Disk) → FindsBlank result before after → IsDiskUntouched before after
+pub looked : (result : Result FileContent JournalFault) (before after : Disk) → FindsContent result before after → IsDiskUntouched before after
 looked result before after finds = record { seen = finds.seen; any_moment = finds.any_moment }
 
 pub looked_at_last : (profile : Profile) (clients_max : ℕ) (before after : Disk) → IsDiskUntouched before after → LeavesOnly before after (MayBeStarted profile clients_max before)

@@ -30,7 +30,8 @@ use Rattle.tb_file.specs.Keeping.{History, history_state, records_of, head_recor
 use Rattle.tb_file.specs.Creating.{history_of, LedgerMayBeCreated, IsCreateRefused, IsCreateStartCause}
 use Rattle.tb_file.specs.Recovering.{RecordsLead, StopsAt, StopsBeginning, StopsFile, IsNotOfFile, IsStartCause}
 use Rattle.tb_file.specs.Salvaging.{StopsBehind, IsHistoryTaken, IsSalvaged, IsBackedUp, IsUnsalvaged, IsNotBackedUp, IsWriteCause, IsNewCause, HasNewCause, MayBeSalvaged, IsLeftAlone}
-use Rattle.tb_file.specs.private.Taking.{HoldsRead, IsBetween, line, Taken, TakesRest, of_new}
+use Rattle.tb_file.specs.private.Taking.{Taken, TakesRest, of_new}
+use Rattle.tb_file.specs.RecordSteps.{HoldsRead, IsBetween, all_records}
 use Rattle.tb_file.specs.Reading.{HasRules, RulesIn, rules_of}
 use Rattle.tb_file.proofs.Entered.{Latest}
 use Rattle.tb_file.proofs.Leading.{leads_none, stops_file}
@@ -263,20 +264,20 @@ module _ (rules : Rules) (clients : IsClients rules.clients_max) {N : Type 0} (d
     begins : (file : List ℕ) → reads file → BeginsWith (top ∷ records) file
     begins file of = (taken.read file (top ∷ []) of.0 of.1).begins
 
-    lines : tells → line disk created.journal ++ records ≡ top ∷ records
+    lines : tells → all_records disk created.journal ++ records ≡ top ∷ records
     lines t =
         ap (λ (l : List (List ℕ)). (l ++ created.journal.waiting) ++ records) (kept t).file
         ∙ ap (λ (l : List (List ℕ)). ((top ∷ []) ++ l) ++ records) (kept t).fresh.none_waits
 
     between : tells → (to : Disk)
-        → LeavesOnly (disk created.journal.device) to (IsBetween (recorded (disk created.journal.device).seen) (line disk created.journal ++ records))
+        → LeavesOnly (disk created.journal.device) to (IsBetween (recorded (disk created.journal.device).seen) (all_records disk created.journal ++ records))
         → LeavesOnly (disk created.journal.device) to (IsBetween (top ∷ []) (top ∷ records))
     between t to leaves =
         subst (λ (l : List (List ℕ)). LeavesOnly (disk created.journal.device) to (IsBetween (top ∷ []) l)) (lines t)
-        (subst (λ (r : List (List ℕ)). LeavesOnly (disk created.journal.device) to (IsBetween r (line disk created.journal ++ records))) (kept t).file leaves)
+        (subst (λ (r : List (List ℕ)). LeavesOnly (disk created.journal.device) to (IsBetween r (all_records disk created.journal ++ records))) (kept t).file leaves)
 
     all_moments : tells → (before to : Disk) → is_blank before.seen ≡ true → LeavesOnly before (disk created.journal.device) (LedgerMayBeCreated rules.profile rules.clients_max before)
-        → LeavesOnly (disk created.journal.device) to (IsBetween (recorded (disk created.journal.device).seen) (line disk created.journal ++ records))
+        → LeavesOnly (disk created.journal.device) to (IsBetween (recorded (disk created.journal.device).seen) (all_records disk created.journal ++ records))
         → LeavesOnly before to (MayBeSalvaged reads before)
     all_moments t before to blank made leaves =
         moments_of_all rules clients records after.state leading reads begins before (disk created.journal.device) to blank made (between t to leaves)
@@ -296,7 +297,7 @@ module _ (rules : Rules) (clients : IsClients rules.clients_max) {N : Type 0} (d
             fresh = record { ready = (taken.queues t).ready; none_waits = none_waits };
             file = sym (append-nil (recorded (disk last.journal.device).seen))
                 ∙ ap (λ (l : List (List ℕ)). recorded (disk last.journal.device).seen ++ l) (sym none_waits)
-                ∙ (taken.queues t).line_is
+                ∙ (taken.queues t).records_are
                 ∙ lines records here last taken t
                 ∙ spelled;
             state = leads.state;
@@ -328,7 +329,7 @@ module _ (rules : Rules) (clients : IsClients rules.clients_max) {N : Type 0} (d
       (all_moments records here middle taken t before (disk middle.journal.device) blank made (taken.queues t).any_moment)
   moments_behind t (Err (New fault)) before blank made (records, here, middle, taken, (f, named, breaks), is) =
       all_moments records here middle taken t before (disk last.journal.device) blank made
-      (subst (λ (r : List (List ℕ)). LeavesOnly (disk created.journal.device) (disk last.journal.device) (IsBetween (recorded (disk created.journal.device).seen) (line disk created.journal ++ r)))
+      (subst (λ (r : List (List ℕ)). LeavesOnly (disk created.journal.device) (disk last.journal.device) (IsBetween (recorded (disk created.journal.device).seen) (all_records disk created.journal ++ r)))
       (append-nil records) (breaks_then disk created.journal middle.journal last.journal records [] (taken.queues t) f (breaks t)).any_moment)
 
   pub cause_behind : tells → (result : Result (Extent × Option StartFault) SalvageFault) → (before : Disk) → FailsNone before (disk created.journal.device)

@@ -4,7 +4,7 @@ use Rattle.tb_file_journal.specs.declared.opening.OpenFault.{OpenFault}
 use Rattle.tb_file_journal.specs.declared.opening.OpenFault.TheVariants as open_faults
 use Rattle.tb_file_journal.specs.Opening.{RefusesFile}
 use Rattle.tb_file_journal.specs.Scans.{ScanState, HasRead, ReadsNextRecord}
-use Rattle.tb_file.specs.private.Sources.{IsNext}
+use Rattle.tb_file.specs.RecordSteps.{IsNext}
 use Rattle.std.proofs.Common.{Err}
 
 pub next_is : (result : Result Bool OpenFault) (read : List (List ℕ)) (file : List ℕ) (old new : ScanState)

@@ -1,5 +1,5 @@
 -- What is copied from all records after a place.
-use Rattle.std.proofs.Common.{ℕ, ◌≡◌, ◌<◌, ◌^◌, true, List, [], ◌++◌, Option, None, Some, Result, Ok, Err, IfOk, IfErr, OnOk, OnErr, refl, sym, ap, ◌∙◌, subst, append-nil}
+use Rattle.std.proofs.Common.{ℕ, ◌≡◌, true, List, [], ◌++◌, Option, None, Some, Result, Ok, Err, IfOk, IfErr, OnOk, OnErr, refl, sym, ap, ◌∙◌, subst, append-nil}
 use Rattle.tb_file_journal.specs.declared.opening.OpenFault.TheVariants as open_faults
 use Rattle.tb_file_journal.specs.declared.reading.Extent.{Extent}
 use Rattle.tb_file_journal.specs.Device.{Disk, FailsNone}
@@ -8,26 +8,21 @@ use Rattle.tb_file_journal.specs.Ready.{Kept, IsReady}
 use Rattle.tb_file_journal.specs.Reading.{extent_of}
 use Rattle.tb_file_journal.specs.Scans.{ScanState}
 use Rattle.tb_file_journal.proofs.Causes.{none_since}
-use Rattle.tb_file_journal.proofs.Opened.{is_told}
 use Rattle.tb_machine.specs.Histories.{State}
 use Rattle.tb_file.specs.declared.faults.SalvageFault.{SalvageFault}
 use Rattle.tb_file.specs.declared.faults.SalvageFault.TheVariants.{Old, New}
 use Rattle.tb_file.specs.declared.faults.StartFault.{StartFault}
 use Rattle.tb_file.specs.declared.faults.StartFault.TheVariants as start
 use Rattle.tb_file.specs.Keeping.{Keeping}
-use Rattle.tb_file.specs.Recovering.{RecordsLead, IsTornTooLong, HasStartCause, IsStartCause, torn_bytes}
+use Rattle.tb_file.specs.Recovering.{RecordsLead, HasStartCause, IsStartCause}
 use Rattle.tb_file.specs.Salvaging.{StopsBehind, IsUnsalvaged, old_part}
-use Rattle.tb_file.specs.private.Taking.{stop_of, of_old, StopsAfter, StopsBy, IsTornStop, IsOldDevice, FailsWriting, Queues, Taken, TakesAll, CommitsTaken, TakesRest}
+use Rattle.tb_file.specs.private.Taking.{stop_of, of_old, StopsAfter, StopsBy, IsTornStop, IsOldDevice, Taken, TakesAll, CommitsTaken, TakesRest}
+use Rattle.tb_file.specs.RecordSteps.{FailsWriting, Queues}
 use Rattle.tb_file.proofs.Causes.{has_start_then}
 use Rattle.tb_file.proofs.Entered.{extent_found}
 use Rattle.tb_file.proofs.Taking.{queues_then}
 
 -- torn bytes
-
-pub torn_told : (file : List ℕ) (extent : Extent) (torn : ℕ) → extent_of (contents file) ≡ Ok extent → torn ≡ torn_bytes file → 2 ^ 22 < torn → IsTornTooLong extent.end torn file
-torn_told file extent torn found is many =
-    let told = is_told (contents file) extent found in
-    record { reads = told.reads; place = told.end; torn = is; many = many }
 
 pub stops_torn : (done : Unit {0}) (result : Result (Option StartFault) SalvageFault) (holds : List ℕ → Type 0) (extent : Extent)
     → ((file : List ℕ) → holds file → extent_of (contents file) ≡ Ok extent → IfOk result (IsTornStop file)) → IfErr result IsOldDevice

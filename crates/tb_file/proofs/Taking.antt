@@ -27,7 +27,8 @@ use Rattle.tb_file.specs.declared.faults.StartFault.TheVariants as start
 use Rattle.tb_file.specs.Recovering.{RecordsLead, AppliesRecord, StopsAt, IsStartCause, HasStartCause}
 use Rattle.tb_file.specs.Rounds.{block_bytes_max}
 use Rattle.tb_file.specs.Salvaging.{IsOwnWriteCause, IsWriteCause, old_part}
-use Rattle.tb_file.specs.private.Taking.{IsBetween, line, Queues, FailsWriting, Puts, Taken, StopsAfter, TakesRecord, CommitsTaken, EndsTaking, TakesNext, by_device}
+use Rattle.tb_file.specs.private.Taking.{Taken, StopsAfter, TakesRecord, CommitsTaken, EndsTaking, TakesNext, by_device}
+use Rattle.tb_file.specs.RecordSteps.{IsBetween, all_records, Queues, FailsWriting, Puts}
 use Rattle.tb_file.proofs.Batches.{entry_short}
 use Rattle.tb_file.proofs.Entered.{Latest}
 use Rattle.tb_file.proofs.Leading.{leads_none, leads_more}
@@ -58,7 +59,7 @@ write_cause_since before mid after fault none (inr (own, same)) = inr (own, none
 
 module _ {N : Type 0} (disk : N → Disk) where
   at_once : (journal : Kept N) (records : List (List ℕ)) → IsReady disk journal → (c : List ℕ) → (disk journal.device).may_leave c
-      → IsBetween (recorded (disk journal.device).seen) (line disk journal ++ records) c
+      → IsBetween (recorded (disk journal.device).seen) (all_records disk journal ++ records) c
   at_once journal records ready c may =
       let base = recorded (disk journal.device).seen in (
         [],
@@ -68,13 +69,13 @@ module _ {N : Type 0} (disk : N → Disk) where
       )
 
   module _ (journal : Kept N) (now : Latest (disk journal.device)) (ready : IsReady disk journal) where
-    still : (records : List (List ℕ)) → LeavesOnly (disk journal.device) (disk journal.device) (IsBetween (recorded (disk journal.device).seen) (line disk journal ++ records))
-    still records = started (disk journal.device) (IsBetween (recorded (disk journal.device).seen) (line disk journal ++ records)) (λ c left. at_once journal records ready c (now c left))
+    still : (records : List (List ℕ)) → LeavesOnly (disk journal.device) (disk journal.device) (IsBetween (recorded (disk journal.device).seen) (all_records disk journal ++ records))
+    still records = started (disk journal.device) (IsBetween (recorded (disk journal.device).seen) (all_records disk journal ++ records)) (λ c left. at_once journal records ready c (now c left))
 
     pub queues_none : Queues disk [] journal journal
     queues_none = record {
       ready = ready;
-      line_is = sym (append-nil (line disk journal));
+      records_are = sym (append-nil (all_records disk journal));
       grown = ([], sym (append-nil (recorded (disk journal.device).seen)));
       none = none_at_once (disk journal.device);
       any_moment = still [];
@@ -83,7 +84,7 @@ module _ {N : Type 0} (disk : N → Disk) where
     pub queues_record : (after : Kept N) (bytes : List ℕ) → after ≡ record journal { waiting = journal.waiting ++ bytes ∷ [] } → Queues disk (bytes ∷ []) journal after
     queues_record after bytes is = subst (λ (j : Kept N). Queues disk (bytes ∷ []) journal j) (sym is) (record {
       ready = record { at_rest = ready.at_rest; ends = ready.ends; counts = ready.counts };
-      line_is = sym (append_assoc (recorded (disk journal.device).seen) journal.waiting (bytes ∷ []));
+      records_are = sym (append_assoc (recorded (disk journal.device).seen) journal.waiting (bytes ∷ []));
       grown = ([], sym (append-nil (recorded (disk journal.device).seen)));
       none = none_at_once (disk journal.device);
       any_moment = still (bytes ∷ []);
@@ -95,17 +96,17 @@ module _ {N : Type 0} (disk : N → Disk) where
 
   module _ (before after : Kept N) where
     moments_of_batch : LeavesOnly (disk before.device) (disk after.device) (IsBeforeOrAfter (recorded (disk before.device).seen) before.waiting)
-        → LeavesOnly (disk before.device) (disk after.device) (IsBetween (recorded (disk before.device).seen) (line disk before ++ []))
+        → LeavesOnly (disk before.device) (disk after.device) (IsBetween (recorded (disk before.device).seen) (all_records disk before ++ []))
     moments_of_batch leaves =
         weaker (disk before.device) (disk after.device) (IsBeforeOrAfter (recorded (disk before.device).seen) before.waiting)
-        (IsBetween (recorded (disk before.device).seen) (line disk before ++ [])) (between_batch (recorded (disk before.device).seen) before.waiting) leaves
+        (IsBetween (recorded (disk before.device).seen) (all_records disk before ++ [])) (between_batch (recorded (disk before.device).seen) before.waiting) leaves
 
     pub queues_commit : IsReady disk after → recorded (disk after.device).seen ≡ recorded (disk before.device).seen ++ before.waiting → after.waiting ≡ []
         → FailsNone (disk before.device) (disk after.device)
         → LeavesOnly (disk before.device) (disk after.device) (IsBeforeOrAfter (recorded (disk before.device).seen) before.waiting) → Queues disk [] before after
     queues_commit ready acknowledged emptied none leaves = record {
       ready = ready;
-      line_is = ap (λ (l : List (List ℕ)). recorded (disk after.device).seen ++ l) emptied ∙ ap (λ (l : List (List ℕ)). l ++ []) acknowledged;
+      records_are = ap (λ (l : List (List ℕ)). recorded (disk after.device).seen ++ l) emptied ∙ ap (λ (l : List (List ℕ)). l ++ []) acknowledged;
       grown = (before.waiting, acknowledged);
       none = none;
       any_moment = moments_of_batch leaves;
@@ -119,27 +120,27 @@ module _ {N : Type 0} (disk : N → Disk) where
     abbrev base : List (List ℕ)
     base = recorded (disk first.device).seen
 
-    lines : line disk mid ++ ys ≡ line disk first ++ (xs ++ ys)
-    lines = ap (λ (l : List (List ℕ)). l ++ ys) one.line_is ∙ append_assoc (line disk first) xs ys
+    lines : all_records disk mid ++ ys ≡ all_records disk first ++ (xs ++ ys)
+    lines = ap (λ (l : List (List ℕ)). l ++ ys) one.records_are ∙ append_assoc (all_records disk first) xs ys
 
-    moments : LeavesOnly (disk mid.device) (disk last.device) (IsBetween (recorded (disk mid.device).seen) (line disk mid ++ ys))
-        → LeavesOnly (disk first.device) (disk last.device) (IsBetween base (line disk first ++ (xs ++ ys)))
+    moments : LeavesOnly (disk mid.device) (disk last.device) (IsBetween (recorded (disk mid.device).seen) (all_records disk mid ++ ys))
+        → LeavesOnly (disk first.device) (disk last.device) (IsBetween base (all_records disk first ++ (xs ++ ys)))
     moments second =
-        then (disk first.device) (disk mid.device) (disk last.device) (IsBetween base (line disk first ++ (xs ++ ys)))
-        (weaker (disk first.device) (disk mid.device) (IsBetween base (line disk first ++ xs)) (IsBetween base (line disk first ++ (xs ++ ys))) early one.any_moment)
-        (weaker (disk mid.device) (disk last.device) (IsBetween (recorded (disk mid.device).seen) (line disk mid ++ ys)) (IsBetween base (line disk first ++ (xs ++ ys))) late second)
+        then (disk first.device) (disk mid.device) (disk last.device) (IsBetween base (all_records disk first ++ (xs ++ ys)))
+        (weaker (disk first.device) (disk mid.device) (IsBetween base (all_records disk first ++ xs)) (IsBetween base (all_records disk first ++ (xs ++ ys))) early one.any_moment)
+        (weaker (disk mid.device) (disk last.device) (IsBetween (recorded (disk mid.device).seen) (all_records disk mid ++ ys)) (IsBetween base (all_records disk first ++ (xs ++ ys))) late second)
       where
-        early : (c : List ℕ) → IsBetween base (line disk first ++ xs) c → IsBetween base (line disk first ++ (xs ++ ys)) c
-        early c is = subst (λ (l : List (List ℕ)). IsBetween base l c) (append_assoc (line disk first) xs ys) (between_more base (line disk first ++ xs) ys c is)
+        early : (c : List ℕ) → IsBetween base (all_records disk first ++ xs) c → IsBetween base (all_records disk first ++ (xs ++ ys)) c
+        early c is = subst (λ (l : List (List ℕ)). IsBetween base l c) (append_assoc (all_records disk first) xs ys) (between_more base (all_records disk first ++ xs) ys c is)
 
-        late : (c : List ℕ) → IsBetween (recorded (disk mid.device).seen) (line disk mid ++ ys) c → IsBetween base (line disk first ++ (xs ++ ys)) c
-        late c is = between_later base one.grown.0 (line disk first ++ (xs ++ ys)) c
-            (subst (λ (l : List (List ℕ)). IsBetween (base ++ one.grown.0) l c) lines (subst (λ (r : List (List ℕ)). IsBetween r (line disk mid ++ ys) c) one.grown.1 is))
+        late : (c : List ℕ) → IsBetween (recorded (disk mid.device).seen) (all_records disk mid ++ ys) c → IsBetween base (all_records disk first ++ (xs ++ ys)) c
+        late c is = between_later base one.grown.0 (all_records disk first ++ (xs ++ ys)) c
+            (subst (λ (l : List (List ℕ)). IsBetween (base ++ one.grown.0) l c) lines (subst (λ (r : List (List ℕ)). IsBetween r (all_records disk mid ++ ys) c) one.grown.1 is))
 
     pub queues_then : Queues disk ys mid last → Queues disk (xs ++ ys) first last
     queues_then two = record {
       ready = two.ready;
-      line_is = two.line_is ∙ lines;
+      records_are = two.records_are ∙ lines;
       grown = (
         one.grown.0 ++ two.grown.0,
         two.grown.1 ∙ ap (λ (l : List (List ℕ)). l ++ two.grown.0) one.grown.1 ∙ append_assoc base one.grown.0 two.grown.0,

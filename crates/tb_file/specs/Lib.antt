@@ -1,11 +1,13 @@
 pub mod Faults
 pub mod Keeping
 pub mod Recovering
+pub mod Torn
 pub mod Creating
 pub mod Reading
 pub mod Following
 pub mod Quick
 pub mod Salvaging
+pub mod RecordSteps
 pub mod ReadingOn
 pub mod Rounds
 pub mod Moments

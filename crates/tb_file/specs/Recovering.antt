@@ -115,12 +115,16 @@ torn_bytes file = length file - records_end (recorded file) - 4
 abbrev pub AreAside : (ℕ → List ℕ → Type 0) → ℕ → List ℕ → Type 0
 AreAside saved cut file = 1 ≤ cut → saved (records_end (recorded file) + 4) (drop (records_end (recorded file) + 4) file)
 
--- more of them than one batch can have, from this place on
-pub record IsTornTooLong (at bytes : ℕ) (file : List ℕ) : Type 0 where
+-- more of them than so many, from this place on
+pub record IsTornLonger (most at bytes : ℕ) (file : List ℕ) : Type 0 where
   pub reads : contents file ≡ Records (recorded file)
   pub place : at ≡ records_end (recorded file)
   pub torn : bytes ≡ torn_bytes file
-  pub many : 2 ^ 22 < bytes
+  pub many : most < bytes
+
+-- more of them than one batch can have
+abbrev pub IsTornTooLong : ℕ → ℕ → List ℕ → Type 0
+IsTornTooLong at bytes file = IsTornLonger (2 ^ 22) at bytes file
 
 -- why a file is not opened: it is not restored, or too much would have to be cut off
 abbrev pub StopsOpening : StartFault → Profile → ℕ → List ℕ → Type 0

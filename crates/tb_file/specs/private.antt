@@ -1,5 +1,4 @@
 -- what only private contracts cite
-pub mod Sources
 pub mod Entering
 pub mod Sending
 pub mod Passing

@@ -1,6 +1,6 @@
 //! A kept file is created, or opened after a crash.
 ghost use Rattle.std.specs.Prelude.{◌≡◌, ◌≤◌, ◌+◌, ◌-◌, true, ℕ, List, [], IfOk, IfErr, OnOk, MatchResult};
-ghost use Rattle.tb_file_journal.specs.Device.{HasCause, HasOwnCause, IsOfCall, OfHeld, SetsAside};
+ghost use Rattle.tb_file_journal.specs.Device.{HasOwnCause, OfHeld, SetsAside};
 ghost use Rattle.tb_file_journal.specs.Contents.{recorded};
 ghost use Rattle.tb_file_journal.specs.Ready.{IsReady};
 ghost use Rattle.tb_file_journal.specs.Creating.{is_blank};
@@ -8,15 +8,18 @@ ghost use Rattle.tb_machine.specs.Histories.{start};
 ghost use Rattle.tb_file.specs.Keeping.{Keeps, IsFresh, IsUsable};
 ghost use Rattle.tb_file.specs.Recovering.{IsNotOfFile, HasStartCause, AreAside, torn_bytes};
 ghost use Rattle.tb_file.specs.Creating.{OpensFile, CreatesLedgerIn, StartsFile, IsOpenedLedger, IsStarted, MayBeOpened, LedgerMayBeCreated, MayBeStarted, IsOpenRefused, IsCreateRefused, IsStartRefused, HasCreateStartCause, HasEitherCause, history_of, keeper_device_left, Causes, GivesBackBy, GivesIfSound, LeavesBy, GivesDeviceBack};
-ghost use Rattle.tb_file.specs.private.Entering.{StaysKept, OfExtent};
+ghost use Rattle.tb_file.specs.RecordSteps.{OfExtent};
 ghost use Rattle.tb_file.specs.private.Headed.{HasHead, HasRecords, IsOfFailedDevice, HasDeviceCause, journal_left, OpensRestored, HeadLeaves, IsOf, OpensOnly, IsEmpty, KeeperMayServe, WasRead, WasRestored};
 
 use crate::faults::StartFault;
 use crate::keepers::Keeper;
 use crate::recovering::{Rules, replay_journal, write_head};
 use crate::rounds::BATCH_BYTES_MAX;
+use crate::torn::torn_behind;
 use std::alloc::{Allocator, Global};
-use tb_file_journal::{Device, Extent, Journal, JournalFault, NotOpened, OpenFault, finds_blank};
+use tb_file_journal::{
+    Device, Extent, FileContent, Journal, JournalFault, NotOpened, OpenFault, Refusal, look,
+};
 use tb_machine::Machine;
 
 /// A device whose file was not opened as a kept ledger, and why.
@@ -197,21 +200,6 @@ fn open_keeper<D: Device, A: Allocator + Clone>(
     }
 }
 
-/// The number of torn bytes of a file that was read to this extent: those after its records and the latch there.
-pub(crate) fn torn_behind<D: Device>(device: &mut D, extent: Extent) -> Result<u64, JournalFault>
-    ensures torn { OfExtent (D.holds device.old) extent
-        (λ file. IfOk result (λ torn. torn ≡ torn_bytes file)) }
-    ensures same { (file : List ℕ) → D.holds device.old file → D.holds device.new file }
-    ensures stays { D.tells → StaysKept (D.disk device.old) (D.disk device.new) }
-    ensures named { IfErr result IsOfCall }
-    ensures cause { D.tells → HasCause result (D.disk device.old) (D.disk device.new) }
-{
-    match device.len() {
-        Ok(len) => Ok(len.saturating_sub(extent.end).saturating_sub(4) as u64),
-        Err(fault) => Err(fault),
-    }
-}
-
 /// The keeper of a file that was read to this extent, from which a machine was restored. The file is refused if more torn bytes are after its
 /// records than one batch can have.
 fn open_unless_torn_long<D: Device, A: Allocator + Clone>(
@@ -233,23 +221,13 @@ fn open_unless_torn_long<D: Device, A: Allocator + Clone>(
         (λ file. IfOk result (λ keeper. AreAside D.aside keeper.cut file)) }
 {
     let mut device = device;
-    match torn_behind(&mut device, extent) {
-        Ok(torn) => {
-            if torn > BATCH_BYTES_MAX as u64 {
-                drop(machine);
-                let fault = StartFault::TornTooLong {
-                    at: extent.end as u64,
-                    bytes: torn,
-                };
-                return Err(NotKept { device, fault });
-            }
-            open_keeper(global, device, rules, extent, machine, torn)
-        }
+    match torn_behind(&mut device, extent, BATCH_BYTES_MAX) {
+        Ok(torn) => open_keeper(global, device, rules, extent, machine, torn),
         Err(fault) => {
             drop(machine);
             Err(NotKept {
                 device,
-                fault: StartFault::Journal(OpenFault::Device(fault)),
+                fault: StartFault::from(fault),
             })
         }
     }
@@ -287,7 +265,8 @@ impl<D: Device, A: Allocator + Copy> Keeper<D, A> {
         }
     }
 
-    /// Creates a kept ledger if the file is empty, and otherwise opens the one that it has.
+    /// Creates a kept ledger if the file is empty, and otherwise opens the one that it has. A file that begins with other bytes than a journal is
+    /// refused at once.
     pub fn start(
         global: Global,
         alloc: A,
@@ -307,9 +286,13 @@ impl<D: Device, A: Allocator + Copy> Keeper<D, A> {
         ensures aside { OfHeld (D.holds device) (λ file. IfOk result (λ keeper. AreAside D.aside keeper.cut file)) }
     {
         let mut device = device;
-        match finds_blank(&mut device) {
-            Ok(true) => create(global, alloc, device, rules),
-            Ok(false) => Keeper::open(global, alloc, device, rules),
+        match look(&mut device) {
+            Ok(FileContent::Blank) => create(global, alloc, device, rules),
+            Ok(FileContent::Journal) => Keeper::open(global, alloc, device, rules),
+            Ok(FileContent::Other) => Err(NotKept {
+                device,
+                fault: StartFault::Journal(OpenFault::Refused(Refusal::NotAJournal)),
+            }),
             Err(fault) => Err(NotKept {
                 device,
                 fault: StartFault::Journal(OpenFault::Device(fault)),

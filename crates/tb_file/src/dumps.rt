@@ -2,7 +2,8 @@
 ghost use Rattle.std.specs.Prelude.{◌≡◌, ℕ, true, List, [], IfOk};
 ghost use Rattle.tb_records.specs.Transport.{IsSent};
 ghost use Rattle.tb_file_journal.specs.Scans.{GoesFurther};
-ghost use Rattle.tb_file.specs.private.Entering.{StaysKept, FindsHeadRules, HeadCause, OfBehind, OfExtent, UnreadCause, head_of};
+ghost use Rattle.tb_file.specs.private.Entering.{FindsHeadRules, HeadCause, OfBehind, UnreadCause, head_of};
+ghost use Rattle.tb_file.specs.RecordSteps.{StaysKept, OfExtent};
 ghost use Rattle.tb_file.specs.Creating.{IsDiskUntouched};
 ghost use Rattle.tb_file.specs.Recovering.{HasStartCause};
 ghost use Rattle.tb_file.specs.Reading.{RulesAnswer, RulesIn, HasRules, IsHistory, FindsHistory, Dumps, HasDumpCause, OfRead};
@@ -10,12 +11,12 @@ ghost use Rattle.tb_file.specs.Following.{HasLaterCause, WritesEntries};
 ghost use Rattle.tb_file.specs.private.Sending.{SendsNext, SendsAll, above};
 ghost use Rattle.tb_file.specs.private.Taking.{IsNotTaken};
 
-use crate::creating::torn_behind;
 use crate::faults::{DumpFault, SalvageFault, StartFault};
 use crate::recovering::{Rules, read_head, read_record, replay_behind_head};
 use crate::rounds::BATCH_BYTES_MAX;
+use crate::torn::torn_behind;
 use std::alloc::Global;
-use tb_file_journal::{Device, Extent, OpenFault, Scan};
+use tb_file_journal::{Device, Extent, Scan};
 use tb_machine::Machine;
 use tb_records::dumps::send_head;
 use tb_records::{DumpHead, FrameFault, Sink, put_all};
@@ -128,20 +129,11 @@ fn history_of<D: Device>(
     ensures stays { D.tells → StaysKept (D.disk device.old) (D.disk device.new) }
     ensures cause { D.tells → HasStartCause result (D.disk device.old) (D.disk device.new) }
 {
-    match torn_behind(device, extent) {
-        Ok(torn) => {
-            if torn > BATCH_BYTES_MAX as u64 {
-                drop(machine);
-                return Err(StartFault::TornTooLong {
-                    at: extent.end as u64,
-                    bytes: torn,
-                });
-            }
-            Ok((rules, machine, extent))
-        }
+    match torn_behind(device, extent, BATCH_BYTES_MAX) {
+        Ok(_) => Ok((rules, machine, extent)),
         Err(fault) => {
             drop(machine);
-            Err(StartFault::Journal(OpenFault::Device(fault)))
+            Err(StartFault::from(fault))
         }
     }
 }

@@ -5,16 +5,17 @@ ghost use Rattle.tb_file.specs.Creating.{IsDiskUntouched};
 ghost use Rattle.tb_file.specs.Quick.{FindsOrder, IsInOrder, misplaced};
 ghost use Rattle.tb_file.specs.Reading.{OfRead};
 ghost use Rattle.tb_file.specs.Recovering.{HasStartCause};
-ghost use Rattle.tb_file.specs.private.Entering.{HeadCause, OfBehind, OfExtent, ReadCause, StaysKept, UnreadCause, head_of};
+ghost use Rattle.tb_file.specs.private.Entering.{HeadCause, OfBehind, ReadCause, UnreadCause, head_of};
+ghost use Rattle.tb_file.specs.RecordSteps.{OfExtent, StaysKept};
 ghost use Rattle.tb_file.specs.private.Passing.{PassesAll, PassesNext, ReadsPlaced};
 
-use crate::creating::torn_behind;
 use crate::dumps::first_rules;
 use crate::faults::StartFault;
 use crate::recovering::{Rules, read_record};
 use crate::rounds::BATCH_BYTES_MAX;
+use crate::torn::torn_behind;
 use std::alloc::Global;
-use tb_file_journal::{Device, Extent, OpenFault, Scan};
+use tb_file_journal::{Device, Extent, Scan};
 use tb_machine::{Entry, RestoreFault, Unfit, read_entry};
 use tb_records::{FrameFault, LAST_MOMENT};
 
@@ -38,10 +39,15 @@ fn read_placed(global: Global, place: u64, time: u64, bytes: &[u8]) -> Result<u6
     ensures { ReadsPlaced result place time bytes.now }
 {
     match read_entry(global, bytes) {
-        Ok(entry) => match misplaced(place, time, &entry) {
-            None => Ok(entry.time),
-            Some(cause) => Err(StartFault::Entry(RestoreFault { place, cause })),
-        },
+        Ok(entry) => {
+            let found = misplaced(place, time, &entry);
+            let later = entry.time;
+            drop(entry);
+            match found {
+                None => Ok(later),
+                Some(cause) => Err(StartFault::Entry(RestoreFault { place, cause })),
+            }
+        }
         Err(FrameFault::NoMemory) => Err(StartFault::NoMemory),
         Err(fault) => Err(StartFault::Record { place, fault }),
     }
@@ -101,17 +107,9 @@ fn order_of<D: Device>(
     ensures stays { D.tells → StaysKept (D.disk device.old) (D.disk device.new) }
     ensures cause { D.tells → HasStartCause result (D.disk device.old) (D.disk device.new) }
 {
-    match torn_behind(device, extent) {
-        Ok(torn) => {
-            if torn > BATCH_BYTES_MAX as u64 {
-                return Err(StartFault::TornTooLong {
-                    at: extent.end as u64,
-                    bytes: torn,
-                });
-            }
-            Ok((rules, time, extent))
-        }
-        Err(fault) => Err(StartFault::Journal(OpenFault::Device(fault))),
+    match torn_behind(device, extent, BATCH_BYTES_MAX) {
+        Ok(_) => Ok((rules, time, extent)),
+        Err(fault) => Err(StartFault::from(fault)),
     }
 }
 

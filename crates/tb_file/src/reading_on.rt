@@ -6,7 +6,7 @@ ghost use Rattle.tb_file.specs.Creating.{IsDiskUntouched};
 ghost use Rattle.tb_file.specs.Keeping.{History, Keeps, IsUsable, IsFresh};
 ghost use Rattle.tb_file.specs.ReadingOn.{IsReadOn, LeavesLonger};
 ghost use Rattle.tb_file.specs.private.Behind.{TakesIf, TakesHere, TakesOn};
-ghost use Rattle.tb_file.specs.private.Entering.{StaysKept};
+ghost use Rattle.tb_file.specs.RecordSteps.{StaysKept};
 ghost use Rattle.tb_file.specs.private.Taking.{StaysUsed};
 
 use crate::faults::{SalvageFault, StartFault};

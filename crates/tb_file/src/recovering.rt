@@ -6,8 +6,8 @@ ghost use Rattle.tb_machine.specs.Recording.{IsRecord};
 ghost use Rattle.tb_file.specs.Recovering.{ReadsRecord, AppliesRecord, ReplaysJournal, HasStartCause, HeadRecordAnswers};
 ghost use Rattle.tb_file.specs.Creating.{IsDiskUntouched};
 ghost use Rattle.tb_file.specs.Reading.{OfRead, NamesRules};
-ghost use Rattle.tb_file.specs.private.Sources.{IsNext};
-ghost use Rattle.tb_file.specs.private.Entering.{StaysKept, ReadCause, ReadsHead, EntersNextRecord, EntersAll, FindsBehind, HeadCause, ReplaysEmpty, OfBehind, UnreadCause, head_of};
+ghost use Rattle.tb_file.specs.RecordSteps.{IsNext, StaysKept};
+ghost use Rattle.tb_file.specs.private.Entering.{ReadCause, ReadsHead, EntersNextRecord, EntersAll, FindsBehind, HeadCause, ReplaysEmpty, OfBehind, UnreadCause, head_of};
 ghost use Rattle.tb_file.specs.Keeping.{head_record};
 ghost use Rattle.tb_file_journal.specs.Device.{KeepsRead, OfHeld};
 
@@ -246,14 +246,14 @@ pub fn write_head(profile: Profile, clients_max: ClientsMax) -> [u8; 6]
         Profile::One => 1,
         Profile::Two => 2,
     };
-    [84, 66, 75, 49, number, clients_max.get() as u8]
+    [b'T', b'B', b'K', b'1', number, clients_max.get() as u8]
 }
 
 /// The rules that a record names, if it is a head. None for any other record.
 pub fn read_head(bytes: &[u8]) -> Option<(Profile, ClientsMax)>
     ensures { NamesRules result bytes.now }
 {
-    let [84, 66, 75, 49, number, clients_max] = bytes else {
+    let [b'T', b'B', b'K', b'1', number, clients_max] = bytes else {
         return None;
     };
     let profile = match number {

@@ -128,7 +128,11 @@ fn keep_pair<D: Device, A: Allocator + Clone>(
     match keeper.machine.judge(moment, request) {
         Judged::New(entry) => keep_new(keeper, replies, entry),
         Judged::NoTime => Err(KeepFault::Serving(RunFault::TimeExhausted)),
-        Judged::Known(class, request) => hold_known(&keeper.machine, replies, &request, class),
+        Judged::Known(class, request) => {
+            let held = hold_known(&keeper.machine, replies, &request, class);
+            drop(request);
+            held
+        }
     }
 }
 

@@ -1,23 +1,24 @@
 //! The entries of a file copied into a new one: of a file that is damaged, and of one that is whole.
-ghost use Rattle.std.specs.Prelude.{◌≡◌, ◌+◌, ◌<◌, ◌≤◌, ◌^◌, ℕ, true, List, [], ◌∷◌, length, IfOk, IfErr, OnOk, OnErr};
-ghost use Rattle.tb_file_journal.specs.Contents.{at_rest};
+ghost use Rattle.std.specs.Prelude.{◌≡◌, ℕ, true, List, IfOk, IfErr, OnOk, OnErr};
 ghost use Rattle.tb_file_journal.specs.Ready.{IsReady};
 ghost use Rattle.tb_file_journal.specs.Scans.{GoesFurther};
-ghost use Rattle.tb_file.specs.private.Entering.{StaysKept, ReadCause, HeadCause, OfExtent, UnreadCause};
+ghost use Rattle.tb_file.specs.private.Entering.{ReadCause, HeadCause, UnreadCause};
+ghost use Rattle.tb_file.specs.RecordSteps.{StaysKept, OfExtent};
 ghost use Rattle.tb_file.specs.Creating.{IsDiskUntouched};
 ghost use Rattle.tb_file.specs.Recovering.{HasStartCause};
-ghost use Rattle.tb_file.specs.Rounds.{block_bytes_max};
 ghost use Rattle.tb_file.specs.Salvaging.{IsSalvaged, IsUnsalvaged, IsBackedUp, IsNotBackedUp, salvaged_device, backup_device, why_old, LeavesSome, NewCause, SaysWhy};
-ghost use Rattle.tb_file.specs.private.Taking.{HeadRead, IsOldDevice, IsTornStop, StaysUsed, StopsBy, Puts, TakesRecord, TakesNext, TakesAll, CommitsTaken, TakesRest, of_old, stop_of, Unread};
+ghost use Rattle.tb_file.specs.private.Taking.{HeadRead, IsOldDevice, IsTornStop, StaysUsed, StopsBy, TakesRecord, TakesNext, TakesAll, CommitsTaken, TakesRest, of_old, stop_of, Unread};
 
-use crate::creating::{create, torn_behind};
+use crate::creating::create;
 use crate::dumps::first_rules;
 use crate::faults::{SalvageFault, StartFault};
 use crate::keepers::Keeper;
+use crate::putting::{append_batched, commit_waiting};
 use crate::recovering::{Rules, enter_record, read_record};
-use crate::rounds::{BATCH_BYTES_MAX, BLOCK_BYTES_MAX};
+use crate::rounds::BATCH_BYTES_MAX;
+use crate::torn::{TornFault, torn_behind};
 use std::alloc::Global;
-use tb_file_journal::{Device, Extent, Journal, JournalFault, OpenFault, Scan};
+use tb_file_journal::{Device, Extent, JournalFault, OpenFault, Scan};
 
 /// A new file with the entries that were copied.
 #[derive(Drop)]
@@ -44,45 +45,6 @@ fn new_fault(fault: JournalFault) -> SalvageFault
     SalvageFault::New(StartFault::Journal(OpenFault::Device(fault)))
 }
 
-/// Commits what waits if there may be no space for one more record.
-#[tactic(auto, using(crate::proofs::Taking::puts_commit))]
-fn make_room<N: Device>(journal: &mut Journal<N>) -> Result<(), JournalFault>
-    requires usable { journal.old.usable ≡ true }
-    requires ready { N.tells → IsReady N.disk journal.old }
-    ensures puts { Puts N.disk N.tells result [] journal.old journal.new }
-    ensures short { OnOk result (length (at_rest journal.new.waiting) + block_bytes_max ≤ 2 ^ 22) }
-{
-    if journal.waiting_bytes() <= BATCH_BYTES_MAX - BLOCK_BYTES_MAX {
-        return Ok(());
-    }
-    journal.commit()
-}
-
-/// Appends a record to a batch that has space for it. It waits for the next commit.
-fn append_one<N: Device>(journal: &mut Journal<N>, bytes: &[u8]) -> Result<(), JournalFault>
-    requires usable { journal.old.usable ≡ true }
-    requires ready { N.tells → IsReady N.disk journal.old }
-    requires short { length bytes.now < 2 ^ 24 }
-    requires room { length (at_rest journal.old.waiting) + block_bytes_max ≤ 2 ^ 22 }
-    ensures { Puts N.disk N.tells result (bytes.now ∷ []) journal.old journal.new }
-{
-    journal.append(bytes)
-}
-
-/// Appends a record for the next commit, in a batch that is short enough.
-#[tactic(auto, using(crate::proofs::Taking::puts_then))]
-fn append_short<N: Device>(journal: &mut Journal<N>, bytes: &[u8]) -> Result<(), JournalFault>
-    requires usable { journal.old.usable ≡ true }
-    requires ready { N.tells → IsReady N.disk journal.old }
-    requires short { length bytes.now < 2 ^ 24 }
-    ensures { Puts N.disk N.tells result (bytes.now ∷ []) journal.old journal.new }
-{
-    match make_room(journal) {
-        Ok(()) => append_one(journal, bytes),
-        Err(fault) => Err(fault),
-    }
-}
-
 /// Enters the entry of a record that is after those of a keeper, and appends the record for the next commit. If it is not that of the next entry,
 /// nothing has changed.
 #[tactic(auto, using(crate::proofs::Taking::takes_not))]
@@ -97,7 +59,7 @@ pub(crate) fn take_record<N: Device>(
     ensures stays_used { StaysUsed keeper.old keeper.new }
 {
     match enter_record(global, &mut keeper.machine, bytes) {
-        Ok(()) => match append_short(&mut keeper.journal, bytes) {
+        Ok(()) => match append_batched(&mut keeper.journal, bytes) {
             Ok(()) => Ok(()),
             Err(fault) => Err(new_fault(fault)),
         },
@@ -181,29 +143,13 @@ fn torn_stop<D: Device>(from: &mut D, extent: Extent) -> Result<Option<StartFaul
     ensures fault { IfErr result IsOldDevice }
     ensures cause { D.tells → HasStartCause (of_old result) (D.disk from.old) (D.disk from.new) }
 {
-    match torn_behind(from, extent) {
-        Ok(torn) => {
-            if torn > BATCH_BYTES_MAX as u64 {
-                return Ok(Some(StartFault::TornTooLong {
-                    at: extent.end as u64,
-                    bytes: torn,
-                }));
-            }
-            Ok(None)
+    match torn_behind(from, extent, BATCH_BYTES_MAX) {
+        Ok(_) => Ok(None),
+        Err(TornFault::TooLong { at, bytes }) => Ok(Some(StartFault::TornTooLong { at, bytes })),
+        Err(TornFault::Device(fault)) => {
+            Err(SalvageFault::Old(StartFault::Journal(OpenFault::Device(fault))))
         }
-        Err(fault) => Err(SalvageFault::Old(StartFault::Journal(OpenFault::Device(fault)))),
     }
-}
-
-/// Commits what waits.
-#[tactic(auto, using(crate::proofs::Taking::puts_commit))]
-fn commit_waiting<N: Device>(journal: &mut Journal<N>) -> Result<(), JournalFault>
-    requires usable { journal.old.usable ≡ true }
-    requires ready { N.tells → IsReady N.disk journal.old }
-    ensures puts { Puts N.disk N.tells result [] journal.old journal.new }
-    ensures emptied { OnOk result (journal.new.waiting ≡ []) }
-{
-    journal.commit()
 }
 
 /// Commits what waits in the journal of a new file.

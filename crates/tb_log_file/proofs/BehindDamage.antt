@@ -11,14 +11,14 @@ use Rattle.tb_file_journal.specs.Seeking.{SeekState, IsSeeking, StandsAt}
 use Rattle.tb_file_journal.proofs.Moments.{weaker}
 use Rattle.tb_log.specs.Following.{Following, begun_following}
 use Rattle.tb_file.specs.ReadingOn.{StandBetween}
-use Rattle.tb_file.specs.private.Taking.{FailsWriting, IsBetween, line, Puts, Queues}
+use Rattle.tb_file.specs.RecordSteps.{FailsWriting, IsBetween, all_records, Puts, Queues}
 use Rattle.tb_file.proofs.Entered.{Latest}
 use Rattle.tb_file.proofs.Taking.{queues_none, queues_then, breaks_then}
 use Rattle.tb_log_file.specs.declared.faults.CopyLogFault.{CopyLogFault}
 use Rattle.tb_log_file.specs.declared.faults.CopyLogFault.TheVariants.{Old, New}
 use Rattle.tb_log_file.specs.declared.reading_on.LogReadOn.{LogReadOn}
 use Rattle.tb_log_file.specs.Keeping.{Leads, IsKept}
-use Rattle.tb_log_file.specs.ReadingOn.{HasLog, HasLongerLog, IsLogReadOn}
+use Rattle.tb_log_file.specs.ReadingOn.{HasLog, HasLongerLog, IsLogReadOn, log_point}
 use Rattle.tb_log_file.specs.private.BehindDamage.{HaltedBy, HaltsBehind, LooksBehind, StaysOrTakes, TakenBehind, TakesBehind, TakesStanding, TakesThrough, seek_copy}
 use Rattle.tb_log_file.specs.private.CopySteps.{IsRecordUntaken, CopiesRecord, Unwritten}
 use Rattle.tb_log_file.proofs.Copied.{leads_first}
@@ -154,7 +154,7 @@ module _ (tells : Type 0) {N : Type 0} (disk : N → Disk) (profile : Profile) (
   -- the log of a new file, and what goes on from it
 
   module _ (first : List (List ℕ)) (F : Following) (before : Kept N) (log : HasLog disk profile clients_max first F before) where
-    lines : (records : List (List ℕ)) → line disk before ++ records ≡ first ++ records
+    lines : (records : List (List ℕ)) → all_records disk before ++ records ≡ first ++ records
     lines records =
         ap (λ (l : List (List ℕ)). l ++ records)
         (ap (λ (l : List (List ℕ)). l ++ before.waiting) log.file ∙ ap (λ (w : List (List ℕ)). first ++ w) log.none_waits ∙ append-nil first)
@@ -168,7 +168,7 @@ module _ (tells : Type 0) {N : Type 0} (disk : N → Disk) (profile : Profile) (
         let file = recorded (disk after.device).seen in
         record {
           ready = queues.ready;
-          file = sym (append-nil file) ∙ ap (λ (l : List (List ℕ)). file ++ l) (sym none) ∙ queues.line_is ∙ lines records;
+          file = sym (append-nil file) ∙ ap (λ (l : List (List ℕ)). file ++ l) (sym none) ∙ queues.records_are ∙ lines records;
           none_waits = none;
           kept = longer records G leads;
         }
@@ -177,7 +177,7 @@ module _ (tells : Type 0) {N : Type 0} (disk : N → Disk) (profile : Profile) (
       abbrev base : List (List ℕ)
       base = recorded (disk before.device).seen
 
-      crashed : (c : List ℕ) → IsBetween base (line disk before ++ records) c → HasLongerLog profile clients_max first c
+      crashed : (c : List ℕ) → IsBetween base (all_records disk before ++ records) c → HasLongerLog profile clients_max first c
       crashed c (some, rest, reads, is) =
           let parts : records ≡ some ++ rest =
           append_cancel_left first records (some ++ rest)
@@ -185,8 +185,8 @@ module _ (tells : Type 0) {N : Type 0} (disk : N → Disk) (profile : Profile) (
           let (U, lead) = leads_first profile clients_max F G some rest (subst (λ (r : List (List ℕ)). Leads profile clients_max F r G) parts leads) in
           record { more = some; last = U; reads = reads ∙ ap Records (ap (λ (l : List (List ℕ)). l ++ some) log.file); kept = longer some U lead }
 
-      pub longer_left : (to : Disk) → LeavesOnly (disk before.device) to (IsBetween base (line disk before ++ records)) → LeavesOnly (disk before.device) to (HasLongerLog profile clients_max first)
-      longer_left to leaves = weaker (disk before.device) to (IsBetween base (line disk before ++ records)) (HasLongerLog profile clients_max first) crashed leaves
+      pub longer_left : (to : Disk) → LeavesOnly (disk before.device) to (IsBetween base (all_records disk before ++ records)) → LeavesOnly (disk before.device) to (HasLongerLog profile clients_max first)
+      longer_left to leaves = weaker (disk before.device) to (IsBetween base (all_records disk before ++ records)) (HasLongerLog profile clients_max first) crashed leaves
 
     pub none_left : Latest (disk before.device) → LeavesOnly (disk before.device) (disk before.device) (HasLongerLog profile clients_max first)
     none_left now = longer_left [] F (leads_none profile clients_max F) (disk before.device) (queues_none disk before now log.ready).any_moment
@@ -238,7 +238,7 @@ module _ (tells : Type 0) {N : Type 0} (disk : N → Disk) (profile : Profile) (
             subst (λ (r : List (List ℕ)). Queues disk r before after) (append-nil all.records) (queues_then disk before all.middle after all.records [] (all.taken.queues t) more)
 
         pub read_on_all : Puts disk tells (Ok tt) [] mid after → after.waiting ≡ [] → ((file : List ℕ) → holds file → IsSeeking file seek) → seek.at ≡ extent.end
-            → IsLogReadOn tells disk profile clients_max holds extent F before after on
+            → IsLogReadOn tells disk profile clients_max holds (log_point extent F before) after on
         read_on_all puts none seeking at = record {
           records = all.records;
           last = all.last;

@@ -13,7 +13,7 @@ use Rattle.tb_file_journal.specs.Scans.{BeginsWith, HasRead, ScanState, ReadsNex
 use Rattle.tb_file_journal.proofs.Causes.{none_since}
 use Rattle.tb_log.specs.Following.{Following, Item, Entry, Question, with_item, after_items, AllAnswered}
 use Rattle.tb_log.specs.Follows.{ItemFits}
-use Rattle.tb_file.specs.private.Taking.{Puts, Queues, FailsWriting}
+use Rattle.tb_file.specs.RecordSteps.{Puts, Queues, FailsWriting}
 use Rattle.tb_file.proofs.Entered.{Latest, extent_found}
 use Rattle.tb_file.proofs.Taking.{queues_none, queues_then}
 use Rattle.tb_log_file.specs.declared.checking.Reached.{Reached}

@@ -12,7 +12,7 @@ use Rattle.tb_file_journal.specs.Scans.{BeginsWith, ScanState, BeginsScan, IsOfS
 use Rattle.tb_file_journal.proofs.Moments.{started, then, weaker}
 use Rattle.tb_file_journal.proofs.BlockWalks.{begins_shorter}
 use Rattle.tb_log.specs.Following.{Following, begun_following}
-use Rattle.tb_file.specs.private.Taking.{HoldsRead, IsBetween, line}
+use Rattle.tb_file.specs.RecordSteps.{HoldsRead, IsBetween, all_records}
 use Rattle.tb_file.proofs.Entered.{Latest}
 use Rattle.tb_file.proofs.Taking.{breaks_then, write_cause_since}
 use Rattle.tb_log_file.specs.declared.checking.Reached.{Reached}
@@ -34,7 +34,7 @@ module _ (tells : Type 0) {N : Type 0} (disk : N → Disk) (profile : Profile) (
   abbrev reads : List ℕ → Type 0
   reads = HoldsRead holds [] first
 
-  lines : (records : List (List ℕ)) → tells → line disk created ++ records ≡ records
+  lines : (records : List (List ℕ)) → tells → all_records disk created ++ records ≡ records
   lines records t =
       ap (λ (l : List (List ℕ)). (l ++ created.waiting) ++ records) (new.no_records t)
       ∙ ap (λ (l : List (List ℕ)). l ++ records) new.none_waits
@@ -57,12 +57,12 @@ module _ (tells : Type 0) {N : Type 0} (disk : N → Disk) (profile : Profile) (
           first = λ file of. begins_shorter some rest file (subst (λ (r : List (List ℕ)). BeginsWith r file) is (begins file of));
         }
 
-    all_moments : tells → (to : Disk) → LeavesOnly (disk created.device) to (IsBetween (recorded (disk created.device).seen) (line disk created ++ records))
+    all_moments : tells → (to : Disk) → LeavesOnly (disk created.device) to (IsBetween (recorded (disk created.device).seen) (all_records disk created ++ records))
         → LeavesOnly (disk created.device) to (HasSomeFirst reads profile clients_max)
     all_moments t to leaves =
         weaker (disk created.device) to (IsBetween [] records) (HasSomeFirst reads profile clients_max) some_first
         (subst (λ (l : List (List ℕ)). LeavesOnly (disk created.device) to (IsBetween [] l)) (lines records t)
-        (subst (λ (r : List (List ℕ)). LeavesOnly (disk created.device) to (IsBetween r (line disk created ++ records))) (new.no_records t) leaves))
+        (subst (λ (r : List (List ℕ)). LeavesOnly (disk created.device) to (IsBetween r (all_records disk created ++ records))) (new.no_records t) leaves))
 
   pub copied_all : (reached : Reached) (stop : Option LogStartFault) (next : ScanState) (G : Following) → TakesWhole tells disk profile clients_max holds reached stop (copy_state first F created) (copy_state next G last)
       → IsCopied tells disk reads profile clients_max (record { journal = last; follower = G; reached = reached; stop = stop })
@@ -74,7 +74,7 @@ module _ (tells : Type 0) {N : Type 0} (disk : N → Disk) (profile : Profile) (
     file = λ t.
         sym (append-nil (recorded (disk last.device).seen))
         ∙ ap (λ (l : List (List ℕ)). recorded (disk last.device).seen ++ l) (sym takes.none_waits)
-        ∙ (takes.taken.queues t).line_is
+        ∙ (takes.taken.queues t).records_are
         ∙ lines takes.records t;
     none_waits = takes.none_waits;
     usable = takes.taken.usable;
@@ -99,7 +99,7 @@ module _ (tells : Type 0) {N : Type 0} (disk : N → Disk) (profile : Profile) (
       (all_moments takes.records takes.here takes.last takes.middle takes.taken t (disk takes.middle.device) (takes.taken.queues t).any_moment)
   moments_part (New fault) next G takes t =
       all_moments takes.records takes.here takes.last takes.middle takes.taken t (disk last.device)
-      (subst (λ (r : List (List ℕ)). LeavesOnly (disk created.device) (disk last.device) (IsBetween (recorded (disk created.device).seen) (line disk created ++ r)))
+      (subst (λ (r : List (List ℕ)). LeavesOnly (disk created.device) (disk last.device) (IsBetween (recorded (disk created.device).seen) (all_records disk created ++ r)))
       (append-nil takes.records) (breaks_then disk created takes.middle last takes.records [] (takes.taken.queues t) takes.untaken.own (takes.untaken.breaks t)).any_moment)
 
   pub cause_part : (fault : CopyLogFault) (next : ScanState) (G : Following) → TakesPart tells disk profile clients_max holds fault (copy_state first F created) (copy_state next G last) → tells

@@ -1,5 +1,5 @@
 -- How a file is opened and created.
-use Rattle.std.proofs.Common.{arith, ◌≡◌, ◌⊎◌, inl, inr, ℕ, ◌<◌, ◌≤◌, ◌^◌, ◌+◌, true, false, List, Result, Ok, Err, IfOk, IfErr, refl, sym, ap, ◌∙◌, subst}
+use Rattle.std.proofs.Common.{arith, ◌≡◌, ◌⊎◌, inl, inr, ℕ, ◌≤◌, ◌^◌, ◌+◌, true, false, List, Result, Ok, Err, IfOk, IfErr, refl, sym, ap, ◌∙◌, subst}
 use Rattle.std.proofs.lemmas.Grind.{common_steps}
 use Rattle.std.proofs.lemmas.Bool.{false≢true}
 use Rattle.tb_records.specs.declared.limits.Profile.{Profile}
@@ -21,11 +21,15 @@ use Rattle.tb_file.specs.declared.recovering.Rules.{Rules}
 use Rattle.tb_file.specs.Creating.{IsDiskUntouched}
 use Rattle.tb_file.specs.Recovering.{AreAside, torn_bytes}
 use Rattle.tb_file.proofs.Opened.{Counts, aside_behind, untouched_then}
+use Rattle.tb_file.specs.declared.torn.TornFault.{TornFault}
+use Rattle.tb_file.specs.declared.torn.TornFault.TheVariants as torn_faults
+use Rattle.tb_file.specs.Torn.{CountsTorn}
+use Rattle.tb_log_file.specs.Faults.{torn_log_start}
 use Rattle.tb_log_file.specs.declared.faults.LogStartFault.{LogStartFault}
 use Rattle.tb_log_file.specs.declared.faults.LogStartFault.TheVariants as start
 use Rattle.tb_log_file.specs.declared.beginning.NotStarted.{NotStarted}
 use Rattle.tb_log_file.specs.Keeping.{LogKeeping, IsKept}
-use Rattle.tb_log_file.specs.Rereading.{HasLogCause, IsLogCause, IsFollowerRestored, IsLogTornTooLong, StopsLogReading, StopsLogOpening}
+use Rattle.tb_log_file.specs.Rereading.{HasLogCause, IsLogCause, IsFollowerRestored, StopsLogReading, StopsLogOpening}
 use Rattle.tb_log_file.specs.Beginning.{HasLogStartCause, IsCreatedCause, IsOpenedLog, IsLogStartCause, IsLogStarted, IsLogStartRefused, IsLogRefused, IsNotOfLog, LogMayBeOpened, LogMayBeStarted, OpensLog, StartsLogFile}
 use Rattle.tb_log_file.specs.private.Steps.{CreatesLogIn, HasCreatedCause, IsCreated, IsNotCreated, IsOfLogDevice, OpensAs}
 
@@ -137,11 +141,21 @@ module _ (profile : Profile) (clients_max : ℕ) where
   )
   opens_file {D} rules file F extent cut (Err failed) restored torn few of_device = by_device failed.fault file of_device
 
-  pub too_long : (file : List ℕ) (F : Following) (extent : Extent) (at bytes : ℕ) → IsFollowerRestored profile clients_max file F extent → at ≡ extent.end → bytes ≡ torn_bytes file → 2 ^ 24 + 11 < bytes
-      → IsLogTornTooLong at bytes file
-  too_long file F extent at bytes restored place torn many =
-      let told = is_told (contents file) extent restored.extent_is in
-      record { reads = told.reads; place = place ∙ told.end; torn = torn; many = many }
+  torn_opening : (fault : TornFault) (file : List ℕ) → CountsTorn (Err fault) (2 ^ 24 + 11) file → StopsLogOpening (torn_log_start fault) profile clients_max file
+  torn_opening (torn_faults.TooLong at bytes) file torn = torn
+  torn_opening (torn_faults.Device fault) file torn = tt
+
+  -- for too many torn bytes, or because the device failed
+  pub opens_torn : (fault : TornFault) (why : LogStartFault) (file : List ℕ) → why ≡ torn_log_start fault → CountsTorn (Err fault) (2 ^ 24 + 11) file → StopsLogOpening why profile clients_max file
+  opens_torn fault why file is torn = subst (λ (w : LogStartFault). StopsLogOpening w profile clients_max file) (sym is) (torn_opening fault file torn)
+
+  torn_refused : (fault : TornFault) (before after : Disk) → CountsTorn (Err fault) (2 ^ 24 + 11) before.seen → IsDiskUntouched before after → IsLogRefused (torn_log_start fault) profile clients_max before after
+  torn_refused (torn_faults.TooLong at bytes) before after torn same = (torn, same)
+  torn_refused (torn_faults.Device fault) before after torn same = tt
+
+  pub refused_torn : (fault : TornFault) (why : LogStartFault) (before after : Disk) → why ≡ torn_log_start fault → CountsTorn (Err fault) (2 ^ 24 + 11) before.seen → IsDiskUntouched before after
+      → IsLogRefused why profile clients_max before after
+  refused_torn fault why before after is torn same = subst (λ (w : LogStartFault). IsLogRefused w profile clients_max before after) (sym is) (torn_refused fault before after torn same)
 
 -- a start
 

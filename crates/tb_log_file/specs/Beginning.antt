@@ -3,7 +3,7 @@ use Rattle.std.specs.Prelude.{ℕ, true, false, ◌≡◌, ◌⊎◌, ◌+◌, �
 use Rattle.tb_records.specs.declared.limits.Profile.{Profile}
 use Rattle.tb_file_journal.specs.declared.faults.JournalFault.TheVariants.{NotEmpty}
 use Rattle.tb_file_journal.specs.declared.opening.OpenFault.TheVariants as open_faults
-use Rattle.tb_file_journal.specs.Device.{Disk, FailsNone, LeavesIfSound}
+use Rattle.tb_file_journal.specs.Device.{Disk, FailsNone}
 use Rattle.tb_file_journal.specs.Contents.{Records, contents, recorded}
 use Rattle.tb_file_journal.specs.Opening.{IsAsBefore}
 use Rattle.tb_file_journal.specs.Creating.{is_blank, IsCreateCause, MayBeCreated}

@@ -1,6 +1,9 @@
 -- The names of faults.
 use Rattle.std.specs.Prelude.{ℕ, List, codes}
 use Rattle.tb_file_journal.specs.Faults as journal_faults
+use Rattle.tb_file_journal.specs.declared.opening.OpenFault.TheVariants as open_faults
+use Rattle.tb_file.specs.declared.torn.TornFault.{TornFault}
+use Rattle.tb_file.specs.declared.torn.TornFault.TheVariants as torn_faults
 use Rattle.tb_log.specs.Faults as log_faults
 use Rattle.tb_log_file.specs.declared.faults.CopyLogFault.{CopyLogFault}
 use Rattle.tb_log_file.specs.declared.faults.CopyLogFault.TheVariants as copy
@@ -20,6 +23,11 @@ log_start_fault_name (start.Entry fault) = codes "Entry"
 log_start_fault_name (start.OtherHashes position) = codes "OtherHashes"
 log_start_fault_name start.NoMemory = codes "NoMemory"
 log_start_fault_name (start.TornTooLong at bytes) = codes "TornTooLong"
+
+-- the same fault of torn bytes, as that of a start
+abbrev pub torn_log_start : TornFault → LogStartFault
+torn_log_start (torn_faults.Device fault) = start.Journal (open_faults.Device fault)
+torn_log_start (torn_faults.TooLong at bytes) = start.TornTooLong at bytes
 
 abbrev pub copy_fault_name : CopyLogFault → List ℕ
 copy_fault_name (copy.Old fault) = log_start_fault_name fault

@@ -4,7 +4,7 @@ use Rattle.std.specs.List.{starts_with}
 use Rattle.tb_records.specs.declared.limits.Profile.{Profile}
 use Rattle.tb_records.specs.Transport.{Output}
 use Rattle.tb_file_journal.specs.declared.reading.Extent.{Extent}
-use Rattle.tb_file_journal.specs.Contents.{Records, contents, recorded, records_end}
+use Rattle.tb_file_journal.specs.Contents.{contents, recorded}
 use Rattle.tb_file_journal.specs.Device.{Disk, FailsNone}
 use Rattle.tb_file_journal.specs.Opening.{IsOpenCause, RefusesFile}
 use Rattle.tb_file_journal.specs.Reading.{extent_of}
@@ -16,7 +16,7 @@ use Rattle.tb_log.specs.Format.{content_max, content_of}
 use Rattle.tb_log.specs.Following.{Following, Entry, with_content, with_item, IsItemAnswered}
 use Rattle.tb_log.specs.Entries.{IsNoPairs}
 use Rattle.tb_log.specs.Follows.{ItemFits, Stops}
-use Rattle.tb_file.specs.Recovering.{torn_bytes}
+use Rattle.tb_file.specs.Recovering.{IsTornLonger}
 use Rattle.tb_log_file.specs.declared.faults.LogStartFault.{LogStartFault}
 use Rattle.tb_log_file.specs.declared.faults.LogStartFault.TheVariants as start
 use Rattle.tb_log_file.specs.Keeping.{By, mark, record_bytes, IsKept}
@@ -103,11 +103,8 @@ ReadsLog (Ok found) profile clients_max file = IsFollowerRestored profile client
 ReadsLog (Err fault) profile clients_max file = StopsLogReading fault profile clients_max file
 
 -- more torn bytes after the records than one commit can leave, from this place on
-pub record IsLogTornTooLong (at bytes : ℕ) (file : List ℕ) : Type 0 where
-  pub reads : contents file ≡ Records (recorded file)
-  pub place : at ≡ records_end (recorded file)
-  pub torn : bytes ≡ torn_bytes file
-  pub many : 2 ^ 24 + 11 < bytes
+abbrev pub IsLogTornTooLong : ℕ → ℕ → List ℕ → Type 0
+IsLogTornTooLong at bytes file = IsTornLonger (2 ^ 24 + 11) at bytes file
 
 -- why a file is not opened
 abbrev pub StopsLogOpening : LogStartFault → Profile → ℕ → List ℕ → Type 0

@@ -1,11 +1,10 @@
 //! The file of a kept log is created, or opened after a crash.
-ghost use Rattle.std.specs.Prelude.{◌≡◌, ◌≤◌, ◌+◌, Ok, IfOk, IfErr};
-ghost use Rattle.tb_file_journal.specs.Device.{LeavesIfSound, OfHeld, HasCause, IsOfCall, SetsAside};
+ghost use Rattle.std.specs.Prelude.{◌≡◌, ◌≤◌, ◌+◌, Ok, IfOk};
+ghost use Rattle.tb_file_journal.specs.Device.{LeavesIfSound, OfHeld, SetsAside};
 ghost use Rattle.tb_file_journal.specs.Contents.{contents};
 ghost use Rattle.tb_file_journal.specs.Creating.{MayBeCreated};
 ghost use Rattle.tb_file_journal.specs.Reading.{extent_of};
 ghost use Rattle.tb_file_journal.specs.Ready.{IsReady};
-ghost use Rattle.tb_file.specs.private.Entering.{StaysKept};
 ghost use Rattle.tb_file.specs.Recovering.{AreAside, torn_bytes};
 ghost use Rattle.tb_log_file.specs.Keeping.{By, IfSound, IsUsableLog};
 ghost use Rattle.tb_log_file.specs.Rereading.{HasLogCause, IsFollowerRestored};
@@ -17,14 +16,14 @@ use crate::faults::LogStartFault;
 use crate::keepers::LogKeeper;
 use crate::rereading::read_log;
 use std::alloc::{Allocator, Global};
-use tb_file::Rules;
+use tb_file::{Rules, torn_behind};
 use tb_file_journal::{
-    Device, Extent, Journal, JournalFault, NotOpened, OpenFault, create, finds_blank,
+    Device, Extent, FileContent, Journal, NotOpened, OpenFault, Refusal, create, look,
 };
 use tb_log::Follower;
 
 /// A torn commit leaves at most this many bytes after the records and the latch there: one record and its latch.
-pub(crate) const TORN_BYTES_MAX: u64 = (1 << 24) + 11;
+pub(crate) const TORN_BYTES_MAX: usize = (1 << 24) + 11;
 
 /// A device whose file was not opened as a kept log, and why.
 #[derive(Drop)]
@@ -41,20 +40,6 @@ fn not_started<D: Device>(failed: NotOpened<D>) -> NotStarted<D>
     NotStarted {
         device: failed.device,
         fault: LogStartFault::Journal(failed.fault),
-    }
-}
-
-/// The number of torn bytes of a file that was read to this extent: those after its records and the latch there.
-pub(crate) fn torn_behind<D: Device>(device: &mut D, extent: Extent) -> Result<u64, JournalFault>
-    ensures torn { OfHeld (D.holds device.old) (λ file. extent_of (contents file) ≡ Ok extent → IfOk result (λ torn. torn ≡ torn_bytes file)) }
-    ensures same { OfHeld (D.holds device.old) (D.holds device.new) }
-    ensures stays { D.tells → StaysKept (D.disk device.old) (D.disk device.new) }
-    ensures named { IfErr result IsOfCall }
-    ensures cause { D.tells → HasCause result (D.disk device.old) (D.disk device.new) }
-{
-    match device.len() {
-        Ok(len) => Ok(len.saturating_sub(extent.end).saturating_sub(4) as u64),
-        Err(fault) => Err(fault),
     }
 }
 
@@ -79,7 +64,10 @@ fn open_keeper<D: Device, A: Allocator + Clone>(
 {
     match Journal::open(global, device, extent) {
         Ok(journal) => Ok(LogKeeper::new(rules, journal, follower, cut)),
-        Err(failed) => Err(not_started(failed)),
+        Err(failed) => {
+            drop(follower);
+            Err(not_started(failed))
+        }
     }
 }
 
@@ -102,23 +90,13 @@ fn open_unless_torn_long<D: Device, A: Allocator + Clone>(
     ensures aside { OfHeld (D.holds device) (λ file. extent_of (contents file) ≡ Ok extent → IfOk result (λ keeper. AreAside D.aside keeper.cut file)) }
 {
     let mut device = device;
-    match torn_behind(&mut device, extent) {
-        Ok(torn) => {
-            if torn > TORN_BYTES_MAX {
-                drop(follower);
-                let fault = LogStartFault::TornTooLong {
-                    at: extent.end as u64,
-                    bytes: torn,
-                };
-                return Err(NotStarted { device, fault });
-            }
-            open_keeper(global, device, rules, extent, follower, torn)
-        }
+    match torn_behind(&mut device, extent, TORN_BYTES_MAX) {
+        Ok(torn) => open_keeper(global, device, rules, extent, follower, torn),
         Err(fault) => {
             drop(follower);
             Err(NotStarted {
                 device,
-                fault: LogStartFault::Journal(OpenFault::Device(fault)),
+                fault: LogStartFault::from(fault),
             })
         }
     }
@@ -182,11 +160,15 @@ impl<D: Device, A: Allocator + Copy> LogKeeper<D, A> {
         };
         match create(global, device) {
             Ok(journal) => Ok(LogKeeper::new(rules, journal, follower, 0)),
-            Err(failed) => Err(not_started(failed)),
+            Err(failed) => {
+                drop(follower);
+                Err(not_started(failed))
+            }
         }
     }
 
-    /// Creates a kept log if the file is empty, and otherwise opens the one that it has.
+    /// Creates a kept log if the file is empty, and otherwise opens the one that it has. A file that begins with other bytes than a journal is
+    /// refused at once.
     pub fn start(
         global: Global,
         alloc: A,
@@ -207,9 +189,13 @@ impl<D: Device, A: Allocator + Copy> LogKeeper<D, A> {
         ensures aside { OfHeld (D.holds device) (λ file. IfOk result (λ keeper. AreAside D.aside keeper.cut file)) }
     {
         let mut device = device;
-        match finds_blank(&mut device) {
-            Ok(true) => LogKeeper::create(global, alloc, device, rules),
-            Ok(false) => LogKeeper::open(global, alloc, device, rules),
+        match look(&mut device) {
+            Ok(FileContent::Blank) => LogKeeper::create(global, alloc, device, rules),
+            Ok(FileContent::Journal) => LogKeeper::open(global, alloc, device, rules),
+            Ok(FileContent::Other) => Err(NotStarted {
+                device,
+                fault: LogStartFault::Journal(OpenFault::Refused(Refusal::NotAJournal)),
+            }),
             Err(fault) => Err(NotStarted {
                 device,
                 fault: LogStartFault::Journal(OpenFault::Device(fault)),

@@ -1,20 +1,19 @@
 //! A log's file read as a start reads it, without a write.
-ghost use Rattle.std.specs.Prelude.{◌≡◌, IfErr, IfOk};
+ghost use Rattle.std.specs.Prelude.{◌≡◌};
 ghost use Rattle.tb_file_journal.specs.Device.{OfHeld};
 ghost use Rattle.tb_file.specs.Creating.{IsDiskUntouched};
-ghost use Rattle.tb_file.specs.private.Entering.{OfExtent, StaysKept};
+ghost use Rattle.tb_file.specs.RecordSteps.{OfExtent, StaysKept};
 ghost use Rattle.tb_log_file.specs.Checking.{ChecksLog, reached_by};
 ghost use Rattle.tb_log_file.specs.Keeping.{By};
 ghost use Rattle.tb_log_file.specs.Rereading.{HasLogCause};
-ghost use Rattle.tb_log_file.specs.private.CopySteps.{EndsShort, IsOfTorn, StopsTorn, ended};
-ghost use Rattle.tb_log_file.specs.private.Steps.{IsOfLogDevice};
+ghost use Rattle.tb_log_file.specs.private.CopySteps.{EndsShort};
 
-use crate::beginning::{TORN_BYTES_MAX, torn_behind};
+use crate::beginning::TORN_BYTES_MAX;
 use crate::faults::LogStartFault;
 use crate::rereading::read_log;
 use std::alloc::{Allocator, Global};
-use tb_file::Rules;
-use tb_file_journal::{Device, Extent, OpenFault};
+use tb_file::{Rules, torn_behind};
+use tb_file_journal::{Device, Extent};
 use tb_log::Follower;
 
 /// How far a log's file was read.
@@ -45,42 +44,6 @@ impl Reached {
     }
 }
 
-/// The fault for which a start refuses a file that was read to its end: too many torn bytes. None if they are few.
-pub(crate) fn torn_stop<D: Device>(
-    device: &mut D,
-    extent: Extent,
-) -> Result<Option<LogStartFault>, LogStartFault>
-    ensures torn { OfExtent (D.holds device.old) extent (StopsTorn result) }
-    ensures same { OfHeld (D.holds device.old) (D.holds device.new) }
-    ensures stays { D.tells → StaysKept (D.disk device.old) (D.disk device.new) }
-    ensures named { IfOk result IsOfTorn }
-    ensures fault { IfErr result IsOfLogDevice }
-    ensures cause { D.tells → HasLogCause result (D.disk device.old) (D.disk device.new) }
-{
-    match torn_behind(device, extent) {
-        Ok(torn) => {
-            if torn > TORN_BYTES_MAX {
-                return Ok(Some(LogStartFault::TornTooLong {
-                    at: extent.end as u64,
-                    bytes: torn,
-                }));
-            }
-            Ok(None)
-        }
-        Err(fault) => Err(LogStartFault::Journal(OpenFault::Device(fault))),
-    }
-}
-
-/// What was read of a file, unless a start refuses it for this.
-fn ended(stop: Option<LogStartFault>, reached: Reached) -> Result<Reached, LogStartFault>
-    ensures { result ≡ ended stop reached }
-{
-    match stop {
-        None => Ok(reached),
-        Some(fault) => Err(fault),
-    }
-}
-
 /// What was read of a file to its end, unless a start refuses it for its torn bytes.
 fn ends_short<D: Device>(device: &mut D, reached: Reached) -> Result<Reached, LogStartFault>
     ensures ends { OfExtent (D.holds device.old) reached.extent (EndsShort result reached) }
@@ -88,9 +51,9 @@ fn ends_short<D: Device>(device: &mut D, reached: Reached) -> Result<Reached, Lo
     ensures stays { D.tells → StaysKept (D.disk device.old) (D.disk device.new) }
     ensures cause { D.tells → HasLogCause result (D.disk device.old) (D.disk device.new) }
 {
-    match torn_stop(device, reached.extent) {
-        Ok(stop) => ended(stop, reached),
-        Err(fault) => Err(fault),
+    match torn_behind(device, reached.extent, TORN_BYTES_MAX) {
+        Ok(_) => Ok(reached),
+        Err(fault) => Err(LogStartFault::from(fault)),
     }
 }
 

@@ -1,26 +1,24 @@
 //! The entries of a log's file copied into a new one: of a file that is damaged, and of one that is whole.
-ghost use Rattle.std.specs.Prelude.{◌≡◌, ◌+◌, ◌<◌, ◌≤◌, ◌^◌, true, List, [], ◌∷◌, ℕ, length, IfOk, IfErr, OnOk, OnErr};
-ghost use Rattle.tb_file_journal.specs.Contents.{at_rest};
+ghost use Rattle.std.specs.Prelude.{◌≡◌, true, List, [], ℕ, IfOk, IfErr, OnOk, OnErr};
 ghost use Rattle.tb_file_journal.specs.Device.{OfHeld, LeavesOnly};
 ghost use Rattle.tb_file_journal.specs.Ready.{IsReady};
 ghost use Rattle.tb_file_journal.specs.Scans.{GoesFurther};
 ghost use Rattle.tb_log.specs.Following.{begun_following};
 ghost use Rattle.tb_file.specs.Creating.{IsDiskUntouched};
-ghost use Rattle.tb_file.specs.Rounds.{block_bytes_max};
-ghost use Rattle.tb_file.specs.private.Entering.{StaysKept};
-ghost use Rattle.tb_file.specs.private.Taking.{HoldsRead, Puts};
+ghost use Rattle.tb_file.specs.RecordSteps.{StaysKept, HoldsRead, OfExtent};
 ghost use Rattle.tb_log_file.specs.Copying.{HasNewLogCause, IsCopied, IsUncopied, MayBeCopied, SaysWhyNotCopied, copied_device, reads_on, why_new_log, why_old_log};
 ghost use Rattle.tb_log_file.specs.Keeping.{By};
 ghost use Rattle.tb_log_file.specs.Rereading.{HasLogCause};
-ghost use Rattle.tb_log_file.specs.private.CopySteps.{HasWriteCause, IsNewJournal, LeavesSomeRecords, StaysUnread, StopsCopyBy, CopiesAllRecords, CopiesNext, CopiesRecord, CopiesRest, copy_state, of_old_log, log_stop_of};
-ghost use Rattle.tb_log_file.specs.private.Steps.{LogReadCause};
+ghost use Rattle.tb_log_file.specs.private.CopySteps.{HasWriteCause, IsNewJournal, LeavesSomeRecords, StaysUnread, StopsCopyBy, StopsTorn, CopiesAllRecords, CopiesNext, CopiesRecord, CopiesRest, copy_state, of_old_log, log_stop_of};
+ghost use Rattle.tb_log_file.specs.private.Steps.{IsOfLogDevice, LogReadCause};
 
-use crate::checking::{Reached, torn_stop};
+use crate::beginning::TORN_BYTES_MAX;
+use crate::checking::Reached;
 use crate::entries::enter_record;
 use crate::faults::{CopyLogFault, LogStartFault};
 use crate::rereading::read_record;
 use std::alloc::{Allocator, Global};
-use tb_file::{BATCH_BYTES_MAX, Rules};
+use tb_file::{Rules, TornFault, append_batched, commit_waiting, torn_behind};
 use tb_file_journal::{Device, Extent, Journal, JournalFault, OpenFault, RECORD_BYTES_MAX, Scan};
 use tb_log::Follower;
 
@@ -44,64 +42,11 @@ pub struct NotCopiedLog<N: Device> {
     pub fault: CopyLogFault,
 }
 
-/// A record with more bytes than this begins a new batch: so a crash leaves no more torn bytes than one commit of a log does.
-const RECORD_BYTES_SHORT: usize = 1 << 20;
-
 /// A journal's fault, as a fault of the new file.
 pub(crate) fn new_fault(fault: JournalFault) -> CopyLogFault
     ensures { result ≡ CopyLogFault.New (OpenFault.Device fault) }
 {
     CopyLogFault::New(OpenFault::Device(fault))
-}
-
-/// Commits what waits.
-#[tactic(auto, using(tb_file::proofs::Taking::puts_commit))]
-pub(crate) fn commit_waiting<N: Device>(journal: &mut Journal<N>) -> Result<(), JournalFault>
-    requires usable { journal.old.usable ≡ true }
-    requires ready { N.tells → IsReady N.disk journal.old }
-    ensures puts { Puts N.disk N.tells result [] journal.old journal.new }
-    ensures emptied { OnOk result (journal.new.waiting ≡ []) }
-{
-    journal.commit()
-}
-
-/// Commits what waits if there may be no space for one more record of `len` bytes.
-fn make_room<N: Device>(journal: &mut Journal<N>, len: usize) -> Result<(), JournalFault>
-    requires usable { journal.old.usable ≡ true }
-    requires ready { N.tells → IsReady N.disk journal.old }
-    ensures puts { Puts N.disk N.tells result [] journal.old journal.new }
-    ensures short { OnOk result (length (at_rest journal.new.waiting) + block_bytes_max ≤ 2 ^ 22) }
-{
-    let most = BATCH_BYTES_MAX - 2 * RECORD_BYTES_SHORT;
-    if len <= RECORD_BYTES_SHORT && journal.waiting_bytes() <= most {
-        return Ok(());
-    }
-    commit_waiting(journal)
-}
-
-/// Appends a record to a batch that has space for it. It waits for the next commit.
-fn append_one<N: Device>(journal: &mut Journal<N>, bytes: &[u8]) -> Result<(), JournalFault>
-    requires usable { journal.old.usable ≡ true }
-    requires ready { N.tells → IsReady N.disk journal.old }
-    requires short { length bytes.now < 2 ^ 24 }
-    requires room { length (at_rest journal.old.waiting) + block_bytes_max ≤ 2 ^ 22 }
-    ensures { Puts N.disk N.tells result (bytes.now ∷ []) journal.old journal.new }
-{
-    journal.append(bytes)
-}
-
-/// Appends a record for the next commit, in a batch that is short enough.
-#[tactic(auto, using(tb_file::proofs::Taking::puts_then))]
-fn append_short<N: Device>(journal: &mut Journal<N>, bytes: &[u8]) -> Result<(), JournalFault>
-    requires usable { journal.old.usable ≡ true }
-    requires ready { N.tells → IsReady N.disk journal.old }
-    requires short { length bytes.now < 2 ^ 24 }
-    ensures { Puts N.disk N.tells result (bytes.now ∷ []) journal.old journal.new }
-{
-    match make_room(journal, bytes.len()) {
-        Ok(()) => append_one(journal, bytes),
-        Err(fault) => Err(fault),
-    }
 }
 
 /// Enters the entry of a record that is after those of a follower, and appends the record for the next commit.
@@ -121,7 +66,7 @@ pub(crate) fn take_record<N: Device, A: Allocator + Clone>(
         return Err(CopyLogFault::Old(LogStartFault::NoMemory));
     }
     match enter_record(global, rules, follower, bytes) {
-        Ok(()) => match append_short(journal, bytes) {
+        Ok(()) => match append_batched(journal, bytes) {
             Ok(()) => Ok(()),
             Err(fault) => Err(new_fault(fault)),
         },
@@ -209,6 +154,24 @@ pub fn reads_on(stop: Option<LogStartFault>) -> bool
         Some(LogStartFault::Journal(_)) => true,
         Some(LogStartFault::TornTooLong { .. }) => true,
         Some(_) => false,
+    }
+}
+
+/// The fault for which a start refuses a file that was read to its end: too many torn bytes. None if they are few.
+fn torn_stop<D: Device>(
+    from: &mut D,
+    extent: Extent,
+) -> Result<Option<LogStartFault>, LogStartFault>
+    ensures torn { OfExtent (D.holds from.old) extent (StopsTorn result) }
+    ensures same { OfHeld (D.holds from.old) (D.holds from.new) }
+    ensures stays { D.tells → StaysKept (D.disk from.old) (D.disk from.new) }
+    ensures fault { IfErr result IsOfLogDevice }
+    ensures cause { D.tells → HasLogCause result (D.disk from.old) (D.disk from.new) }
+{
+    match torn_behind(from, extent, TORN_BYTES_MAX) {
+        Ok(_) => Ok(None),
+        Err(TornFault::TooLong { at, bytes }) => Ok(Some(LogStartFault::TornTooLong { at, bytes })),
+        Err(TornFault::Device(fault)) => Err(LogStartFault::Journal(OpenFault::Device(fault))),
     }
 }
 

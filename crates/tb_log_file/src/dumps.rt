@@ -3,7 +3,7 @@ ghost use Rattle.std.specs.Prelude.{◌≡◌, ◌≤◌, true, length, IfOk};
 ghost use Rattle.tb_file_journal.specs.Device.{OfHeld};
 ghost use Rattle.tb_file_journal.specs.Scans.{GoesFurther};
 ghost use Rattle.tb_log.specs.Format.{content_max};
-ghost use Rattle.tb_file.specs.private.Entering.{StaysKept};
+ghost use Rattle.tb_file.specs.RecordSteps.{StaysKept};
 ghost use Rattle.tb_file.specs.Creating.{IsDiskUntouched};
 ghost use Rattle.tb_log_file.specs.Dumping.{DumpsBy, HasLogDumpCause, no_pair};
 ghost use Rattle.tb_log_file.specs.Parts.{DumpReadCause, DumpsRest, dump_point, is_wanted, selection};

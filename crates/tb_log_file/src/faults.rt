@@ -3,6 +3,7 @@ ghost use Rattle.std.specs.Prelude.{◌≡◌};
 ghost use Rattle.tb_log_file.specs.Faults.{copy_fault_name, log_dump_fault_name, keep_log_fault_name, log_start_fault_name};
 
 use std::fmt;
+use tb_file::TornFault;
 use tb_file_journal::{JournalFault, OpenFault};
 use tb_log::LogFault;
 use thiserror::Error;
@@ -43,6 +44,19 @@ impl LogStartFault {
             LogStartFault::OtherHashes(_) => "OtherHashes",
             LogStartFault::NoMemory => "NoMemory",
             LogStartFault::TornTooLong { .. } => "TornTooLong",
+        }
+    }
+}
+
+impl From<TornFault> for LogStartFault {
+    ghost use Rattle.tb_log_file.specs.Faults.{torn_log_start};
+
+    ghost from_gives = { λ torn fault. fault ≡ torn_log_start torn };
+
+    fn from(fault: TornFault) -> LogStartFault {
+        match fault {
+            TornFault::Device(fault) => LogStartFault::Journal(OpenFault::Device(fault)),
+            TornFault::TooLong { at, bytes } => LogStartFault::TornTooLong { at, bytes },
         }
     }
 }

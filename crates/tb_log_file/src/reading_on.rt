@@ -4,17 +4,17 @@ ghost use Rattle.tb_file_journal.specs.Device.{LeavesOnly, OfHeld};
 ghost use Rattle.tb_file_journal.specs.Ready.{IsReady};
 ghost use Rattle.tb_file_journal.specs.Seeking.{IsSeeking};
 ghost use Rattle.tb_file.specs.Creating.{IsDiskUntouched};
-ghost use Rattle.tb_file.specs.private.Entering.{StaysKept};
+ghost use Rattle.tb_file.specs.RecordSteps.{StaysKept};
 ghost use Rattle.tb_log_file.specs.Keeping.{By};
-ghost use Rattle.tb_log_file.specs.ReadingOn.{HasLog, HasLongerLog, IsLogReadOn};
+ghost use Rattle.tb_log_file.specs.ReadingOn.{HasLog, HasLongerLog, IsLogReadOn, log_point};
 ghost use Rattle.tb_log_file.specs.private.BehindDamage.{HaltedBy, LooksBehind, StaysOrTakes, TakesBehind, TakesStanding, TakesThrough, seek_copy};
 
 use crate::checking::Reached;
-use crate::copying::{commit_waiting, new_fault, stop_of, take_record};
+use crate::copying::{new_fault, stop_of, take_record};
 use crate::faults::{CopyLogFault, LogStartFault};
 use crate::marks::{FIXED_BYTES, write_mark};
 use std::alloc::{Allocator, Global};
-use tb_file::{ReadOn, Rules};
+use tb_file::{ReadOn, Rules, commit_waiting};
 use tb_file_journal::{
     Device, Extent, FILE_BYTES_MAX, Journal, JournalFault, OpenFault, RECORD_BYTES_MAX, Seek,
 };
@@ -384,7 +384,7 @@ pub fn read_log_on<D: Device, N: Device, A: Allocator + Clone>(
     requires usable { journal.old.usable ≡ true }
     requires ready { N.tells → IsReady N.disk journal.old }
     // For any device, by the file that the old one reads.
-    ensures on { IfOk result (By rules.now (IsLogReadOn N.tells N.disk) (D.holds from.old) extent follower.old journal.old journal.new) }
+    ensures on { IfOk result (By rules.now (IsLogReadOn N.tells N.disk) (D.holds from.old) (log_point extent follower.old journal.old) journal.new) }
     ensures any_moment { N.tells → (first : List (List ℕ)) → By rules.now (HasLog N.disk) first follower.old journal.old
         → LeavesOnly (N.disk journal.old.device) (N.disk journal.new.device) (By rules.now HasLongerLog first) }
     ensures same { OfHeld (D.holds from.old) (D.holds from.new) }

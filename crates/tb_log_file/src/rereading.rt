@@ -2,9 +2,8 @@
 ghost use Rattle.std.specs.Prelude.{◌≡◌, ◌≤◌, true, IfErr, IfOk, OnOk};
 ghost use Rattle.tb_file_journal.specs.Device.{OfHeld, IsOnDisk};
 ghost use Rattle.tb_file_journal.specs.Scans.{GoesFurther, IsAt, ScanCause};
-ghost use Rattle.tb_file.specs.private.Entering.{StaysKept};
+ghost use Rattle.tb_file.specs.RecordSteps.{StaysKept, IsNext};
 ghost use Rattle.tb_file.specs.Creating.{IsDiskUntouched};
-ghost use Rattle.tb_file.specs.private.Sources.{IsNext};
 ghost use Rattle.tb_log_file.specs.Rereading.{HasLogCause, ReadsLog};
 ghost use Rattle.tb_log_file.specs.private.Steps.{LogReadCause, EntersNextBy, EntersAllBy};
 ghost use Rattle.tb_log_file.specs.Keeping.{By, IfSound, OfEachRead, OfUnread};

@@ -6,7 +6,8 @@ use Rattle.tb_file.specs.declared.faults.SalvageFault.{SalvageFault}
 use Rattle.tb_file.specs.Keeping.{Keeping}
 use Rattle.tb_file.specs.Recovering.{RecordsLead}
 use Rattle.tb_file.specs.ReadingOn.{StandBetween}
-use Rattle.tb_file.specs.private.Taking.{Queues, IsUntaken, TakesRecord}
+use Rattle.tb_file.specs.private.Taking.{IsUntaken, TakesRecord}
+use Rattle.tb_file.specs.RecordSteps.{Queues}
 
 module _ {N : Type 0} (disk : N → Disk) (tells : Type 0) where
   -- a record was copied; or it is not that of the next entry, and all is as it was; or nothing more is written

@@ -1,7 +1,7 @@
 -- The records of a file as they are read and entered: only for private functions.
 use Rattle.std.specs.Prelude.{ℕ, Bool, true, false, ◌≡◌, List, [], ◌∷◌, ◌++◌, Result, Ok, Err}
 use Rattle.tb_file_journal.specs.declared.reading.Extent.{Extent}
-use Rattle.tb_file_journal.specs.Device.{Disk, IsOnDisk}
+use Rattle.tb_file_journal.specs.Device.{Disk}
 use Rattle.tb_file_journal.specs.Contents.{Records, contents}
 use Rattle.tb_file_journal.specs.Opening.{RefusesFile}
 use Rattle.tb_file_journal.specs.Scans.{BeginsWith, HasRead, ScanState}
@@ -11,15 +11,8 @@ use Rattle.tb_file.specs.declared.faults.StartFault.TheVariants as start
 use Rattle.tb_file.specs.declared.recovering.Rules.{Rules}
 use Rattle.tb_file.specs.Keeping.{head_record}
 use Rattle.tb_file.specs.Recovering.{RecordsLead, StopsAt, AppliesRecord, AppliesRecords, StopsReading, HasStartCause, ReplaysJournal}
-use Rattle.tb_file.specs.Creating.{IsDiskUntouched}
 use Rattle.tb_file.specs.Reading.{HasRules, RulesAnswer}
 use Rattle.tb_file_journal.specs.Reading.{extent_of}
-
--- the file is as it was at each moment, and durable if it was, and no further sync has failed
-pub record StaysKept (before after : Disk) : Type 0 where
-  pub untouched : IsDiskUntouched before after
-  pub kept : IsOnDisk before → IsOnDisk after
-  pub sound : after.sound ≡ before.sound
 
 -- the cause of a fault, if some records were read before
 abbrev pub ReadCause : {T : Type 0} → Result T StartFault → ScanState → Disk → Disk → Type 0
@@ -40,10 +33,6 @@ HeadCause result rules scan before after = HasRead (head_of rules) before.seen s
 -- for each file that the device reads, and of which these records were read
 abbrev pub OfBehind : (List ℕ → Type 0) → List (List ℕ) → ScanState → (List ℕ → Type 0) → Type 0
 OfBehind holds records scan Says = (file : List ℕ) → holds file → HasRead records file scan → Says file
-
--- for each file that the device reads, and of which the records end there
-abbrev pub OfExtent : (List ℕ → Type 0) → Extent → (List ℕ → Type 0) → Type 0
-OfExtent holds extent Says = (file : List ℕ) → holds file → extent_of (contents file) ≡ Ok extent → Says file
 
 -- the head was read, or there is no record
 abbrev pub ReadsHead : Result Bool StartFault → Rules → ScanState → List ℕ → Type 0

@@ -3,9 +3,8 @@ use Rattle.std.specs.Prelude.{ℕ, Bool, true, false, ◌≡◌, ◌≤◌, ◌^
 use Rattle.tb_file_journal.specs.declared.faults.JournalFault.{JournalFault}
 use Rattle.tb_file_journal.specs.declared.opening.OpenFault.TheVariants as open_faults
 use Rattle.tb_file_journal.specs.declared.reading.Extent.{Extent}
-use Rattle.tb_file_journal.specs.Device.{Disk, LeavesOnly, FailsNone}
-use Rattle.tb_file_journal.specs.Contents.{Records, contents, recorded}
-use Rattle.tb_file_journal.specs.Ready.{Kept, IsReady}
+use Rattle.tb_file_journal.specs.Device.{Disk}
+use Rattle.tb_file_journal.specs.Contents.{Records, contents}
 use Rattle.tb_file_journal.specs.Scans.{HasRead, ScanState}
 use Rattle.tb_machine.specs.Histories.{State}
 use Rattle.tb_file.specs.declared.faults.SalvageFault.{SalvageFault}
@@ -15,8 +14,9 @@ use Rattle.tb_file.specs.declared.faults.StartFault.TheVariants as start
 use Rattle.tb_file.specs.declared.recovering.Rules.{Rules}
 use Rattle.tb_file.specs.Keeping.{Keeping}
 use Rattle.tb_file.specs.Recovering.{RecordsLead, AppliesRecord, IsTornTooLong, torn_bytes}
-use Rattle.tb_file.specs.Salvaging.{StopsBehind, IsUnsalvaged, IsWriteCause, old_part, new_part}
-use Rattle.tb_file.specs.private.Entering.{head_of, OfExtent}
+use Rattle.tb_file.specs.Salvaging.{StopsBehind, IsUnsalvaged, old_part, new_part}
+use Rattle.tb_file.specs.private.Entering.{head_of}
+use Rattle.tb_file.specs.RecordSteps.{OfExtent, HoldsRead, Queues, FailsWriting}
 
 -- the fault of a step, as one of the file that is read
 abbrev pub of_old : {T : Type 0} → Result T SalvageFault → Result (Unit {0}) StartFault
@@ -30,10 +30,6 @@ of_new (Err fault) = new_part fault
 -- a fault of the new file's device
 abbrev pub by_device : JournalFault → SalvageFault
 by_device fault = New (start.Journal (open_faults.Device fault))
-
--- a file that the device reads, and of which these records were read
-abbrev pub HoldsRead : (List ℕ → Type 0) → List (List ℕ) → ScanState → List ℕ → Type 0
-HoldsRead holds read scan file = holds file × HasRead read file scan
 
 abbrev pub HeadRead : (List ℕ → Type 0) → Rules → ScanState → List ℕ → Type 0
 HeadRead holds rules scan file = HoldsRead holds (head_of rules) scan file
@@ -78,63 +74,37 @@ StopsBy (Ok None) (Err fault) holds extent = ⊥
 StopsBy (Ok (Some stop)) (Err fault) holds extent = stop_of fault ≡ Some stop
 StopsBy (Err other) (Err fault) holds extent = (other ≡ fault) × (stop_of fault ≡ None)
 
--- a file that has some first ones of all these records, and at least these
-abbrev pub IsBetween : List (List ℕ) → List (List ℕ) → List ℕ → Type 0
-IsBetween least all c = (some : List (List ℕ)) × (rest : List (List ℕ)) × (contents c ≡ Records (least ++ some)) × (all ≡ (least ++ some) ++ rest)
-
 -- while a keeper copies records two things stay: whether a call has failed, and what a start cut off
 abbrev pub StaysUsed : {N : Type 0} → Keeping N → Keeping N → Type 0
 StaysUsed before after = (after.usable ≡ before.usable) × (after.cut ≡ before.cut)
 
 module _ {N : Type 0} (disk : N → Disk) where
-  -- the records of a journal: those in its file, and those that wait
-  abbrev pub line : Kept N → List (List ℕ)
-  line journal = recorded (disk journal.device).seen ++ journal.waiting
-
-  -- more records were put after a journal's, and some of them may have been committed
-  pub record Queues (records : List (List ℕ)) (before after : Kept N) : Type 0 where
-    pub ready : IsReady disk after
-    pub line_is : line after ≡ line before ++ records
-    pub grown : (done : List (List ℕ)) × (recorded (disk after.device).seen ≡ recorded (disk before.device).seen ++ done)
-    pub none : FailsNone (disk before.device) (disk after.device)
-    pub any_moment : LeavesOnly (disk before.device) (disk after.device) (IsBetween (recorded (disk before.device).seen) (line before ++ records))
-
-  -- or a call has failed meanwhile, there is no memory, or the file would be too long
-  pub record FailsWriting (fault : JournalFault) (records : List (List ℕ)) (before after : Kept N) : Type 0 where
-    pub cause : IsWriteCause (disk before.device) (disk after.device) fault
-    pub any_moment : LeavesOnly (disk before.device) (disk after.device) (IsBetween (recorded (disk before.device).seen) (line before ++ records))
-
   module _ (tells : Type 0) where
-    -- these records wait, or were committed; or the writing of the journal failed
-    abbrev pub Puts : Result (Unit {0}) JournalFault → List (List ℕ) → Kept N → Kept N → Type 0
-    Puts (Ok done) records before after = (after.usable ≡ true) × (tells → Queues records before after)
-    Puts (Err fault) records before after = tells → FailsWriting fault [] before after
-
     -- or the record is not that of the next entry, and all is as it was
     abbrev pub TakesRecord : Result (Unit {0}) SalvageFault → List ℕ → Keeping N → Keeping N → Type 0
     TakesRecord (Ok done) bytes before after =
-        AppliesRecord (Ok tt) before.state bytes after.state × (after.journal.usable ≡ true) × (tells → Queues (bytes ∷ []) before.journal after.journal)
+        AppliesRecord (Ok tt) before.state bytes after.state × (after.journal.usable ≡ true) × (tells → Queues disk (bytes ∷ []) before.journal after.journal)
     TakesRecord (Err (Old fault)) bytes before after = AppliesRecord (Err fault) before.state bytes after.state × (after.journal ≡ before.journal)
     TakesRecord (Err (New fault)) bytes before after =
-        (f : JournalFault) × (fault ≡ start.Journal (open_faults.Device f)) × (tells → FailsWriting f [] before.journal after.journal)
+        (f : JournalFault) × (fault ≡ start.Journal (open_faults.Device f)) × (tells → FailsWriting disk f [] before.journal after.journal)
 
     -- what waited was committed
     abbrev pub CommitsTaken : Result (Unit {0}) SalvageFault → Keeping N → Keeping N → Type 0
     CommitsTaken (Ok done) before after =
-        (after.state ≡ before.state) × (after.journal.usable ≡ true) × (after.journal.waiting ≡ []) × (tells → Queues [] before.journal after.journal)
-    CommitsTaken (Err fault) before after = (f : JournalFault) × (fault ≡ by_device f) × (tells → FailsWriting f [] before.journal after.journal)
+        (after.state ≡ before.state) × (after.journal.usable ≡ true) × (after.journal.waiting ≡ []) × (tells → Queues disk [] before.journal after.journal)
+    CommitsTaken (Err fault) before after = (f : JournalFault) × (fault ≡ by_device f) × (tells → FailsWriting disk f [] before.journal after.journal)
 
     -- no more is written, or the new file is the reason
     abbrev pub IsUntaken : SalvageFault → Keeping N → Keeping N → Type 0
     IsUntaken (Old fault) before after = after.journal ≡ before.journal
-    IsUntaken (New fault) before after = (f : JournalFault) × (fault ≡ start.Journal (open_faults.Device f)) × (tells → FailsWriting f [] before.journal after.journal)
+    IsUntaken (New fault) before after = (f : JournalFault) × (fault ≡ start.Journal (open_faults.Device f)) × (tells → FailsWriting disk f [] before.journal after.journal)
 
     module _ (holds : List ℕ → Type 0) where
       -- these records were copied, from the first place of a scan to the one where it is now
       pub record Taken (records : List (List ℕ)) (first here : ScanState) (before after : Keeping N) : Type 0 where
         pub leads : RecordsLead before.state records after.state
         pub usable : after.journal.usable ≡ true
-        pub queues : tells → Queues records before.journal after.journal
+        pub queues : tells → Queues disk records before.journal after.journal
         pub read : (file : List ℕ) (read : List (List ℕ)) → holds file → HasRead read file first → HasRead (read ++ records) file here
 
       -- no more were copied after that place: the file ends there; or it is the reason, or its device or memory, and all is as it was; or the new
@@ -146,7 +116,7 @@ module _ {N : Type 0} (disk : N → Disk) where
           (after.state ≡ before.state) × (after.journal ≡ before.journal)
           × ((file : List ℕ) (read : List (List ℕ)) → holds file → HasRead read file here → StopsAfter fault read before.state file)
       EndsTaking (Err (New fault)) here before after =
-          (f : JournalFault) × (fault ≡ start.Journal (open_faults.Device f)) × (tells → FailsWriting f [] before.journal after.journal)
+          (f : JournalFault) × (fault ≡ start.Journal (open_faults.Device f)) × (tells → FailsWriting disk f [] before.journal after.journal)
 
       abbrev pub TakesNext : Result Bool SalvageFault → ScanState → ScanState → Keeping N → Keeping N → Type 0
       TakesNext (Ok true) first last before after = (bytes : List ℕ) × Taken (bytes ∷ []) first last before after

@@ -7,7 +7,7 @@ use Rattle.tb_file_journal.specs.Ready.{Kept}
 use Rattle.tb_file_journal.specs.Seeking.{SeekState, IsSeeking, StandsAt}
 use Rattle.tb_log.specs.Following.{Following}
 use Rattle.tb_file.specs.ReadingOn.{StandBetween}
-use Rattle.tb_file.specs.private.Taking.{Queues}
+use Rattle.tb_file.specs.RecordSteps.{Queues}
 use Rattle.tb_log_file.specs.declared.faults.CopyLogFault.{CopyLogFault}
 use Rattle.tb_log_file.specs.declared.faults.CopyLogFault.TheVariants.{Old, New}
 use Rattle.tb_log_file.specs.declared.reading_on.LogReadOn.{LogReadOn}

@@ -11,8 +11,7 @@ use Rattle.tb_file_journal.specs.Ready.{Kept, IsReady}
 use Rattle.tb_file_journal.specs.Scans.{HasRead, ScanState}
 use Rattle.tb_log.specs.Following.{Following}
 use Rattle.tb_file.specs.Salvaging.{IsWriteCause}
-use Rattle.tb_file.specs.private.Entering.{OfExtent}
-use Rattle.tb_file.specs.private.Taking.{FailsWriting, Queues}
+use Rattle.tb_file.specs.RecordSteps.{OfExtent, FailsWriting, Queues}
 use Rattle.tb_log_file.specs.declared.checking.Reached.{Reached}
 use Rattle.tb_log_file.specs.declared.faults.CopyLogFault.{CopyLogFault}
 use Rattle.tb_log_file.specs.declared.faults.CopyLogFault.TheVariants.{Old, New}
@@ -28,17 +27,6 @@ use Rattle.tb_log_file.specs.private.Steps.{IsOfLogDevice}
 abbrev pub StopsTorn : Result (Option LogStartFault) LogStartFault → List ℕ → Type 0
 StopsTorn (Ok stop) file = IsTornLogStop stop file
 StopsTorn (Err fault) file = IsOfLogDevice fault
-
--- a file is refused for its torn bytes only
-abbrev pub IsOfTorn : Option LogStartFault → Type 0
-IsOfTorn None = Unit {0}
-IsOfTorn (Some (start.TornTooLong at bytes)) = Unit {0}
-IsOfTorn stop = ⊥
-
--- what was read, unless a start refuses the file
-abbrev pub ended : Option LogStartFault → Reached → Result Reached LogStartFault
-ended None reached = Ok reached
-ended (Some fault) reached = Err fault
 
 -- what was read of a file is all of it, or the file is refused
 abbrev pub EndsShort : Result Reached LogStartFault → Reached → List ℕ → Type 0

@@ -1,10 +1,13 @@
-use Rattle.std.proofs.Common.{◌≤◌, ◌^◌, ℕ, arith, subst}
-use Rattle.tb_file.proofs.TakenRecords.{torn_told}
+use Rattle.std.proofs.Common.{◌≤◌, ◌^◌, ℕ, subst}
+use Rattle.tb_file.proofs.TornBytes.{has_torn_start, order_torn}
 use Rattle.tb_file.proofs.quick.order_of.Goals as goal
 
-pub returns-then-torn-clause-found : goal.returns-then-torn-clause-found
-returns-then-torn-clause-found g c file holds found ordered = torn_told file c.args.extent c.in-Ok.torn found (c.in-Ok.ensures.torn file holds found) (omega arith)
+pub returns-in-Err-clause-found : goal.returns-in-Err-clause-found
+returns-in-Err-clause-found g c file holds found ordered = order_torn c.in-Err.fault c.from.result c.from.ensures file (c.in-Err.ensures.torn file holds found)
 
-pub returns-else-torn-clause-found : goal.returns-else-torn-clause-found
-returns-else-torn-clause-found g c file holds found ordered =
-    (ordered, found, subst (λ (n : ℕ). n ≤ 2 ^ 22) (c.in-Ok.ensures.torn file holds found) (omega arith))
+pub returns-in-Err-clause-cause : goal.returns-in-Err-clause-cause
+returns-in-Err-clause-cause g c t = has_torn_start _ _ c.in-Err.fault c.from.result c.from.ensures (c.in-Err.ensures.cause t).cause
+
+pub returns-in-Ok-clause-found : goal.returns-in-Ok-clause-found
+returns-in-Ok-clause-found g c file holds found ordered =
+    let torn = c.in-Ok.ensures.torn file holds found in (ordered, found, subst (λ (n : ℕ). n ≤ 2 ^ 22) torn.0 torn.1)

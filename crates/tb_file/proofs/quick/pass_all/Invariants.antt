@@ -1,7 +1,7 @@
 use Rattle.std.proofs.Common.{ℕ, List, ◌-◌, ◌^◌}
 use Rattle.tb_file_journal.specs.Device.{FailsNone}
 use Rattle.tb_file_journal.specs.Scans.{HasRead}
-use Rattle.tb_file.specs.private.Entering.{StaysKept}
+use Rattle.tb_file.specs.RecordSteps.{StaysKept}
 use Rattle.tb_file.proofs.Orders.{Passing}
 use Rattle.tb_file.proofs.quick.pass_all.Given as goal
 

@@ -1,6 +1,6 @@
 use Rattle.std.proofs.Common.{ℕ, List, ◌≡◌, ◌-◌, ◌^◌, true}
 use Rattle.tb_file_journal.specs.Ready.{IsReady}
-use Rattle.tb_file.specs.private.Entering.{StaysKept}
+use Rattle.tb_file.specs.RecordSteps.{StaysKept}
 use Rattle.tb_file.specs.private.Behind.{TakenOn}
 use Rattle.tb_file.specs.private.Taking.{StaysUsed}
 use Rattle.tb_file.proofs.reading_on.look_through.Given as goal

@@ -27,8 +27,8 @@ returns-in-NoTime-clause-keeps g c =
 pub returns-in-Known-clause-keeps : goal.returns-in-Known-clause-keeps
 returns-in-Known-clause-keeps g c =
     let held = c.args.replies.now.bytes.items in
-    let grown = c.hold_known.new.replies.bytes.items in
+    let grown = c.hold_known-held.new.replies.bytes.items in
     let same = ap (λ (k : Keeping g.row.D.Denot). k.state) c.keeper.view_is in
     let known = subst (λ (S : State). IsJudged (judged.Known c.in-Known.class c.in-Known.request) S (c.args.moment, c.args.request)) same c.in-Known.ensures.judged in
-    keeps_known (c.args.moment, c.args.request) c.args.keeper.now held grown c.hold_known.result c.in-Known.class c.in-Known.request known.0 known.1 known.2
-    (subst (λ (S : State). HoldsReply c.hold_known.result (answer_to S c.in-Known.request) held grown) same c.hold_known.ensures)
+    keeps_known (c.args.moment, c.args.request) c.args.keeper.now held grown c.hold_known-held.result c.in-Known.class c.in-Known.request known.0 known.1 known.2
+    (subst (λ (S : State). HoldsReply c.hold_known-held.result (answer_to S c.in-Known.request) held grown) same c.hold_known-held.ensures)

@@ -1,6 +1,6 @@
 use Rattle.std.proofs.Common.{[], ℕ, List, sym, subst}
 use Rattle.tb_file_journal.specs.Scans.{HasRead}
-use Rattle.tb_file.specs.private.Taking.{HoldsRead}
+use Rattle.tb_file.specs.RecordSteps.{HoldsRead}
 use Rattle.tb_file.proofs.Causes.{has_start_then}
 use Rattle.tb_file.proofs.Salvages.{ok_of, moments_of, start_unsalvaged, none_made}
 use Rattle.tb_file.proofs.salvaging.salvage.Goals as goal

@@ -2,7 +2,7 @@ use Rattle.std.proofs.Common.{◌∷◌, [], Ok, Err, sym, subst, ◌∙◌}
 use Rattle.tb_file_journal.specs.Device.{LeavesOnly}
 use Rattle.tb_file.specs.Keeping.{head_record}
 use Rattle.tb_file.specs.Salvaging.{HasNewCause, MayBeSalvaged, new_part}
-use Rattle.tb_file.specs.private.Taking.{HoldsRead}
+use Rattle.tb_file.specs.RecordSteps.{HoldsRead}
 use Rattle.tb_file.proofs.Entered.{stays_none}
 use Rattle.tb_file.proofs.Salvages.{salvaged_all, unsalvaged_all, moments_behind, moments_not_made, cause_behind, created_alone, created_cause}
 use Rattle.tb_file.proofs.salvaging.salvage_behind.Goals as goal

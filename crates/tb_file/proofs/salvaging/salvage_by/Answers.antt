@@ -1,7 +1,7 @@
 use Rattle.std.proofs.Common.{[], ◌∷◌, ℕ, List, sym, subst}
 use Rattle.tb_file_journal.specs.Scans.{HasRead}
 use Rattle.tb_file.specs.Keeping.{head_record}
-use Rattle.tb_file.specs.private.Taking.{HoldsRead}
+use Rattle.tb_file.specs.RecordSteps.{HoldsRead}
 use Rattle.tb_file.proofs.Causes.{has_start_then}
 use Rattle.tb_file.proofs.Entered.{stays_then}
 use Rattle.tb_file.proofs.Salvages.{ok_of, moments_of, none_made}

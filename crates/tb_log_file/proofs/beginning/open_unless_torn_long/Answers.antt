@@ -1,27 +1,28 @@
-use Rattle.std.proofs.Common.{arith, refl}
-use Rattle.tb_log_file.proofs.Opened.{opens_file, too_long, were_aside}
+use Rattle.tb_log_file.proofs.Checked.{has_torn_log}
+use Rattle.tb_log_file.proofs.Opened.{opens_file, opens_torn, refused_torn, were_aside}
 use Rattle.tb_log_file.proofs.beginning.open_unless_torn_long.Goals as goal
 
-pub returns-then-torn-gt-TORN_BYTES_MAX-clause-refused : goal.returns-then-torn-gt-TORN_BYTES_MAX-clause-refused
-returns-then-torn-gt-TORN_BYTES_MAX-clause-refused g c t =
-    let seen = (g.D.Device.disk c.args.device).seen in
-    let found = (c.requires.read t).1 in (
-      too_long c.args.rules.profile c.args.rules.clients_max seen c.args.follower c.args.extent c.args.extent.end c.in-Ok.torn found refl
-          (c.in-Ok.ensures.torn seen (g.met.D.Device.holds_seen c.args.device t) found.extent_is) (omega arith),
-      (c.torn_behind.ensures.stays t).untouched,
-    )
+pub returns-in-Err-clause-refused : goal.returns-in-Err-clause-refused
+returns-in-Err-clause-refused g c t =
+    let disk = g.D.Device.disk in
+    let seen = (disk c.args.device).seen in
+    let found = (c.requires.read t).1 in
+    refused_torn c.args.rules.profile c.args.rules.clients_max c.in-Err.fault c.from.result (disk c.args.device) (disk c.torn_behind.new.device) c.from.ensures
+    (c.in-Err.ensures.torn seen (g.met.D.Device.holds_seen c.args.device t) found.extent_is) (c.torn_behind.ensures.stays t).untouched
 
-pub returns-then-torn-gt-TORN_BYTES_MAX-clause-handed : goal.returns-then-torn-gt-TORN_BYTES_MAX-clause-handed
-returns-then-torn-gt-TORN_BYTES_MAX-clause-handed g c file holds found =
-    too_long c.args.rules.profile c.args.rules.clients_max file c.args.follower c.args.extent c.args.extent.end c.in-Ok.torn found refl
-    (c.in-Ok.ensures.torn file holds found.extent_is) (omega arith)
+pub returns-in-Err-clause-cause : goal.returns-in-Err-clause-cause
+returns-in-Err-clause-cause g c t = has_torn_log _ _ c.in-Err.fault c.from.result c.from.ensures (c.in-Err.ensures.cause t).cause
 
-pub returns-else-torn-gt-TORN_BYTES_MAX-clause-handed : goal.returns-else-torn-gt-TORN_BYTES_MAX-clause-handed
-returns-else-torn-gt-TORN_BYTES_MAX-clause-handed g c file holds found =
-    opens_file c.args.rules.profile c.args.rules.clients_max c.args.rules file c.args.follower c.args.extent c.in-Ok.torn c.open_keeper.result found
-    (c.in-Ok.ensures.torn file holds found.extent_is) (omega arith) c.open_keeper.ensures.any_device
+pub returns-in-Err-clause-handed : goal.returns-in-Err-clause-handed
+returns-in-Err-clause-handed g c file holds found =
+    opens_torn c.args.rules.profile c.args.rules.clients_max c.in-Err.fault c.from.result file c.from.ensures (c.in-Err.ensures.torn file holds found.extent_is)
 
-pub returns-else-torn-gt-TORN_BYTES_MAX-clause-aside : goal.returns-else-torn-gt-TORN_BYTES_MAX-clause-aside
-returns-else-torn-gt-TORN_BYTES_MAX-clause-aside g c file holds read =
-    were_aside g.D.Device.aside file c.args.rules c.args.follower c.args.extent c.in-Ok.torn read (c.in-Ok.ensures.torn file holds read)
+pub returns-in-Ok-clause-handed : goal.returns-in-Ok-clause-handed
+returns-in-Ok-clause-handed g c file holds found =
+    let torn = c.in-Ok.ensures.torn file holds found.extent_is in
+    opens_file c.args.rules.profile c.args.rules.clients_max c.args.rules file c.args.follower c.args.extent c.in-Ok.torn c.open_keeper.result found torn.0 torn.1 c.open_keeper.ensures.any_device
+
+pub returns-in-Ok-clause-aside : goal.returns-in-Ok-clause-aside
+returns-in-Ok-clause-aside g c file holds read =
+    were_aside g.D.Device.aside file c.args.rules c.args.follower c.args.extent c.in-Ok.torn read (c.in-Ok.ensures.torn file holds read).0
     c.open_keeper.result c.open_keeper.ensures.any_device (c.open_keeper.ensures.aside file (c.in-Ok.ensures.same file holds))

@@ -1,5 +1,5 @@
 use Rattle.std.proofs.Common.{[]}
-use Rattle.tb_file.specs.private.Taking.{HoldsRead}
+use Rattle.tb_file.specs.RecordSteps.{HoldsRead}
 use Rattle.tb_log_file.specs.Copying.{copied_device}
 use Rattle.tb_log_file.proofs.CopiedLogs.{made_moments}
 use Rattle.tb_log_file.proofs.copying.copy_by.Goals as goal

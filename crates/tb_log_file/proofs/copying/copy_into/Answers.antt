@@ -1,6 +1,6 @@
 use Rattle.std.proofs.Common.{[], sym, subst}
 use Rattle.tb_file_journal.specs.Device.{LeavesOnly}
-use Rattle.tb_file.specs.private.Taking.{HoldsRead}
+use Rattle.tb_file.specs.RecordSteps.{HoldsRead}
 use Rattle.tb_log_file.specs.Copying.{HasSomeFirst, new_log_part}
 use Rattle.tb_log_file.specs.private.CopySteps.{HasWriteCause}
 use Rattle.tb_log_file.proofs.CopiedLogs.{copied_all, moments_whole, uncopied_part, moments_part, cause_part}

@@ -1,6 +1,6 @@
 use Rattle.std.proofs.Common.{[], ℕ, List, sym, subst}
 use Rattle.tb_file_journal.specs.Scans.{HasRead}
-use Rattle.tb_file.specs.private.Taking.{HoldsRead}
+use Rattle.tb_file.specs.RecordSteps.{HoldsRead}
 use Rattle.tb_log_file.proofs.CopiedLogs.{ok_of, moments_of, none_made, start_uncopied}
 use Rattle.tb_log_file.proofs.Entering.{has_log_then}
 use Rattle.tb_log_file.proofs.copying.copy_log.Goals as goal

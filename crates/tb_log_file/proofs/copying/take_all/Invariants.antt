@@ -2,7 +2,7 @@ use Rattle.std.proofs.Common.{ℕ, List, ◌≡◌, ◌-◌, ◌^◌, true}
 use Rattle.tb_file_journal.specs.Device.{FailsNone}
 use Rattle.tb_file_journal.specs.Ready.{IsReady}
 use Rattle.tb_file_journal.specs.Scans.{HasRead}
-use Rattle.tb_file.specs.private.Entering.{StaysKept}
+use Rattle.tb_file.specs.RecordSteps.{StaysKept}
 use Rattle.tb_log_file.specs.private.CopySteps.{TakenOver, copy_state}
 use Rattle.tb_log_file.proofs.copying.take_all.Given as goal
 

@@ -1,4 +1,4 @@
-use Rattle.std.proofs.Common.{Ok, Err, ap, refl, subst, sym}
+use Rattle.std.proofs.Common.{ap, refl, subst, sym}
 use Rattle.tb_file_journal.specs.Seeking.{IsSeeking, SeekState}
 use Rattle.tb_log_file.proofs.BehindDamage.{halted_usable, halted_ready, none_left, read_on_all, read_on_moments, refused_moments, uncommitted_moments}
 use Rattle.tb_log_file.proofs.reading_on.read_log_on.Goals as goal

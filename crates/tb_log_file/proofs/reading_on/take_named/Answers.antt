@@ -1,4 +1,4 @@
-use Rattle.std.proofs.Common.{arith, ◌≤◌, Ok, Err, refl}
+use Rattle.std.proofs.Common.{arith, ◌≤◌, Ok, refl}
 use Rattle.tb_log_file.proofs.BehindDamage.{behind_after}
 use Rattle.tb_log_file.proofs.reading_on.take_named.Goals as goal
 

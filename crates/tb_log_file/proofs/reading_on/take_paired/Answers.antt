@@ -1,4 +1,4 @@
-use Rattle.std.proofs.Common.{arith, ℕ, ◌≤◌, Ok, Err, refl, subst, sym}
+use Rattle.std.proofs.Common.{arith, ℕ, ◌≤◌, Ok, refl, subst, sym}
 use Rattle.tb_file_journal.specs.Scans.{IsAhead}
 use Rattle.tb_log_file.proofs.BehindDamage.{behind_after, stayed}
 use Rattle.tb_log_file.proofs.reading_on.take_paired.Goals as goal

@@ -1,5 +1,5 @@
 use Rattle.tb_file.proofs.Taking.{puts_append}
-use Rattle.tb_file.proofs.salvaging.append_one.Goals as goal
+use Rattle.tb_file.proofs.putting.append_one.Goals as goal
 
 pub returns : goal.returns
 returns g c =

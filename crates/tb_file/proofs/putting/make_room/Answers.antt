@@ -1,5 +1,5 @@
 use Rattle.tb_file.proofs.Taking.{puts_none}
-use Rattle.tb_file.proofs.salvaging.make_room.Goals as goal
+use Rattle.tb_file.proofs.putting.make_room.Goals as goal
 
 pub returns-then-waiting_bytes-clause-puts : goal.returns-then-waiting_bytes-clause-puts
 returns-then-waiting_bytes-clause-puts g c =
