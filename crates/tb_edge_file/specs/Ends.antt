@@ -5,7 +5,7 @@ use Rattle.tb_records.specs.declared.devices.Sink as sinks
 use Rattle.tb_records.specs.declared.devices.Source as sources
 use Rattle.tb_file_journal.specs.declared.devices.Device as devices
 use Rattle.tb_file.specs.declared.recovering.Rules.{Rules}
-use Rattle.tb_edge_file.specs.Streams.{Change, OnStreams, Streams, new, old}
+use Rattle.tb_edge_commands.specs.Streams.{Change, OnStreams, Streams, new, old}
 use Rattle.tb_edge_file.specs.declared.openers.Opener as openers
 use Rattle.tb_edge_file.specs.declared.openers.OpeningFault.{OpeningFault}
 

@@ -45,8 +45,8 @@ use Rattle.tb_edge_file.specs.declared.faults.Failed.{Failed}
 use Rattle.tb_edge_file.specs.declared.faults.Failed.TheVariants.{Input, Output as OutputSide, File, New}
 use Rattle.tb_edge_file.specs.declared.faults.Mismatch.{Mismatch}
 use Rattle.tb_edge_file.specs.declared.faults.Numbers.{Numbers}
-use Rattle.tb_edge_file.specs.declared.kinds.Kind.{Kind}
-use Rattle.tb_edge_file.specs.declared.kinds.Kind.TheVariants as kind
+use Rattle.tb_edge_file.specs.declared.kinds.FileKind.{FileKind}
+use Rattle.tb_edge_file.specs.declared.kinds.FileKind.TheVariants as kind
 use Rattle.tb_edge_words.specs.declared.faults.Fault.TheVariants.{Missing}
 use Rattle.tb_edge_words.specs.declared.faults.TheConstants.{CLIENTS_MISSING, CLIENTS_WRONG}
 use Rattle.tb_edge_words.specs.declared.faults.Wrong.{Wrong}
@@ -292,7 +292,7 @@ failed_text File path = named (codes "Device: ") path (codes ": a read or write 
 failed_text New path = named (codes "Device: ") path (codes ": a read or write failed; remove it, look at the disk, and start again")
 
 -- a file that is no ledger, and what it is; only the fault's name if it was not looked at
-abbrev pub kind_text : Kind → List ℕ → List ℕ
+abbrev pub kind_text : FileKind → List ℕ → List ℕ
 kind_text kind.Unread path = codes "NotAJournal"
 kind_text kind.Empty path = codes "NotAJournal: " ++ (printable path ++ codes " is empty; tbd run makes a ledger in it")
 kind_text kind.Former path = codes "NotAJournal: " ++ (printable path ++ codes " has the former format TBJRNL01; tools/convert_journal.py makes a new file of it")

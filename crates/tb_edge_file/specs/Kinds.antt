@@ -3,9 +3,9 @@ use Rattle.std.specs.Prelude.{ℕ, Bool, false, ◌≡◌, not, nat_le, nat_lt, 
 use Rattle.std.specs.List.{list_all}
 use Rattle.std.specs.Cmp.Lexicographic.{pointwise}
 use Rattle.tb_file_journal.specs.declared.faults.JournalFault.{JournalFault}
-use Rattle.tb_edge_file.specs.declared.kinds.Kind.{Kind}
+use Rattle.tb_edge_file.specs.declared.kinds.FileKind.{FileKind}
 use Rattle.tb_edge_file.specs.declared.kinds.TheConstants.{DUMP, FORMER, HEAD, JOURNAL, MARK, NO_RECORD, REGISTER}
-use Rattle.tb_edge_file.specs.declared.kinds.Kind.TheVariants.{Unread, Empty, Former, Dump, NoRecord, Closed, Begun, Ledger, Log, Script, Text, Other}
+use Rattle.tb_edge_file.specs.declared.kinds.FileKind.TheVariants.{Unread, Empty, Former, Dump, NoRecord, Closed, Begun, Ledger, Log, Script, Text, Other}
 
 -- bytes that begin with a prefix
 abbrev pub begins : List ℕ → List ℕ → Bool
@@ -21,11 +21,11 @@ begins_at at prefix bytes = if nat_lt (length bytes) at then false else begins p
 
 -- a journal whose first latch is closed: it has only these 12 bytes, or also others, which a crash in the first commit leaves, or damage of this
 -- latch
-abbrev pub unrecorded_kind : List ℕ → Kind
+abbrev pub unrecorded_kind : List ℕ → FileKind
 unrecorded_kind first = if nat_lt (length NO_RECORD.now) (length first) then Closed else NoRecord
 
 -- a journal whose first latch is closed, or that ends before its first record; or whose first record, at byte 19, begins as a ledger's or a log's
-abbrev pub journal_kind : List ℕ → Kind
+abbrev pub journal_kind : List ℕ → FileKind
 journal_kind first =
     if begins NO_RECORD.now first then unrecorded_kind first
     else if begins first NO_RECORD.now then Begun
@@ -35,7 +35,7 @@ journal_kind first =
 
 -- by the first 56 bytes of the file, or all if it has fewer. In a script the header of a request to register has a moment of 8 bytes before it
 -- and begins with a client of 16; after these it has session 0, request 0, operation 2 and no body
-abbrev pub file_kind : List ℕ → Kind
+abbrev pub file_kind : List ℕ → FileKind
 file_kind first =
     if nat_eq (length first) 0 then Empty
     else if begins FORMER.now first then Former
@@ -46,7 +46,7 @@ file_kind first =
     else Other
 
 -- the kind of a file whose first bytes were read, or not
-abbrev pub kind_by : Result ℕ JournalFault → List ℕ → Kind
+abbrev pub kind_by : Result ℕ JournalFault → List ℕ → FileKind
 kind_by (Ok count) file = file_kind (take 56 file)
 kind_by (Err fault) file = Unread
 

@@ -13,6 +13,5 @@ pub mod Outcomes
 pub mod Outlets
 pub mod Printable
 pub mod ExitStatuses
-pub mod Streams
 pub mod Summaries
 pub mod private

@@ -1,8 +1,9 @@
 -- A file that is read while another program may append to it.
-use Rattle.std.specs.Prelude.{◌≡◌, ℕ, List, length, Result, Ok, Err, IfOk}
+use Rattle.std.specs.Prelude.{◌≡◌, ℕ, List, length, Result, Ok, Err, IfOk, OnOk}
 use Rattle.tb_file_journal.specs.declared.faults.JournalFault.{JournalFault}
 use Rattle.tb_file_journal.specs.Contents.{Contents, NotAJournal, Damaged, Records, contents}
 use Rattle.tb_file_journal.specs.Growing.{Extends, Grown, Later}
+use Rattle.tb_edge_commands.specs.Streams.{Change, new, old}
 
 module _ {D : Type 0} (whole holds : D → List ℕ → Type 0) where
   -- a device looked at its file again. What it holds is later than this file, and represents all that the whole file represented at some
@@ -41,3 +42,8 @@ pub record IsWholeLength (file : List ℕ) (len : ℕ) : Type 0 where
   pub whole : List ℕ
   pub goes_on : WholeOf (contents file) file whole
   pub long : len ≡ length whole
+
+-- what only contracts of private functions cite: a device looked at its file again, whatever it held
+abbrev pub LooksOnOk : {D T F : Type 0} → (D → List ℕ → Type 0) → (D → List ℕ → Type 0) → Result T F → Change D → Type 0
+LooksOnOk whole holds result device =
+    (file : List ℕ) → holds (old device) file → OnOk result (LooksAgain whole holds (old device) (new device) file)

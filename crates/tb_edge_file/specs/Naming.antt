@@ -19,8 +19,8 @@ use Rattle.tb_edge_file.specs.declared.faults.KeepCommandFault.{KeepCommandFault
 use Rattle.tb_edge_file.specs.declared.faults.Damage.TheVariants.{Block}
 use Rattle.tb_edge_file.specs.declared.faults.KeepCommandFault.TheVariants.{NotAJournal, NoHead, Damaged, OtherRules}
 use Rattle.tb_edge_file.specs.declared.faults.Mismatch.{Mismatch}
-use Rattle.tb_edge_file.specs.declared.kinds.Kind.{Kind}
-use Rattle.tb_edge_file.specs.declared.kinds.Kind.TheVariants.{NoRecord, Closed, Begun, Log}
+use Rattle.tb_edge_file.specs.declared.kinds.FileKind.{FileKind}
+use Rattle.tb_edge_file.specs.declared.kinds.FileKind.TheVariants.{NoRecord, Closed, Begun, Log}
 use Rattle.tb_edge_file.specs.Kinds.{kind_by}
 use Rattle.tb_edge_file.specs.ExitStatuses.{is_of_head, numbers_of, started_fault}
 
@@ -42,20 +42,20 @@ entry_by at (Ok extent) = if extent.end == at then Some extent.count else None
 entry_by at (Err fault) = None
 
 -- the fault of a journal that has no record, or whose first one is no ledger's head: what it is instead
-abbrev pub headless_fault : Kind → KeepCommandFault
+abbrev pub headless_fault : FileKind → KeepCommandFault
 headless_fault NoRecord = NotAJournal NoRecord
 headless_fault Closed = NotAJournal Closed
 headless_fault Log = NotAJournal Log
 headless_fault kind = NoHead
 
 -- the fault of a journal whose first block is not what was written: it may end before its first record
-abbrev pub first_block_fault : Damage → Kind → KeepCommandFault
+abbrev pub first_block_fault : Damage → FileKind → KeepCommandFault
 first_block_fault damage Begun = NotAJournal Begun
 first_block_fault damage kind = Damaged damage
 
 module _ {D : Type 0} (its : devices.Ghosts D) where
   -- the first bytes of the file of a device were read, or it failed
-  pub record IsOfKind (kind : Kind) (device after : D) : Type 0 where
+  pub record IsOfKind (kind : FileKind) (device after : D) : Type 0 where
     pub read : Result ℕ JournalFault
     pub kind_is : (file : List ℕ) → its.holds device file → kind ≡ kind_by read file
     pub looks : its.tells → Looks read (its.disk device) (its.disk after)
@@ -70,11 +70,11 @@ module _ {D : Type 0} (its : devices.Ghosts D) where
 
   -- the first bytes of a journal without a ledger's head were read
   abbrev pub NamesHeadless : KeepCommandFault → D → D → Type 0
-  NamesHeadless fault device after = (kind : Kind) × (fault ≡ headless_fault kind) × IsOfKind kind device after
+  NamesHeadless fault device after = (kind : FileKind) × (fault ≡ headless_fault kind) × IsOfKind kind device after
 
   -- the same if the first block of a journal is damaged; otherwise the fault says what is damaged
   abbrev pub NamesFirst : Bool → Damage → KeepCommandFault → D → D → Type 0
-  NamesFirst true damage fault device after = (kind : Kind) × (fault ≡ first_block_fault damage kind) × IsOfKind kind device after
+  NamesFirst true damage fault device after = (kind : FileKind) × (fault ≡ first_block_fault damage kind) × IsOfKind kind device after
   NamesFirst false damage fault device after = (fault ≡ Damaged damage) × (after ≡ device)
 
   -- the records before a block that is not what was written were counted; if there are no such records, the first bytes were read
@@ -84,7 +84,7 @@ module _ {D : Type 0} (its : devices.Ghosts D) where
 
   -- if a file is no journal, or has no head, the fault says what it is; if a block is not what was written, it says which entry it is of
   abbrev pub Names : KeepCommandFault → KeepCommandFault → D → D → Type 0
-  Names (NotAJournal kind) fault device after = (found : Kind) × (fault ≡ NotAJournal found) × IsOfKind found device after
+  Names (NotAJournal kind) fault device after = (found : FileKind) × (fault ≡ NotAJournal found) × IsOfKind found device after
   Names NoHead fault device after = NamesHeadless fault device after
   Names (Damaged (Block at uncounted)) fault device after = NamesBlock at fault device after
   Names named fault device after = (fault ≡ named) × (after ≡ device)

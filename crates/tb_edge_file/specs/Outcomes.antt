@@ -22,7 +22,7 @@ use Rattle.tb_edge_file.specs.declared.asides.Reason.{Reason}
 use Rattle.tb_edge_file.specs.declared.openers.OpeningFault.{OpeningFault}
 use Rattle.tb_edge_file.specs.declared.summaries.Found.{Found}
 use Rattle.tb_edge_file.specs.declared.keeping.FileStart.{FileStart}
-use Rattle.tb_edge_file.specs.Streams.{Change, Streams, new, old}
+use Rattle.tb_edge_commands.specs.Streams.{Change, Streams, new, old}
 use Rattle.tb_edge_file.specs.Ends.{FileOutput, KeptFile, KnownEnds, KnownFiles, OnEnds, kept_file, made_by, outcome_by}
 use Rattle.tb_edge_file.specs.ExitStatuses.{disk_fault, dumped_fault, reason_fault, started_fault, kept_fault, failed_pipe, PrintsMade, PrintsCut, PrintsReading, PrintsReady, PrintsFrames}
 use Rattle.tb_edge_file.specs.Live.{IsWholeLength, MeasuresWhole}

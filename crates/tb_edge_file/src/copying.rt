@@ -17,7 +17,7 @@ use crate::rescues::{Rescued, rescued_of};
 use std::alloc::Global;
 use std::format;
 use tb_file::{NotSalvaged, SalvageFault, Salvaged, StartFault, read_on, read_rules, salvage};
-use tb_file_journal::Device;
+use tb_file_journal::{Device, LATCH_BYTES};
 use tb_records::{Sink, put_all};
 
 /// What is reported of a file of this many bytes that was copied.
@@ -29,7 +29,9 @@ fn copied_of<N: Device>(salvaged: &Salvaged<N>, len: usize) -> Copied
         entries: machine.commit(),
         time: machine.time(),
         end: salvaged.end,
-        behind: len.saturating_sub(salvaged.end as usize).saturating_sub(4),
+        behind: len
+            .saturating_sub(salvaged.end as usize)
+            .saturating_sub(LATCH_BYTES),
         damage: damage_of(salvaged.stop),
     }
 }

@@ -3,7 +3,7 @@ ghost use Rattle.std.specs.Prelude.{◌≡◌, ◌<◌};
 ghost use Rattle.tb_edge_file.specs.ExitStatuses.{is_of_head, fault_path, file_exit_status, opening_exit_status, new_fault, numbers_of, opened_fault, read_fault, reason_fault, refused_fault, disk_fault, dumped_fault, started_fault, kept_fault, words_fault};
 
 use crate::asides::{Reason, Uncopied};
-use crate::kinds::Kind;
+use crate::kinds::FileKind;
 use crate::openers::OpeningFault;
 use crate::summaries::profile_number;
 use std::io;
@@ -97,7 +97,7 @@ pub enum KeepCommandFault {
     /// What was read is no request, or no time is left for it.
     Request(RunFault),
     /// The file is no journal, but something of this kind.
-    NotAJournal(Kind),
+    NotAJournal(FileKind),
     /// The file is a journal, but it has no record, or its first one is no ledger's head.
     NoHead,
     /// The file is damaged. It is as it was.
@@ -133,7 +133,7 @@ pub fn disk_fault(fault: tb_file_journal::JournalFault) -> KeepCommandFault
         tb_file_journal::JournalFault::Failed => KeepCommandFault::Device(Failed::File),
         tb_file_journal::JournalFault::Full => KeepCommandFault::Full,
         tb_file_journal::JournalFault::TooLong => KeepCommandFault::Request(RunFault::TooLong),
-        tb_file_journal::JournalFault::NotEmpty => KeepCommandFault::NotAJournal(Kind::Unread),
+        tb_file_journal::JournalFault::NotEmpty => KeepCommandFault::NotAJournal(FileKind::Unread),
         tb_file_journal::JournalFault::SyncFailed => KeepCommandFault::SyncFailed,
     }
 }
@@ -143,7 +143,7 @@ fn refused_fault(why: Refusal) -> KeepCommandFault
     ensures { result ≡ refused_fault why }
 {
     match why {
-        Refusal::NotAJournal => KeepCommandFault::NotAJournal(Kind::Unread),
+        Refusal::NotAJournal => KeepCommandFault::NotAJournal(FileKind::Unread),
         Refusal::Damaged { at } => { KeepCommandFault::Damaged(Damage::Block { at, entry: None }) }
     }
 }

@@ -1,8 +1,9 @@
 //! The entries of a file above a commit number, written as the file grows.
 ghost use Rattle.std.specs.Prelude.{◌≡◌, true, ℕ, List, IfOk, OnOk};
 ghost use Rattle.tb_edge_file.specs.Following.{floor_of, start_of};
+ghost use Rattle.tb_edge_file.specs.Live.{LooksOnOk};
 ghost use Rattle.tb_edge_file.specs.Outcomes.{PrintsWhole};
-ghost use Rattle.tb_edge_file.specs.private.Stages.{FollowsAsked, HasHeldCause, HasRestCause, HasRoundCause, HasWholeCause, LooksOnOk, SendsMore, SendsOn, SendsRest, SendsUnread, WritesHeld, WritesUnread};
+ghost use Rattle.tb_edge_file.specs.private.Stages.{FollowsAsked, HasHeldCause, HasRestCause, HasRoundCause, HasWholeCause, SendsMore, SendsOn, SendsRest, SendsUnread, WritesHeld, WritesUnread};
 
 use crate::faults::{Failed, KeepCommandFault, disk_fault, dumped_fault, opened_fault};
 use crate::files::read_whole;

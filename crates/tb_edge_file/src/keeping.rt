@@ -1,7 +1,7 @@
 //! The serving of a ledger over a device.
 ghost use Rattle.std.specs.Prelude.{◌≡◌, true, IfOk};
 ghost use Rattle.tb_file.specs.Keeping.{IsFresh, IsUsable};
-ghost use Rattle.tb_edge_file.specs.Streams.{OnStreams};
+ghost use Rattle.tb_edge_commands.specs.Streams.{OnStreams};
 ghost use Rattle.tb_edge_file.specs.Ends.{outcome_by};
 ghost use Rattle.tb_edge_file.specs.Naming.{NamesAsked, Left};
 ghost use Rattle.tb_edge_file.specs.Outcomes.{StartsBy, HandsBy, IsAside};
@@ -13,8 +13,8 @@ use crate::lines::{print_cut, print_made, print_reading, print_ready};
 use crate::naming::named_asked;
 use std::alloc::{Allocator, Global};
 use tb_file::{KeepFault, Keeper, NotKept, Rules, keep};
-use tb_file_journal::Device;
-use tb_machine::over_a_pool;
+use tb_file_journal::{Device, LATCH_BYTES};
+use tb_machine::over_two_pools;
 use tb_records::{Sink, Source};
 
 /// A start: the path of its file, whether it reports that it reads and that it is ready, and whether the file has to have a ledger.
@@ -74,7 +74,9 @@ fn serve<D: Device + Drop, A: Allocator + Clone, R: Source, W: Sink, E: Sink>(
 {
     let mut keeper = keeper;
     let cut = keeper.cut_bytes();
-    let at = (len as u64).saturating_sub(cut).saturating_sub(4);
+    let at = (len as u64)
+        .saturating_sub(cut)
+        .saturating_sub(LATCH_BYTES as u64);
     print_made(len, file.path, faults);
     print_cut(cut, at, faults);
     let machine = keeper.machine();
@@ -122,6 +124,7 @@ fn start<D: Device + Drop, A: Allocator + Copy, R: Source, W: Sink, E: Sink>(
     ensures { OnStreams R.Source W.Sink E.Sink (StartsOver D.Device result rules file.now len device) reader writer faults }
 {
     print_reading(file.reports, file.path, len, faults);
+    // Both calls take the rules, and a struct can be given by value once.
     let asked = rules;
     match started(alloc, pool, device, rules, file.existing) {
         Ok(keeper) => serve(alloc, keeper, file, len, reader, writer, faults),
@@ -129,7 +132,31 @@ fn start<D: Device + Drop, A: Allocator + Copy, R: Source, W: Sink, E: Sink>(
     }
 }
 
-/// Serves pairs over the device of a path, after asking for its length. The machine has its records in a pool.
+/// The same, with the records of the machine in two pools over memory of `below`.
+fn start_over<D: Device + Drop, A: Allocator + Copy, R: Source, W: Sink, E: Sink>(
+    alloc: Global,
+    below: A,
+    device: D,
+    rules: Rules,
+    file: &FileStart,
+    len: usize,
+    reader: &mut R,
+    writer: &mut W,
+    faults: &mut E,
+) -> Result<(), KeepCommandFault>
+    requires { D.tells → (D.disk device).sound ≡ true }
+    ensures { OnStreams R.Source W.Sink E.Sink (StartsOver D.Device result rules file.now len device) reader writer faults }
+{
+    over_two_pools!(
+        below,
+        pool,
+        start(
+            alloc, &pool, device, rules, file, len, reader, writer, faults,
+        )
+    )
+}
+
+/// Serves pairs over the device of a path, after asking for its length. The machine has its records in pools.
 pub(crate) fn run<D: Device + Drop, R: Source, W: Sink, E: Sink>(
     alloc: Global,
     device: D,
@@ -145,10 +172,10 @@ pub(crate) fn run<D: Device + Drop, R: Source, W: Sink, E: Sink>(
     let mut device = device;
     match device.len() {
         Ok(len) => {
-            over_a_pool!(
+            over_two_pools!(
                 alloc,
                 pool,
-                start(
+                start_over(
                     alloc, &pool, device, rules, file, len, reader, writer, faults,
                 )
             )

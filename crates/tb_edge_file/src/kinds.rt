@@ -5,7 +5,7 @@ ghost use Rattle.tb_edge_file.specs.Kinds.{begins, begins_at, is_text, unrecorde
 
 /// What a file is that holds no ledger.
 #[derive(Clone, Copy, Debug, PartialEq, Eq)]
-pub enum Kind {
+pub enum FileKind {
     /// It was not read.
     Unread,
     /// It has no byte.
@@ -91,55 +91,55 @@ fn is_all_text(first: &[u8]) -> bool
 }
 
 /// The kind of a journal without a record, which begins with these bytes.
-fn unrecorded_kind(first: &[u8]) -> Kind
+fn unrecorded_kind(first: &[u8]) -> FileKind
     ensures { result ≡ unrecorded_kind first.now }
 {
     if first.len() > NO_RECORD.len() {
-        return Kind::Closed;
+        return FileKind::Closed;
     }
-    Kind::NoRecord
+    FileKind::NoRecord
 }
 
 /// The kind of a journal with these first bytes: a part of its first 8, or all 8 and bytes after them.
-fn journal_kind(first: &[u8]) -> Kind
+fn journal_kind(first: &[u8]) -> FileKind
     ensures { result ≡ journal_kind first.now }
 {
     if begins(NO_RECORD, first) {
         return unrecorded_kind(first);
     }
     if begins(first, NO_RECORD) {
-        return Kind::Begun;
+        return FileKind::Begun;
     }
     if begins_at(RECORD_AT, HEAD, first) {
-        return Kind::Ledger;
+        return FileKind::Ledger;
     }
     if begins_at(RECORD_AT, MARK, first) {
-        return Kind::Log;
+        return FileKind::Log;
     }
-    Kind::Other
+    FileKind::Other
 }
 
 /// The kind of a file with these first bytes, which holds no ledger.
-pub(crate) fn kind_of(first: &[u8]) -> Kind
+pub(crate) fn kind_of(first: &[u8]) -> FileKind
     ensures { result ≡ file_kind first.now }
 {
     if first.is_empty() {
-        return Kind::Empty;
+        return FileKind::Empty;
     }
     if begins(FORMER, first) {
-        return Kind::Former;
+        return FileKind::Former;
     }
     if begins(DUMP, first) {
-        return Kind::Dump;
+        return FileKind::Dump;
     }
     if begins(JOURNAL, first) || begins(first, JOURNAL) {
         return journal_kind(first);
     }
     if begins_at(24, REGISTER, first) {
-        return Kind::Script;
+        return FileKind::Script;
     }
     if is_all_text(first) {
-        return Kind::Text;
+        return FileKind::Text;
     }
-    Kind::Other
+    FileKind::Other
 }

@@ -71,7 +71,7 @@ pub use faults::{
 pub use following::Part;
 pub use help::{CHECK, RUN, USAGE, VERSION, page};
 pub use keeping::{FileStart, failed_pipe};
-pub use kinds::Kind;
+pub use kinds::FileKind;
 pub use lines::{
     WrongEntry, print_cut, print_damage, print_fault, print_made, print_named, print_number,
     print_place, print_text, print_wrong, refuse, refuse_words,

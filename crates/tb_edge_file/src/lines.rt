@@ -8,7 +8,7 @@ ghost use Rattle.tb_edge_file.specs.private.Changes.{PutsText};
 use crate::asides::{Uncopied, uncopied_text};
 use crate::faults::{Damage, Failed, KeepCommandFault, Mismatch, Numbers};
 use crate::help::USAGE;
-use crate::kinds::Kind;
+use crate::kinds::FileKind;
 use crate::openers::OpeningFault;
 use crate::printable::put_printable;
 use itoa::Buffer;
@@ -305,72 +305,72 @@ fn put_failed<E: Sink>(faults: &mut E, which: Failed, path: &str) -> Result<(), 
 }
 
 /// Writes that a file of this path is no ledger, and of what kind it is.
-fn put_kind<E: Sink>(faults: &mut E, kind: Kind, path: &str) -> Result<(), FrameFault>
+fn put_kind<E: Sink>(faults: &mut E, kind: FileKind, path: &str) -> Result<(), FrameFault>
     ensures { PutsText E.Sink result (kind_text kind path.now) faults }
 {
     match kind {
-        Kind::Unread => put_all(faults, b"NotAJournal"),
-        Kind::Empty => put_named(
+        FileKind::Unread => put_all(faults, b"NotAJournal"),
+        FileKind::Empty => put_named(
             faults,
             "NotAJournal: ",
             path,
             " is empty; tbd run makes a ledger in it",
         ),
-        Kind::Former => put_named(
+        FileKind::Former => put_named(
             faults,
             "NotAJournal: ",
             path,
             " has the former format TBJRNL01; tools/convert_journal.py makes a new file of it",
         ),
-        Kind::Dump => put_named(
+        FileKind::Dump => put_named(
             faults,
             "NotAJournal: ",
             path,
             " is a dump; tbs replay and telovamish dump read it",
         ),
-        Kind::NoRecord => put_named(
+        FileKind::NoRecord => put_named(
             faults,
             "NotAJournal: ",
             path,
             " has no record yet; tbd run makes a ledger in it, and tbd follow a log",
         ),
-        Kind::Closed => put_named(
+        FileKind::Closed => put_named(
             faults,
             "NotAJournal: ",
             path,
             " has a closed first latch at byte 8 and bytes after it; restore a backup if it had a record: tbd salvage finds none, and tbd run may cut these bytes off and begin a new ledger",
         ),
-        Kind::Begun => put_named(
+        FileKind::Begun => put_named(
             faults,
             "NotAJournal: ",
             path,
             " ends before its first record; restore a backup if it had one, or start without --existing",
         ),
-        Kind::Ledger => put_named(
+        FileKind::Ledger => put_named(
             faults,
             "NotAJournal: ",
             path,
             " is a ledger; tbd run serves it",
         ),
-        Kind::Log => put_named(
+        FileKind::Log => put_named(
             faults,
             "NotAJournal: ",
             path,
             " is a log; tbd follow serves it",
         ),
-        Kind::Script => put_named(
+        FileKind::Script => put_named(
             faults,
             "NotAJournal: ",
             path,
             " is a script; tbs and tbd run read it as standard input",
         ),
-        Kind::Text => put_named(
+        FileKind::Text => put_named(
             faults,
             "NotAJournal: ",
             path,
             " is a text; telovamish script makes request frames of statements",
         ),
-        Kind::Other => put_named(
+        FileKind::Other => put_named(
             faults,
             "NotAJournal: ",
             path,

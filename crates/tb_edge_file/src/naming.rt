@@ -6,20 +6,20 @@ ghost use Rattle.tb_edge_file.specs.Naming.{IsEntryAt, IsOfKind, IsMadeWith, IsR
 ghost use Rattle.tb_edge_file.specs.ExitStatuses.{started_fault};
 
 use crate::faults::{Damage, KeepCommandFault, Mismatch, numbers_of, started_fault};
-use crate::kinds::{FIRST_BYTES, Kind, kind_of};
+use crate::kinds::{FIRST_BYTES, FileKind, kind_of};
 use std::alloc::Global;
 use tb_file::{Rules, StartFault, read_rules};
 use tb_file_journal::{Device, Extent, OpenFault, Scan};
 
 /// What a file is that holds no ledger. Its first bytes are read.
-pub fn kind_in<D: Device>(device: &mut D) -> Kind
+pub fn kind_in<D: Device>(device: &mut D) -> FileKind
     ensures { IsOfKind D.Device result device.old device.new }
 {
     let mut first = [0; FIRST_BYTES];
     let first: &mut [u8] = &mut first;
     match device.read_at(0, first) {
         Ok(count) => kind_of(&first[..count]),
-        Err(_) => Kind::Unread,
+        Err(_) => FileKind::Unread,
     }
 }
 
@@ -63,13 +63,13 @@ pub fn entry_at<D: Device>(alloc: Global, device: &mut D, at: usize) -> Option<u
 }
 
 /// The fault of a journal of this kind that has no record, or whose first one is no ledger's head.
-fn headless_fault(kind: Kind) -> KeepCommandFault
+fn headless_fault(kind: FileKind) -> KeepCommandFault
     ensures { result ≡ headless_fault kind }
 {
     match kind {
-        Kind::NoRecord => KeepCommandFault::NotAJournal(Kind::NoRecord),
-        Kind::Closed => KeepCommandFault::NotAJournal(Kind::Closed),
-        Kind::Log => KeepCommandFault::NotAJournal(Kind::Log),
+        FileKind::NoRecord => KeepCommandFault::NotAJournal(FileKind::NoRecord),
+        FileKind::Closed => KeepCommandFault::NotAJournal(FileKind::Closed),
+        FileKind::Log => KeepCommandFault::NotAJournal(FileKind::Log),
         _ => KeepCommandFault::NoHead,
     }
 }
@@ -82,11 +82,11 @@ fn headless<D: Device>(device: &mut D) -> KeepCommandFault
 }
 
 /// The fault of a journal of this kind whose first block is not what was written.
-fn first_block_fault(damage: Damage, kind: Kind) -> KeepCommandFault
+fn first_block_fault(damage: Damage, kind: FileKind) -> KeepCommandFault
     ensures { result ≡ first_block_fault damage kind }
 {
     match kind {
-        Kind::Begun => KeepCommandFault::NotAJournal(Kind::Begun),
+        FileKind::Begun => KeepCommandFault::NotAJournal(FileKind::Begun),
         _ => KeepCommandFault::Damaged(damage),
     }
 }

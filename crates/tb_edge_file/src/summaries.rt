@@ -5,6 +5,7 @@ ghost use Rattle.tb_edge_file.specs.Summaries.{summary_of, behind_text, replayed
 
 use std::fmt;
 use tb_file::Rules;
+use tb_file_journal::LATCH_BYTES;
 use tb_records::Profile;
 
 /// What was read of a file whose records are all those of one history, or of entries in order.
@@ -29,7 +30,7 @@ impl Found {
             records: self.records,
             entries: self.entries,
             time: self.time,
-            behind: len.saturating_sub(self.end).saturating_sub(4),
+            behind: len.saturating_sub(self.end).saturating_sub(LATCH_BYTES),
             replayed: !quick,
         }
     }

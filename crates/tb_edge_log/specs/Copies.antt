@@ -1,7 +1,7 @@
 -- What is copied of a log's file into a new one, and what is reported of it.
 use Rattle.std.specs.Prelude.{ℕ, Bool, true, false, ◌≡◌, ◌-◌, List, [], ◌∷◌, ◌++◌, codes, Option, None, Some, Result, Ok, Err, IfOk, IfErr, MatchResult, refl}
 use Rattle.std.specs.Fmt.{decimal, digits}
-use Rattle.tb_edge_file.specs.Streams.{Change, new, old}
+use Rattle.tb_edge_commands.specs.Streams.{Change, new, old}
 use Rattle.tb_records.specs.Transport.{Output}
 use Rattle.tb_records.specs.declared.devices.Sink as sinks
 use Rattle.tb_file_journal.specs.declared.devices.Device as devices
@@ -24,7 +24,7 @@ use Rattle.tb_log_file.specs.declared.faults.LogStartFault.TheVariants as start
 use Rattle.tb_log_file.specs.Copying.{HasNewLogCause, IsCopied, IsUncopied, MayBeCopied, SaysWhyNotCopied, copied_device, reads_on, why_new_log, why_old_log}
 use Rattle.tb_log_file.specs.declared.reading_on.LogReadOn.{LogReadOn}
 use Rattle.tb_log_file.specs.Keeping.{By}
-use Rattle.tb_log_file.specs.ReadingOn.{HasLog, HasLongerLog, IsLogReadOn}
+use Rattle.tb_log_file.specs.ReadingOn.{HasLog, HasLongerLog, IsLogReadOn, log_point}
 use Rattle.tb_log_file.specs.Rereading.{HasLogCause}
 use Rattle.tb_edge_file.specs.declared.faults.Damage.{Damage}
 use Rattle.tb_edge_file.specs.declared.faults.Damage.TheVariants.{Block, Torn}
@@ -138,7 +138,7 @@ module _ {E : Type 0} (its : KnownReading E) {D : Type 0} (new_file : devices.Gh
     pub all : (file : List ℕ) → its.device.holds looked file → its.whole looked file
     pub result : Result LogReadOn CopyLogFault
     pub journal : KeptJournal D
-    pub on : IfOk result (By rules (IsLogReadOn new_file.tells new_file.disk) (its.device.holds looked) copied.reached.extent copied.follower copied.journal journal)
+    pub on : IfOk result (By rules (IsLogReadOn new_file.tells new_file.disk) (its.device.holds looked) (log_point copied.reached.extent copied.follower copied.journal) journal)
     pub any_moment : new_file.tells → (first : List (List ℕ)) → By rules (HasLog new_file.disk) first copied.follower copied.journal
         → LeavesOnly (new_file.disk copied.journal.device) (new_file.disk journal.device) (By rules HasLongerLog first)
     pub same : (file : List ℕ) → its.device.holds looked file → its.device.holds after.file file

@@ -1,6 +1,6 @@
 -- How a command ends: its outcome, exit status and line.
 use Rattle.std.specs.Prelude.{ℕ, Bool, true, false, ◌||◌, ◌≡◌, List, [], Option, Result, Ok, Err}
-use Rattle.tb_edge_file.specs.Streams.{Change, Streams, new, old}
+use Rattle.tb_edge_commands.specs.Streams.{Change, Streams, new, old}
 use Rattle.tb_records.specs.Transport.{Output, Sent, CutOff}
 use Rattle.tb_file.specs.Reading.{rules_of}
 use Rattle.tb_edge_file.specs.declared.arguments.Command.{Command}

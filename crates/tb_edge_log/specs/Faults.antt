@@ -22,7 +22,7 @@ use Rattle.tb_edge_file.specs.declared.faults.Failed.{Failed}
 use Rattle.tb_edge_file.specs.declared.faults.Failed.TheVariants.{Output}
 use Rattle.tb_edge_file.specs.declared.faults.KeepCommandFault.{KeepCommandFault}
 use Rattle.tb_edge_file.specs.declared.faults.KeepCommandFault.TheVariants.{Device, NoMemory, NotAJournal, Damaged, Full}
-use Rattle.tb_edge_file.specs.declared.kinds.Kind.TheVariants as kind
+use Rattle.tb_edge_file.specs.declared.kinds.FileKind.TheVariants as kind
 use Rattle.tb_edge_file.specs.ExitStatuses.{counted_text, damage_line, disk_fault, opened_fault, file_exit_status, file_fault_line, fault_path, line_of, named}
 use Rattle.tb_edge_file.specs.Printable.{printable}
 use Rattle.tb_edge_log.specs.declared.faults.CommandFault.{CommandFault}

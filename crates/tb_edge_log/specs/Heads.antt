@@ -11,7 +11,7 @@ use Rattle.tb_file.specs.declared.recovering.Rules.{Rules}
 use Rattle.tb_file.specs.Reading.{rules_of}
 use Rattle.tb_edge_file.specs.declared.faults.KeepCommandFault.{KeepCommandFault}
 use Rattle.tb_edge_file.specs.declared.faults.KeepCommandFault.TheVariants.{NotAJournal}
-use Rattle.tb_edge_file.specs.declared.kinds.Kind.TheVariants as kind
+use Rattle.tb_edge_file.specs.declared.kinds.FileKind.TheVariants as kind
 use Rattle.tb_edge_file.specs.declared.openers.OpeningFault.{OpeningFault}
 use Rattle.tb_edge_file.specs.ExitStatuses.{disk_fault}
 

@@ -10,7 +10,7 @@ use Rattle.tb_edge_file.specs.declared.arguments.Command.{Command}
 use Rattle.tb_edge_file.specs.declared.arguments.Form.{Form}
 use Rattle.tb_edge_file.specs.declared.arguments.Form.TheVariants as form
 use Rattle.tb_edge_file.specs.declared.faults.KeepCommandFault.TheVariants.{NoMemory}
-use Rattle.tb_edge_file.specs.Streams.{Change}
+use Rattle.tb_edge_commands.specs.Streams.{Change}
 use Rattle.tb_edge_file.specs.Ends.{OnOpener, OpenerOutput}
 use Rattle.tb_edge_file.specs.ExitStatuses.{SaysLine, file_fault_line}
 use Rattle.tb_edge_file.specs.Outlets.{Watched, outgoing}

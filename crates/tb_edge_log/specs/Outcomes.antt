@@ -24,7 +24,7 @@ use Rattle.tb_edge_file.specs.declared.asides.Reason.{Reason}
 use Rattle.tb_edge_file.specs.declared.faults.KeepCommandFault.{KeepCommandFault}
 use Rattle.tb_edge_file.specs.declared.faults.KeepCommandFault.TheVariants.{Opening, Gone}
 use Rattle.tb_edge_file.specs.declared.openers.OpeningFault.{OpeningFault}
-use Rattle.tb_edge_file.specs.Streams.{Change, Streams, new, old}
+use Rattle.tb_edge_commands.specs.Streams.{Change, Streams, new, old}
 use Rattle.tb_edge_file.specs.Ends.{FileOutput, KeptFile, KnownEnds, OnEnds, made_by, outcome_by}
 use Rattle.tb_edge_file.specs.Outcomes.{IsAsked, OfFile, Opens, named_by}
 use Rattle.tb_edge_file.specs.ExitStatuses.{SaysLine, PrintsCut, PrintsMade, disk_fault, failed_pipe}

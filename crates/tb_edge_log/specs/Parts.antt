@@ -1,6 +1,6 @@
 -- What is written of the entries of a log above a commit number, or of all, as the file grows.
 use Rattle.std.specs.Prelude.{ℕ, ◌≡◌, ◌⊎◌, Bool, true, List, [], Result, Ok, Err}
-use Rattle.tb_edge_file.specs.Streams.{Change, new, old}
+use Rattle.tb_edge_commands.specs.Streams.{Change, new, old}
 use Rattle.tb_records.specs.Transport.{Output, Sent, CutOff}
 use Rattle.tb_records.specs.declared.devices.Sink as sinks
 use Rattle.tb_file_journal.specs.Growing.{Later}

@@ -11,7 +11,7 @@ use std::alloc::Global;
 use std::{fmt, format};
 use tb_edge_file::{Failed, KeepCommandFault, Live, Summary, disk_fault};
 use tb_file::Rules;
-use tb_file_journal::Device;
+use tb_file_journal::{Device, LATCH_BYTES};
 use tb_log_file::{Reached, check_log};
 use tb_records::{Sink, put_all};
 
@@ -36,7 +36,9 @@ impl LogSummary {
                 entries: reached.commit,
                 time: reached.time,
                 replayed: true,
-                behind: len.saturating_sub(reached.extent.end).saturating_sub(4),
+                behind: len
+                    .saturating_sub(reached.extent.end)
+                    .saturating_sub(LATCH_BYTES),
             },
             position: reached.position,
         }

@@ -18,7 +18,7 @@ use tb_edge_file::{
     new_fault, opened_fault, print_mended,
 };
 use tb_file::Rules;
-use tb_file_journal::{Device, OpenFault, Refusal, Scan};
+use tb_file_journal::{Device, LATCH_BYTES, OpenFault, Refusal, Scan};
 use tb_log_file::{
     CopiedLog, CopyLogFault, LogReadOn, LogStartFault, NotCopiedLog, copy_log, read_log_on,
     reads_on,
@@ -59,7 +59,7 @@ impl LogCopied {
                 entries: reached.commit,
                 time: reached.time,
                 end: end as u64,
-                behind: len.saturating_sub(end).saturating_sub(4),
+                behind: len.saturating_sub(end).saturating_sub(LATCH_BYTES),
                 damage: damage_of(taken.stop, end),
             },
             position: reached.position,

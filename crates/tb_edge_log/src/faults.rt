@@ -2,7 +2,7 @@
 ghost use Rattle.std.specs.Prelude.{◌≡◌, ◌<◌};
 ghost use Rattle.tb_edge_log.specs.Faults.{command_exit_status, command_path, journal_fault, started_log_fault, item_fault, kept_log_fault, dumped_log_fault, follow_exit_status, follow_path};
 
-use tb_edge_file::{Damage, Failed, KeepCommandFault, Kind, disk_fault, opened_fault};
+use tb_edge_file::{Damage, Failed, FileKind, KeepCommandFault, disk_fault, opened_fault};
 use tb_file_journal::{OpenFault, Refusal};
 use tb_log::LogFault;
 use tb_log_file::{DumpLogFault, KeepLogFault, LogStartFault};
@@ -33,7 +33,7 @@ pub(crate) fn journal_fault(fault: OpenFault) -> KeepCommandFault
     ensures { result ≡ journal_fault fault }
 {
     match fault {
-        OpenFault::Refused(Refusal::NotAJournal) => KeepCommandFault::NotAJournal(Kind::Other),
+        OpenFault::Refused(Refusal::NotAJournal) => KeepCommandFault::NotAJournal(FileKind::Other),
         fault => opened_fault(fault),
     }
 }

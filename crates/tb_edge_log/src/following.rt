@@ -2,7 +2,7 @@
 ghost use Rattle.std.specs.Prelude.{◌≡◌, true, IfOk};
 ghost use Rattle.tb_file_journal.specs.Ready.{IsReady};
 ghost use Rattle.tb_log_file.specs.Keeping.{IsUsableLog};
-ghost use Rattle.tb_edge_file.specs.Streams.{OnStreams};
+ghost use Rattle.tb_edge_commands.specs.Streams.{OnStreams};
 ghost use Rattle.tb_edge_file.specs.Ends.{kept_file, outcome_by};
 ghost use Rattle.tb_edge_log.specs.Faults.{kept_log_fault};
 ghost use Rattle.tb_edge_log.specs.Outcomes.{FollowsKept, FollowsLong, FollowsFile, StartsLogBy, HandsLogBy, IsLogAside};
@@ -14,7 +14,7 @@ use bumpalo::Bump;
 use std::alloc::{Allocator, Global};
 use tb_edge_file::{Failed, disk_fault, failed_pipe, print_cut, print_made};
 use tb_file::Rules;
-use tb_file_journal::Device;
+use tb_file_journal::{Device, LATCH_BYTES};
 use tb_log_file::{KeepLogFault, LogKeeper, NotStarted, keep_log};
 use tb_records::{Sink, Source};
 
@@ -45,7 +45,9 @@ fn keep<D: Device + Drop, A: Allocator + Clone, R: Source, W: Sink, E: Sink>(
 {
     let mut keeper = keeper;
     let cut = keeper.cut_bytes();
-    let at = (len as u64).saturating_sub(cut).saturating_sub(4);
+    let at = (len as u64)
+        .saturating_sub(cut)
+        .saturating_sub(LATCH_BYTES as u64);
     print_made(len, path, faults);
     print_cut(cut, at, faults);
     print_wanted(keeper.position(), faults);

@@ -3,7 +3,7 @@ ghost use Rattle.std.specs.Prelude.{◌≡◌, ◌≤◌, ℕ, List, Result, len
 ghost use Rattle.tb_edge_file.specs.declared.openers.OpeningFault.{OpeningFault};
 ghost use Rattle.tb_edge_log.specs.Heads.{FindsRules, LooksLikeLog, profile_numbered, rules_behind, rules_by, rules_in, rules_of_mark, rules_or_fault};
 
-use tb_edge_file::{KeepCommandFault, Kind, Opener, OpeningFault, disk_fault};
+use tb_edge_file::{FileKind, KeepCommandFault, Opener, OpeningFault, disk_fault};
 use tb_file::Rules;
 use tb_file_journal::Device;
 use tb_records::{ClientsMax, Profile};
@@ -87,7 +87,7 @@ fn rules_or_fault(rules: Option<Rules>) -> Result<Rules, KeepCommandFault>
 {
     match rules {
         Some(rules) => Ok(rules),
-        None => Err(KeepCommandFault::NotAJournal(Kind::Other)),
+        None => Err(KeepCommandFault::NotAJournal(FileKind::Other)),
     }
 }
 

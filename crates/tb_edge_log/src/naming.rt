@@ -5,7 +5,7 @@ ghost use Rattle.tb_edge_log.specs.Naming.{NamesLogFault, NamesLogBlock, first_e
 
 use crate::faults::{FollowFault, started_fault};
 use std::alloc::Global;
-use tb_edge_file::{Damage, KeepCommandFault, Kind, entry_at, kind_in};
+use tb_edge_file::{Damage, FileKind, KeepCommandFault, entry_at, kind_in};
 use tb_file_journal::Device;
 use tb_log_file::LogStartFault;
 
@@ -27,12 +27,12 @@ fn is_first(count: Option<u64>) -> bool
 }
 
 /// The fault of a journal of this kind whose first block is not what was written.
-fn first_entry_fault(damage: Damage, kind: Kind) -> FollowFault
+fn first_entry_fault(damage: Damage, kind: FileKind) -> FollowFault
     ensures { result ≡ first_entry_fault damage kind }
 {
     match kind {
-        Kind::Begun => FollowFault::Kept(KeepCommandFault::NotAJournal(Kind::Begun)),
-        Kind::Ledger => FollowFault::Plain,
+        FileKind::Begun => FollowFault::Kept(KeepCommandFault::NotAJournal(FileKind::Begun)),
+        FileKind::Ledger => FollowFault::Plain,
         _ => FollowFault::Kept(KeepCommandFault::Damaged(damage)),
     }
 }

@@ -1,6 +1,7 @@
 //! The entries of a log above a commit number, or all, written as the file grows.
 ghost use Rattle.std.specs.Prelude.{◌≡◌, true, ℕ, List, IfOk, OnOk};
 ghost use Rattle.tb_edge_file.specs.Following.{start_of};
+ghost use Rattle.tb_edge_file.specs.Live.{LooksOnOk};
 ghost use Rattle.tb_edge_log.specs.Parts.{HeadGoes, SendsMoreOfLog, SendsOnLog, SendsRestOfLog, SendsUnreadLog, IsUnread, WritesHeldLog, WritesUnreadLog};
 
 use crate::faults::{FollowFault, dumped_fault};
@@ -68,6 +69,7 @@ fn send_more<D: Live, W: Outlet>(
 ) -> Result<(), FollowFault>
     ensures sends { SendsMoreOfLog D.holds W.Sink wanted.now result reading device writer }
     ensures gone { IfOk result (λ _. W.gone writer.new) }
+    ensures looks { LooksOnOk D.whole D.holds result device }
 {
     match device.refresh() {
         Ok(()) => {

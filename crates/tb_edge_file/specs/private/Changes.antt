@@ -3,7 +3,7 @@ use Rattle.std.specs.Prelude.{ℕ, List, Result}
 use Rattle.tb_records.specs.Transport.{IsSent}
 use Rattle.tb_records.specs.declared.devices.Sink as sinks
 use Rattle.tb_records.specs.declared.faults.FrameFault.{FrameFault}
-use Rattle.tb_edge_file.specs.Streams.{Change}
+use Rattle.tb_edge_commands.specs.Streams.{Change}
 use Rattle.tb_edge_file.specs.Ends.{OnWriter}
 
 -- a writer was sent a text, or failed within it

@@ -1,5 +1,5 @@
 -- What the private functions of a command do, with its parts as their arguments.
-use Rattle.std.specs.Prelude.{ℕ, Bool, true, List, [], OnOk}
+use Rattle.std.specs.Prelude.{ℕ, Bool, true, List, []}
 use Rattle.tb_records.specs.Transport.{Output}
 use Rattle.tb_records.specs.declared.devices.Sink as sinks
 use Rattle.tb_file_journal.specs.declared.devices.Device as devices
@@ -8,14 +8,13 @@ use Rattle.tb_file.specs.declared.faults.StartFault.{StartFault}
 use Rattle.tb_file.specs.declared.recovering.Rules.{Rules}
 use Rattle.tb_file.specs.declared.salvaging.Salvaged.{Salvaged}
 use Rattle.tb_file.specs.Keeping.{Keeping}
-use Rattle.tb_edge_file.specs.Streams.{Change, Streams, new, old}
+use Rattle.tb_edge_commands.specs.Streams.{Change, Streams, new, old}
 use Rattle.tb_edge_file.specs.declared.faults.KeepCommandFault.{KeepCommandFault}
 use Rattle.tb_edge_file.specs.declared.following.Part.{Part}
 use Rattle.tb_edge_file.specs.declared.keeping.FileStart.{FileStart}
 use Rattle.tb_edge_file.specs.Copies.{CopiesHeaded, CopiesMended, CopiesRefused, EndsCopy, MakesCopy, NotesMended, copied_of, refused_by}
 use Rattle.tb_edge_file.specs.Ends.{FileOutput, KnownEnds, KnownFiles, KnownReading, OnDevice, OnEnds, OnOpener, OnWriter, made_by}
 use Rattle.tb_edge_file.specs.Following.{EndsRounds, WritesGrown, GrowsBy, HasPartCause, RoundCause, SendsRound, WritesPart}
-use Rattle.tb_edge_file.specs.Live.{LooksAgain}
 use Rattle.tb_edge_file.specs.Outcomes.{DumpsPart, DumpsFollowing, FileOutcome, ServesFile, ServesKept, ServesLong, ServesOpened, file_of}
 
 -- a start that has this outcome
@@ -100,11 +99,6 @@ module _ {D W : Type 0} (holds : D → List ℕ → Type 0) (sink : sinks.Ghosts
   abbrev pub WritesHeld : Part → Rules → Change D → Change W → Type 0
   WritesHeld part rules device writer =
       (file : List ℕ) → holds (old device) file → OnWriter sink (WritesPart (holds (new device)) outcome part.follows part.after rules file) writer
-
--- a device looked at its file again, whatever it held
-abbrev pub LooksOnOk : {D : Type 0} → (D → List ℕ → Type 0) → (D → List ℕ → Type 0) → FileOutcome → Change D → Type 0
-LooksOnOk whole holds outcome device =
-    (file : List ℕ) → holds (old device) file → OnOk outcome (LooksAgain whole holds (old device) (new device) file)
 
 -- the cause, over a device that reports what its calls do
 module _ {D : Type 0} (its : devices.Ghosts D) (outcome : FileOutcome) where

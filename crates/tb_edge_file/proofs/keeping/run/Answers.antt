@@ -6,7 +6,7 @@ returns-in-Ok g c = record {
   len = Ok c.in-Ok.len;
   between = c.len.new.self;
   asked = record { long = c.in-Ok.ensures.bytes; same = c.in-Ok.ensures.same; looks = c.in-Ok.ensures.looks };
-  serves = c.start.ensures;
+  serves = c.start_over.ensures;
 }
 
 pub returns-in-Err : goal.returns-in-Err
