@@ -1,18 +1,22 @@
 """Which lines an audit has, and how a time is shown."""
 from __future__ import annotations
 
+import json
+import pathlib
 import subprocess
+import sys
 
+import click
 import pytest
 from by_hand import account, entered, entry_of, transfer
 from conftest import APP, ran
 
-from telovamish.audit import Audit, Wanted
+from telovamish.audit import Audit, Wanted, last_time_of, time_of
 from telovamish.checking import Differs, compare_records
 from telovamish.model import Ledger
 from telovamish.reader import Pair
 from telovamish.records import Account
-from telovamish.streams import Entry
+from telovamish.streams import Entry, Head, item_bytes
 
 ENTRY = Entry(2, 12 * 10**9, Pair(12 * 10**9, 7, 1, 1, "lookup_accounts", b""))
 
@@ -30,6 +34,59 @@ ENTRY = Entry(2, 12 * 10**9, Pair(12 * 10**9, 7, 1, 1, "lookup_accounts", b""))
 )
 def test_bounds_of_an_audit(wanted: Wanted, is_shown: bool) -> None:
     assert bool(Audit(wanted).lines(ENTRY, Ledger(1), [])) == is_shown
+
+
+DAY = 86400 * 10**9
+# a program that replies to registers
+REPLAY = """
+from tb_client import Reply
+from telovamish.streams import Entry, read_dump
+
+for it in read_dump(sys.stdin.buffer):
+    if isinstance(it, Entry):
+        reply = Reply(it.request.client, it.commit, 0, 2, 0, it.commit, b"")
+        sys.stdout.buffer.write(reply.to_bytes())
+        sys.stdout.buffer.flush()
+"""
+
+
+@pytest.mark.parametrize(
+    "word, first, last",
+    [
+        ("1970-01-02", DAY, 2 * DAY - 1),
+        ("1970-01-02T00:00Z", DAY, DAY),
+        ("1970-01-02T00:00:00.5Z", DAY + 5 * 10**8, DAY + 5 * 10**8),
+        ("1970", 1970, 1970),
+        ("2262-04-11", 106751 * DAY, 2**63 - 1),
+    ],
+)
+def test_a_day_is_whole(word: str, first: int, last: int) -> None:
+    """As `--from` its first moment counts, as `--to` its last one."""
+    assert (time_of(word), last_time_of(word)) == (first, last)
+
+
+@pytest.mark.parametrize("word", ["", "1970-02-30", "2262-04-12", "1970-1-2", "-1", "9" * 20, "٣"])
+def test_no_time(word: str) -> None:
+    for read in (time_of, last_time_of):
+        with pytest.raises(click.BadParameter):
+            read(word)
+
+
+def test_the_entries_of_a_day(tmp_path: pathlib.Path) -> None:
+    program = tmp_path / "tbs"
+    program.write_text(f"#!{sys.executable}\nimport sys\nsys.path[:] = {sys.path}\n{REPLAY}")
+    program.chmod(0o755)
+    entries = [entry_of(it, it * DAY // 2, it, "register") for it in range(1, 6)]
+    dump = b"".join(map(item_bytes, [Head(1, 1), *entries]))
+    for words, wanted in (
+        (["--to", "1970-01-02"], [1, 2, 3]),
+        (["--from", "1970-01-02", "--to", "1970-01-02"], [2, 3]),
+        (["--to", "1970-01-02T00:00Z"], [1, 2]),
+    ):
+        status, out, errors = ran("audit", "--tbs", str(program), *words, given=dump)
+        assert (status, errors) == (0, "")
+        found = [json.loads(it) for it in out.splitlines()]
+        assert [int(it["commit"]) for it in found if "commit" in it] == wanted
 
 
 @pytest.mark.parametrize(

@@ -150,7 +150,10 @@ def test_questions(books, env):
     [
         ("\n get_account_transfers id=1;", "line 2: get_account_transfers has no field id"),
         ("query_accounts limit;", "line 1: 'limit' is no field of its own, as limit=10"),
-        ("query_accounts\nlimit=x;", "line 1: limit is a number from 0 to 4294967295, and not 'x'"),
+        (
+            "query_accounts\nlimit=x;",
+            "line 1: limit must be a number from 0 to 4294967295, not 'x'",
+        ),
         ("query_accounts; query_account;", "line 1, column 17: unknown operation"),
         ("query_accounts;\nregister;", "--books has tables and no ledger: name one by --file"),
     ],

@@ -1,7 +1,10 @@
 """Ledgers in files and over connections."""
 from __future__ import annotations
 
+import os
+import pathlib
 import shutil
+import signal
 import subprocess
 import time
 
@@ -9,8 +12,9 @@ import pytest
 from conftest import COMMAND, ran
 from listeners import UPPER, certificates_in, listening
 
-from telovamish.faults import Fault
-from telovamish.ledgers import head_of, over
+from telovamish import ledgers
+from telovamish.faults import Device, Fault
+from telovamish.ledgers import head_of, of_file, over
 
 ACCOUNT = "create_accounts id=1 ledger=7 code=1;"
 
@@ -29,6 +33,78 @@ def test_a_ledger_in_a_file_stays(env, tmp_path):
     again = f"client=7 session=1 request=1 {ACCOUNT} client=7 session=1 lookup_accounts id=1;"
     status, out, _ = ran(*words, again, env=env)
     assert (status, b"700" in out or b"   7 " in out) == (0, True)
+
+
+# programs that never report that they have read the ledger: they write their process's number
+
+
+def never_ready(folder: pathlib.Path, does: str, name: str = "tbd") -> str:
+    path = folder / name
+    path.write_text(f"#!/bin/sh\necho $$ > {folder}/started\n{does}\n")
+    path.chmod(0o755)
+    return str(path)
+
+
+def until_gone(folder: pathlib.Path) -> None:
+    number, end = (folder / "started").read_text().strip(), time.monotonic() + 20
+    while pathlib.Path(f"/proc/{number}").exists():
+        assert time.monotonic() < end
+        time.sleep(0.02)
+
+
+@pytest.mark.parametrize("does", ["sleep 600", "exec yes >&2"])
+def test_a_program_that_is_never_ready(tmp_path, monkeypatch, does):
+    """It is waited for as long as it has news, and ended then, with what it started."""
+    monkeypatch.setattr(ledgers, "QUIET", 0.5)
+    path, file, began = never_ready(tmp_path, does), str(tmp_path / "a.tbk"), time.monotonic()
+    with pytest.raises(Device) as why:
+        of_file(file, path, (None, None), lambda _: None)
+    said = f"{path} reported nothing for 0.5 seconds before it had read {file}, and was killed"
+    assert (str(why.value), why.value.status) == (f"NotReady: {said}", 1)
+    assert time.monotonic() - began < 20
+    until_gone(tmp_path)
+
+
+def test_a_program_with_news_is_waited_for(tmp_path, monkeypatch):
+    monkeypatch.setattr(ledgers, "QUIET", 2.0)
+    news = "for it in 1 2 3 4 5 6; do echo tbd: reading a.tbk, $it of 6 MB >&2; sleep 0.7; done"
+    path = never_ready(tmp_path, f"{news}; echo tbd: ready >&2; exec cat > /dev/null")
+    shown: list[str] = []
+    of_file(str(tmp_path / "a.tbk"), path, (None, None), shown.append).close()
+    assert "reading a.tbk, 6 of 6 MB" in shown
+
+
+def begun(*words: str) -> subprocess.Popen[bytes]:
+    return subprocess.Popen(
+        [COMMAND, "run", *words],
+        stdin=subprocess.DEVNULL,
+        stderr=subprocess.PIPE,
+        preexec_fn=lambda: signal.signal(signal.SIGINT, signal.default_int_handler),
+    )
+
+
+def test_ctrl_c_while_a_program_is_not_ready(tmp_path):
+    program = never_ready(tmp_path, "sleep 600")
+    interrupt(begun("--file", str(tmp_path / "a.tbk"), "--program", program), tmp_path)
+
+
+def interrupt(it: subprocess.Popen[bytes], folder: pathlib.Path) -> None:
+    """The command ends at once, and its program too."""
+    end = time.monotonic() + 20
+    while not (folder / "started").exists() and time.monotonic() < end:
+        time.sleep(0.02)
+    time.sleep(0.1)
+    began = time.monotonic()
+    os.kill(it.pid, signal.SIGINT)
+    assert it.communicate(timeout=20) == (None, b"\n")
+    assert (it.returncode, time.monotonic() - began < 4) == (130, True)
+    until_gone(folder)
+
+
+def test_ctrl_c_while_a_program_does_not_reply(tmp_path):
+    """A program in memory is not waited for: it may not look at its input."""
+    it = begun("--command", "register;", "--program", never_ready(tmp_path, "sleep 600", "tbs"))
+    interrupt(it, tmp_path)
 
 
 def test_another_client_each_time(env, tmp_path):

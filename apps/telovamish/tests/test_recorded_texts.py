@@ -35,6 +35,7 @@ def now(errors: str) -> str:
     """A message of the old command in the words of this one."""
     first, end, lines = errors.partition("\n")
     first = re.sub("^tbt", "telovamish", first)
+    first = re.sub("(client|request) is not 0$", r"\1 cannot be 0", first)
     return first.replace("' cannot stand here", "' is not allowed here") + end + lines
 
 
@@ -127,6 +128,18 @@ def operation_with_a_mark(old: Fault, new: Fault) -> Fault:
     return new if is_named and (old.row, old.column) < (new.row, new.column) else old
 
 
+def field_after_its_operation(old: Fault, new: Fault) -> Fault:
+    is_named = re.fullmatch(r"('\w+') comes before \w+, or ';' is missing before it", new.what)
+    is_there = is_named and old.what == f"';' is missing before {is_named[1]}"
+    return old._replace(what=new.what) if is_there else old
+
+
+def shown_by_number(old: Fault, new: Fault) -> Fault:
+    line = re.sub("<U\\+([0-9A-F]{4,})>", lambda it: chr(int(it[1], 16)), new.line)
+    is_same = line == old.line != new.line
+    return old._replace(line=new.line, under=new.under) if is_same else old
+
+
 DIFFERENCES = [
     Difference("line", line_goes_on, "the line is shown as far as it was read, not up to its `;`"),
     Difference("cut", cut_line, "a long line is cut by characters, not by bytes"),
@@ -152,6 +165,12 @@ DIFFERENCES = [
         "register",
         register_with_a_request,
         "only a client does not make a register with a request right",
+    ),
+    Difference("unseen", shown_by_number, "what cannot be seen is shown by its number"),
+    Difference(
+        "after",
+        field_after_its_operation,
+        "a field that is written after an operation without events may belong before it",
     ),
     Difference(
         "operation=",

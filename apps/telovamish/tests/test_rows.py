@@ -247,7 +247,7 @@ AUDIT = "get_account_transfers is no operation here: the books answer it: telova
 BOOKS = "query_transfers is no operation here: the books answer it: telovamish --books TABLES"
 TWICE = "id was given before in this event; ',' comes between events"
 TYPED = [
-    ("a place is one in the text that was typed", "at=1\nrequest=1\nclient=0 register;", "line 3, column 9: client is not 0"),
+    ("a place is one in the text that was typed", "at=1\nrequest=1\nclient=0 register;", "line 3, column 9: client cannot be 0"),
     ("what has get_account_transfers", "get_account_transfers id=1;", f"line 1, column 1: {AUDIT}"),
     ("what has query_transfers", "query_transfers id=1;", f"line 1, column 1: {BOOKS}"),
     ("`flags=a,b`", "create_transfers id=1 flags=linked,pending;", "column 43: flags are joined by '|': flags=..|pending"),

@@ -11,6 +11,8 @@ from conftest import APP, COMMAND, ran
 EXAMPLES = APP.parent.parent / "examples"
 HEAD = b"at=10 client=7 register;\n"
 MARK = bytes(8) + bytes([2, *bytes(7)])
+# output waits in memory until it is flushed, as it does for people
+BUFFERED = {**os.environ, "PYTHONUNBUFFERED": ""}
 
 
 def script(text: bytes) -> bytes:
@@ -110,12 +112,55 @@ def test_what_was_right_before_is_written():
     assert errors.startswith("telovamish: line 2, column 1: unknown word 'wrong'")
 
 
-def test_output_that_is_lost():
+def test_output_that_is_lost(tbs):
     for words, given in ((["script"], HEAD), (["run"], b"register;")):
         with open("/dev/full", "wb") as full:
-            it = subprocess.run([COMMAND, *words], input=given, stdout=full, stderr=subprocess.PIPE)
+            it = subprocess.run(
+                [COMMAND, *words], input=given, stdout=full, stderr=subprocess.PIPE, env=BUFFERED
+            )
         assert it.returncode == 1
         assert it.stderr == b"telovamish: Device: standard output: No space left on device\n"
+
+
+@pytest.mark.parametrize("words", [["runn"], ["audit", "--to", "x"], ["script"]])
+def test_a_message_that_is_lost(words):
+    """It does not change the status."""
+    with open("/dev/full", "wb") as full:
+        it = subprocess.run([COMMAND, *words], input=b"x;", stderr=full, env=BUFFERED)
+    assert it.returncode == 2
+
+
+@pytest.mark.parametrize("words", [["--help"], ["run", "--help"], ["--version"]])
+def test_a_page_of_usage_that_is_lost(words):
+    with open("/dev/full", "wb") as full:
+        it = subprocess.run([COMMAND, *words], stdout=full, stderr=subprocess.PIPE, env=BUFFERED)
+    assert it.returncode == 1
+    assert it.stderr == b"telovamish: Device: standard output: No space left on device\n"
+
+
+@pytest.mark.parametrize("form", ["audit", "explain"])
+@pytest.mark.parametrize(
+    "program, said",
+    [
+        ("#!/bin/sh\nkill -SEGV $$\n", "tbs replay was killed by signal 11"),
+        ("#!/bin/sh\nexit 7\n", "tbs replay ended with status 7"),
+        ("#!/bin/sh\necho tbs: NoMemory >&2; exit 1\n", "tbs replay ended with status 1: NoMemory"),
+        ("#!/bin/sh\nprintf %048d 5; cat > /dev/null\n", "tbs replay wrote what is no reply ("),
+        ("\x7fELF", "Device: FILE does not start: Exec format error"),
+        ("#!/nowhere\n", "Device: FILE does not start: No such file or directory"),
+    ],
+)
+def test_a_program_that_fails_is_no_wrong_input(form, program, said, tmp_path):
+    """The exit status is 1: a dump is not wrong because `tbs` failed."""
+    file = tmp_path / "tbs"
+    file.write_text(program)
+    file.chmod(0o755)
+    head = b"TBSDUMP1" + bytes([1, 0, 0, 0, 1, 0, 0, 0])
+    first = bytes([1, *bytes(7), 5, *bytes(7), 7, *bytes(27), 2, *bytes(19)])
+    status, _, errors = ran(form, "--tbs", str(file), given=head + first)
+    assert status == 1
+    assert errors.startswith(f"telovamish: {said.replace('FILE', str(file))}"), errors
+    assert errors.count("\n") == 1
 
 
 def test_files_that_are_closed():
@@ -212,7 +257,7 @@ def test_a_command_and_the_bare_command(tbs):
     assert ran(given=b"register;", env={"TBS": tbs})[1] == b"client 1 has session 1\n"
 
 
-def test_version_and_wrong_words(tmp_path):
+def test_version_and_wrong_words(tbs, tmp_path):
     assert ran("--version") == (0, b"telovamish 0.1.0\n", "")
     assert (
         ran("runn")[2]
@@ -234,13 +279,50 @@ def test_version_and_wrong_words(tmp_path):
             ["--file", "a", "--connect", "b"],
             "--file and --connect are two ledgers: give one of them",
         ),
-        (["--ca", "a"], "--ca comes with --connect"),
-        (["--connect", "1", "--key", "a"], "--key comes with --certificate"),
+        (["--ca", "a"], "--ca needs --connect"),
+        (["--connect", "1", "--key", "a"], "--key needs --certificate"),
+        (["--connect", "1", "--program", "a"], "--program needs a server that telovamish starts"),
+        (["--connect", "1", "--profile", "2"], "--profile needs a server that telovamish starts"),
+        (
+            ["--books", "a", "--clients-max", "2"],
+            "--clients-max needs a server that telovamish starts",
+        ),
     ):
         assert ran(*words) == (2, b"", f"telovamish: {fault}\n"), words
     nothing = {"TBS": str(tmp_path / "none")}
     status, _, errors = ran("run", env=nothing)
     assert (status, errors.split(":")[1]) == (1, f" {tmp_path}/none is no program")
+
+
+@pytest.mark.parametrize(
+    "words, fault",
+    [
+        (["--command", "register;", "--command", "lookup_accounts id=1;"], "--command is given 2 times: give it once"),
+        (["--file", "a", "--json", "--file", "b"], "--file is given 2 times: give it once"),
+        (["audit", "--account", "1", "--account", "2"], "--account is given 2 times: give it once"),
+        (["audit", "--after", "-1"], "Invalid value for '--after': -1 is not in the range 0<=x<=9223372036854775807."),
+        (["audit", "--tbs", ""], "--tbs is empty"),
+        (["replies", "--names", ""], "--names is empty"),
+        (["explain", "--tbs", ""], "--tbs is empty"),
+    ],
+)  # fmt: skip
+def test_no_value_of_an_option_is_dropped(words, fault):
+    assert ran(*words) == (2, b"", f"telovamish: {fault}\n")
+
+
+@pytest.mark.parametrize(
+    "words, advice",
+    [
+        (["script", "a"], "argument (a); script reads standard input: telovamish script < FILE\n"),
+        (["audit", "a"], "argument (a); audit reads standard input: telovamish audit < FILE\n"),
+        (["--json", "run"], "argument (run); a form comes before its options, and only run takes files\n"),
+        (["--connect", "host:port"], "--connect: 'host:port': write a port, HOST, HOST:PORT, or a path with a slash\n"),
+    ],
+)  # fmt: skip
+def test_a_word_too_many_and_a_wrong_address(words, advice):
+    status, out, errors = ran(*words)
+    assert (status, out) == (2, b"")
+    assert errors.endswith(advice)
 
 
 # what people met
@@ -250,7 +332,7 @@ def test_version_and_wrong_words(tmp_path):
     "text, said",
     [
         ('{"id":1}', "line 1, column 1: found '{\"id\":1}'"),
-        ("register;\n\nclient=0 register;", "line 3, column 9: client is not 0"),
+        ("register;\n\nclient=0 register;", "line 3, column 9: client cannot be 0"),
         ("get_account_transfers id=1;", "line 1, column 1: get_account_transfers is no operation here: the books answer it: telovamish --books TABLES"),
         ("query_transfers id=1;", "line 1, column 1: query_transfers is no operation here: the books answer it: telovamish --books TABLES"),
         ("create_transfers id=1 flags=linked,pending amount=1;", "line 1, column 43: flags are joined by '|': flags=..|pending"),
@@ -286,3 +368,44 @@ def test_json_lists_the_operations(tbs):
         "lookup_transfers",
     ):
         assert name in errors.splitlines()[-1]
+
+
+@pytest.mark.parametrize(
+    "text, said",
+    [
+        (b"\xef\xbb\xbfregister;", "line 1, column 1: found a byte order mark (U+FEFF): save the text as UTF-8 without it\n  <U+FEFF>register;\n  ^"),
+        (b"register;\xc2\xa0register;", "line 1, column 10: found '<U+00A0>register'\n"),
+        (b"register;\xe2\x80\xae", "line 1, column 10: found '<U+202E>'\n"),
+        (b"x" * 70000 + b";", f"line 1, column 1: unknown word '{'x' * 60}...'\n"),
+        (b"at=1" + b"9" * 5000, f"line 1, column 23: '1{'9' * 59}...' is too large for at\n"),
+        (b"LOOKUP_ACCOUNTS id=1;", "line 1, column 1: unknown operation 'LOOKUP_ACCOUNTS'; did you mean lookup_accounts?\n"),
+        (b"register client=1;", "line 1, column 10: 'client' comes before register, or ';' is missing before it\n"),
+        (b"lookup_accounts id=1 client=1;", "line 1, column 22: ';' is missing before 'client'\n"),
+        (b"session=5 register;", "line 1, column 13: a register has no session and no request\n"),
+    ],
+)  # fmt: skip
+def test_a_fault_of_a_clumsy_text(tbs, text, said):
+    status, _, errors = ran("run", given=text, env={"TBS": tbs})
+    assert status == 2
+    assert errors.startswith(f"telovamish: {said}"), errors
+
+
+def test_a_fault_after_a_long_comment_is_reported_soon():
+    """The end of the line before a fault is found in one pass: of a million bytes at once."""
+    it = subprocess.run(
+        [COMMAND, "script"], input=b"#" + b"y" * 10**6 + b"\nfoo", capture_output=True, timeout=30
+    )
+    assert it.stderr.startswith(b"telovamish: line 2, column 1: unknown word 'foo'")
+
+
+def test_ctrl_c_while_the_modules_are_loaded(tmp_path):
+    """A module that presses it stands in for click, which takes long to load."""
+    press = "import os, signal, time\nos.kill(os.getpid(), signal.SIGINT)\ntime.sleep(9)\n"
+    (tmp_path / "click.py").write_text(press)
+    hears = "import os, signal, sys; signal.signal(signal.SIGINT, signal.SIG_DFL); "
+    it = subprocess.run(
+        ["python3", "-c", hears + "os.execv(sys.argv[1], sys.argv[1:])", COMMAND, "run"],
+        env={**os.environ, "PYTHONPATH": str(tmp_path)},
+        capture_output=True,
+    )
+    assert (it.returncode, it.stdout, it.stderr) == (130, b"", b"")

@@ -156,3 +156,13 @@ def test_what_is_longer_than_the_terminal_goes_through_the_pager(state, tbs):
     it.wait("paged: 60 ")
     it.wait("\n> ")
     it.close()
+
+
+def test_without_the_pager_it_is_shown(state, tbs):
+    it = Terminal(state=state, env={"TBS": tbs, "PAGER": "/nowhere/less -R"})
+    it.wait("> ")
+    ids = ", ".join(f"id={it}" for it in range(1, 61))
+    it.type(f"\x1b[200~create_accounts {ids};\x1b[201~\r")
+    it.wait("ledger_must_not_be_zero")
+    it.wait("0 of 60 accounts created")
+    it.close()

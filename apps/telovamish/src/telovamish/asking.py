@@ -9,6 +9,7 @@ import click
 from tb_client.ids import new_client
 
 from . import ledgers
+from .forms import ONCE
 from .programs import books as books_of
 from .running import Printer, run_files, run_text
 from .sending import Desk
@@ -40,7 +41,7 @@ Given = dict[str, Any]
 
 def with_options(form: F) -> F:
     for flag, metavar, kind, text in reversed(OPTIONS):
-        takes: Any = {"type": kind, "metavar": metavar} if metavar else {"is_flag": True}
+        takes: Any = {"type": kind, "metavar": metavar, **ONCE} if metavar else {"is_flag": True}
         form = click.option(flag, help=text, **takes)(form)
     return form
 
@@ -48,14 +49,16 @@ def with_options(form: F) -> F:
 def check_options(given: Given) -> None:
     """Refuses options that do not go together."""
     for name, value in given.items():
-        if value == "":
-            raise click.UsageError(f"--{name.replace('_', '-')} is empty")
         if name in ("ca", "certificate", "key") and value and not given["connect"]:
-            raise click.UsageError(f"--{name} comes with --connect")
+            raise click.UsageError(f"--{name} needs --connect")
     if given["key"] and not given["certificate"]:
-        raise click.UsageError("--key comes with --certificate")
+        raise click.UsageError("--key needs --certificate")
     if given["file"] and given["connect"]:
         raise click.UsageError("--file and --connect are two ledgers: give one of them")
+    if given["connect"] or given["books"] and not given["file"]:
+        for name in filter(given.get, ("program", "clients_max", "profile")):
+            flag = f"--{name.replace('_', '-')}"
+            raise click.UsageError(f"{flag} needs a server that telovamish starts")
 
 
 def client_of(given: Given) -> int:
@@ -81,6 +84,9 @@ def desk_of(given: Given) -> Iterator[tuple[Desk, Printer]]:
         ledger = books.ledger() if given["books"] else ledgers.in_memory(program, numbers)
     try:
         yield Desk(ledger, client_of(given)), Printer(given["json"], given["quiet"], books)
+    except KeyboardInterrupt:
+        ledger.interrupt()
+        raise
     finally:
         ledger.close()
 

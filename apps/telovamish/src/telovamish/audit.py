@@ -9,8 +9,8 @@ import click
 
 from .checking import Check
 from .dates import date_of, moment_of
-from .faults import Fault
-from .forms import read, written
+from .faults import Fault, report
+from .forms import ONCE, read, written
 from .live import Replay, facts
 from .model import RESOLVES, Event, Evicted, Expired, Fact, Ledger
 from .objects import item_shown, line, record_shown
@@ -21,6 +21,7 @@ from .words import RESULTS, TIME_MAX, U128
 
 OUTCOMES = {operation: {0: "created", **names} for operation, names in RESULTS.items()}
 Shown = dict[str, Any]
+IDS, COMMITS = click.IntRange(0, U128), click.IntRange(0, TIME_MAX)
 
 
 class Wanted(NamedTuple):
@@ -79,7 +80,7 @@ class Audit:
     def _timed(self, time: int) -> Shown:
         if not self.wanted.is_utc:
             return {"time": str(time)}
-        # zeros at the end of the second are left out
+        # zeros at the end of the second are omitted
         return {"time": str(time), "utc": re.sub(r"\.?0*Z", "Z", date_of(time))}
 
     def _of_account(self, id: int, found: list[Fact]) -> list[Fact]:
@@ -113,12 +114,16 @@ def request_shown(entry: Entry) -> Shown:
     return shown
 
 
-def time_of(word: str) -> int:
-    moment = moment_of(word)
+def time_of(word: str, is_last: bool = False) -> int:
+    moment = moment_of(word, is_last)
     if moment is None and not re.fullmatch("[0-9]{1,19}", word):
-        says = "a time is as 2026-11-26T10:00:00Z, or nanoseconds since 1970"
-        raise click.BadParameter(f"{word}: {says}")
+        forms = "2026-11-26T10:00:00Z, 2026-11-26, or nanoseconds since 1970"
+        raise click.BadParameter(f"{word[:60]!r} is no time: write {forms}")
     return int(word) if moment is None else moment
+
+
+def last_time_of(word: str) -> int:
+    return time_of(word, is_last=True)
 
 
 def audited(wanted: Wanted, replay: Replay, check: Optional[Check], books: Any) -> Iterator[bytes]:
@@ -133,15 +138,17 @@ def audited(wanted: Wanted, replay: Replay, check: Optional[Check], books: Any) 
 
 
 @click.command()
-@click.option("--account", type=click.IntRange(0, U128), metavar="ID", help="Only its lines.")
-@click.option("--after", type=int, default=0, metavar="COMMIT", help="Entries after this one.")
-@click.option("--from", "first", type=time_of, default="0", metavar="TIME", help="From then on.")
-@click.option("--to", "last", type=time_of, default=f"{TIME_MAX}", metavar="TIME", help="Until it.")
+@click.option("--account", type=IDS, metavar="ID", help="Only its lines.", **ONCE)
+@click.option("--after", type=COMMITS, metavar="COMMIT", help="Entries after this one.", **ONCE)
+@click.option("--from", "first", type=time_of, metavar="TIME", help="Entries from then on.", **ONCE)
+@click.option(
+    "--to", "last", type=last_time_of, metavar="TIME", help="Until then, a day to its end.", **ONCE
+)
 @click.option("--utc", "is_utc", is_flag=True, help="Each time as a date too.")
 @click.option("--follow", is_flag=True, help="Says that the input may stay open.")
 @click.option("--check", "is_check", is_flag=True, help="Compares all with tbs at the end.")
-@click.option("--names", metavar="TOML", help="Adds names, and amounts with decimal places.")
-@click.option("--tbs", metavar="FILE", help="The program tbs.")
+@click.option("--names", metavar="TOML", help="Adds names, and amounts with decimals.", **ONCE)
+@click.option("--tbs", metavar="FILE", help="The program tbs.", **ONCE)
 def command(tbs: Optional[str], is_check: bool, follow: bool, **wanted: Any) -> None:
     """A dump in, what became of each event out: an object a line.
 
@@ -150,6 +157,7 @@ def command(tbs: Optional[str], is_check: bool, follow: bool, **wanted: Any) -> 
     path, books = program("tbs", tbs, "--tbs"), books_of(wanted.pop("names"))
     with Replay(path) as replay:
         check = Check(path, replay) if is_check else None
-        written(audited(Wanted(**wanted), replay, check, books))
+        limits = {name: it for name, it in wanted.items() if it is not None}
+        written(audited(Wanted(**limits), replay, check, books))
         if check:
-            click.echo(f"telovamish: as in tbs: {check.compare()}", err=True)
+            report(f"as in tbs: {check.compare()}")

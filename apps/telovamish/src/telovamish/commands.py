@@ -10,14 +10,14 @@ from typing import Optional, cast
 import click
 
 from . import __version__
-from .faults import Fault, report
+from .early import INTERRUPTED
+from .faults import Fault, leave, report
 
 # the forms, of which only the one that is named is loaded: a module and a command in it
 FORMS = {it: f"forms:{it}" for it in ("script", "requests", "replies", "dump", "pairs")}
 FORMS = {"repl": "asking:repl", "run": "asking:run", **FORMS}
 FORMS |= {"audit": "audit:command", "explain": "explain:command"}
 OWN_OPTIONS = {"--help", "-h", "--version"}
-INTERRUPTED = 130
 EPILOG = """Exit statuses: 0 all is done; 1 reading, writing, a program or memory failed, or a
 statement got no reply; 2 the input or the arguments are wrong."""
 
@@ -56,13 +56,23 @@ def telovamish() -> None:
     """A proved ledger in words that people read and type. Without a form it is `repl`."""
 
 
+def words_too_many(why: click.ClickException) -> str:
+    """What to write in place of a word that a form does not take; otherwise nothing."""
+    form = why.ctx.info_name if isinstance(why, click.UsageError) and why.ctx else None
+    if not form or "extra argument" not in why.message:
+        return ""
+    if form == "repl":
+        return "; a form comes before its options, and only run takes files"
+    return f"; {form} reads standard input: telovamish {form} < FILE"
+
+
 def ran() -> int:
     """Runs the command, and gives its exit status."""
     try:
         telovamish(prog_name="telovamish", standalone_mode=False)
         return 0
     except click.ClickException as why:
-        report(why.format_message())
+        report(why.format_message() + words_too_many(why))
         return 2
     except Fault as why:
         report(str(why))
@@ -70,8 +80,10 @@ def ran() -> int:
     except MemoryError:
         report("NoMemory")
         return 1
-    except (KeyboardInterrupt, click.Abort):
-        print(file=sys.stderr)
+    except OSError as why:  # of a page of usage, or of the version
+        report(f"Device: {why.filename or 'standard output'}: {why.strerror or why}")
+        return 1
+    except (KeyboardInterrupt, click.Abort):  # click has ended the line
         return INTERRUPTED
 
 
@@ -84,7 +96,10 @@ def main() -> None:
     status = ran()
     try:
         sys.stdout.flush()
-    except OSError:
-        # or Python writes again what is left, at its end
-        os.dup2(os.open(os.devnull, os.O_WRONLY), sys.stdout.fileno())
+    except OSError as why:
+        if not status:
+            report(f"Device: standard output: {why.strerror or why}")
+            status = 1
+    leave(sys.stdout)
+    leave(sys.stderr)
     sys.exit(status)

@@ -12,20 +12,28 @@ EARLIEST = "0000-01-01T00:00:00."
 FRACTION = len(EARLIEST)
 ENDS = (10, 16, 19)  # the ends of a day, a minute and a second
 EPOCH = datetime.datetime(1970, 1, 1)
+DAY = 86400  # seconds
 
 
-def moment_of(date: str) -> Optional[int]:
+def nanoseconds(date: re.Match[str], is_last: bool = False) -> int:
+    """Nanoseconds since 1970 of a date with the groups of `DATE`. A day without a time is its first
+    moment, or the day's last one if it is the last of a range. Raises ValueError if the date does
+    not exist."""
+    year, month, day, hour, minute, second = (int(it or 0) for it in date.groups()[:6])
+    since = datetime.datetime(year, month, day, hour, minute, second) - EPOCH
+    first = (since.days * DAY + since.seconds) * SECOND + int((date[7] or "").ljust(9, "0"))
+    if not is_last or date[4]:
+        return first
+    return max(first, min(first + DAY * SECOND - 1, TIME_MAX))
+
+
+def moment_of(date: str, is_last: bool = False) -> Optional[int]:
     """Nanoseconds since 1970 of a date that the ledger can have."""
     found = DATE.fullmatch(date)
-    if not found:
-        return None
     try:
-        year, month, day, hour, minute, second = (int(it or 0) for it in found.groups()[:6])
-        since = datetime.datetime(year, month, day, hour, minute, second) - EPOCH
+        moment = nanoseconds(found, is_last) if found else -1
     except ValueError:
         return None
-    fraction = int((found[7] or "").ljust(9, "0"))
-    moment = (since.days * 86400 + since.seconds) * SECOND + fraction
     return moment if 0 <= moment <= TIME_MAX else None
 
 

@@ -11,9 +11,10 @@ from typing import Optional
 
 import click
 
-from .faults import Fault, devices
-from .forms import written
+from .faults import Device, Fault, devices
+from .forms import ONCE, written
 from .kinds import DUMP, LEDGER, WORDS, is_text
+from .live import WRONG_INPUT, end_of, replies_of
 from .programs import program
 from .streams import Entry, read_dump, read_replies, read_request, read_script
 from .words import CLIENTS_MAX, STATUSES, TIME_MAX
@@ -39,11 +40,14 @@ LOOKS_LIKE_TEXT = "It looks like text: telovamish script makes a script of state
 
 def stop_of(data: bytes, *words: str) -> tuple[int, str]:
     """How many replies a program gives, and the name of the fault at which it ends, if it does."""
-    ran = subprocess.run(words, input=data, capture_output=True)
+    name = f"tbs {words[1]}"
+    with devices(f"{words[0]} does not start"):
+        ran = subprocess.run(words, input=data, capture_output=True)
     message = ran.stderr.decode(errors="replace").strip().removeprefix("tbs: ")
-    if ran.returncode not in (0, 2):
-        raise Fault(f"tbs {words[1]} ended with {ran.returncode}: {message}")
-    count = sum(1 for _ in read_replies(io.BytesIO(ran.stdout)))
+    if ran.returncode not in (0, WRONG_INPUT):
+        raise Device(end_of(name, ran.returncode, message))
+    with replies_of(name):
+        count = sum(1 for _ in read_replies(io.BytesIO(ran.stdout)))
     return count, message if ran.returncode else ""
 
 
@@ -118,7 +122,7 @@ def stop_line(unit: str, number: int, at: int, why: str, fault: str) -> str:
 
 
 @click.command()
-@click.option("--tbs", metavar="FILE", help="The program tbs.")
+@click.option("--tbs", metavar="FILE", help="The program tbs.", **ONCE)
 def command(tbs: Optional[str]) -> None:
     """A script or a dump in; the place at which `tbs` stops in it, and why, out."""
     path = program("tbs", tbs, "--tbs")

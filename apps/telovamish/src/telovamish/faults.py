@@ -2,8 +2,9 @@
 from __future__ import annotations
 
 import contextlib
+import os
 import sys
-from typing import Iterator
+from typing import IO, Iterator, Optional
 
 
 class Fault(Exception):
@@ -32,3 +33,13 @@ def report(text: str) -> None:
     shown = text if text.startswith("telovamish: ") else f"telovamish: {text}"
     with contextlib.suppress(OSError):
         print(shown.rstrip("\n"), file=sys.stderr, flush=True)
+
+
+def leave(stream: Optional[IO[str]]) -> None:
+    """Drops what a stream did not take: Python would write it again at its end, and end with
+    another status."""
+    if stream is not None:
+        try:
+            stream.flush()
+        except OSError:
+            os.dup2(os.open(os.devnull, os.O_WRONLY), stream.fileno())

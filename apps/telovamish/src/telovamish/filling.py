@@ -33,7 +33,7 @@ class Known:
         return self.sessions.get(client)
 
     def fill(self, given: Numbers, word: str) -> Numbers:
-        """The fields that are left out before this word, which is an operation's or may be one;
+        """The fields that are omitted before this word, which is an operation's or may be one;
         no fields if they are not known."""
         client = given.get("client", self.last)
         if client is None:

@@ -2,7 +2,7 @@
 from __future__ import annotations
 
 import sys
-from typing import IO, Callable, Iterable, Iterator, Optional, TypeVar
+from typing import IO, Any, Callable, Iterable, Iterator, Optional, TypeVar
 
 import click
 
@@ -13,6 +13,19 @@ from .programs import books as books_of
 from .texts import pairs as pairs_of, pieces
 
 T = TypeVar("T")
+
+
+def only(context: click.Context, option: click.Parameter, values: tuple[Any, ...]) -> Any:
+    """The value of an option: none is dropped without a word, for another one or because it is
+    empty."""
+    if len(values) > 1:
+        raise click.UsageError(f"{option.opts[0]} is given {len(values)} times: give it once")
+    if "" in values:
+        raise click.UsageError(f"{option.opts[0]} is empty")
+    return values[0] if values else None
+
+
+ONCE: dict[str, Any] = {"multiple": True, "callback": only}  # of an option that takes a value
 
 
 def written(lines: Iterable[bytes]) -> None:
@@ -50,7 +63,7 @@ def requests() -> None:
 
 
 @click.command()
-@click.option("--names", metavar="TOML", help="Adds names, and amounts with decimal places.")
+@click.option("--names", metavar="TOML", help="Adds names, and amounts with decimals.", **ONCE)
 def replies(names: Optional[str]) -> None:
     """The replies of `tbs run` or `tbs replay` in, an object for each out."""
     from .objects import line, reply_shown
@@ -71,7 +84,7 @@ def dump() -> None:
 
 @click.command()
 def pairs() -> None:
-    """A dump in, a script that makes its history out. A mark is left out: a script has no marks."""
+    """A dump in, a script that makes its history out. A mark is omitted: a script has no marks."""
     from .streams import Entry, read_dump
 
     entries = (it for it in read("dump", "Head", read_dump) if isinstance(it, Entry))

@@ -5,7 +5,7 @@ import difflib
 
 from .words import TABLE
 
-HELP = """Statements end with `;`. What comes before the operation may be left out:
+HELP = """Statements end with `;`. What comes before the operation may be omitted:
 
     [at=MOMENT] [client=N] [session=N] [request=N] OPERATION EVENTS;
 

@@ -5,11 +5,14 @@ import contextlib
 import os
 import pathlib
 import re
+import signal
 import ssl
+import time
 from typing import Any, Callable, Iterator, NamedTuple, Optional, Union
 
 from tb_client import ClientError, Direct, Program, ProgramEnded, Socket
 from tb_client.clients import addresses_of
+from tb_client.program import NEWS
 
 from .faults import Device, Fault
 from .programs import found, program
@@ -20,6 +23,7 @@ READY = re.compile(r"tbd: ready: commit (\d+), time (\d+)")
 # of a ledger's file: its first record, after which its profile and its clients are
 HEAD, HEAD_END = b"TBK1", 32
 PATIENCE = 0.2  # seconds between two looks at a program that reads its ledger
+QUIET = 300.0  # seconds without news of it after which it is not waited for
 Numbers = tuple[Optional[int], Optional[int]]  # CLIENTS_MAX and PROFILE, as far as they are given
 
 
@@ -54,6 +58,18 @@ class Ledger(NamedTuple):
     def close(self) -> None:
         self.transport.close()
 
+    def interrupt(self) -> None:
+        """Ends a program at once whose ledger ends with it: it may not look at its input."""
+        if self.is_memory and isinstance(self.transport, Program):
+            kill(self.transport)
+
+
+def kill(it: Program) -> None:
+    """Kills a program, with what it started."""
+    if it.process is not None and it.process.returncode is None:
+        with contextlib.suppress(ProcessLookupError, PermissionError):
+            os.killpg(it.process.pid, signal.SIGKILL)
+
 
 def in_memory(option: Optional[str], numbers: Numbers) -> Ledger:
     """A ledger of a program of its own, which ends with it."""
@@ -87,10 +103,36 @@ def of_file(
     clients_max, profile = numbers[0] or head[0], numbers[1] or head[1]
     with started(file):
         it = Program(path, clients_max, profile, file=file, restarts=True)
-        while not it.wait(PATIENCE):
-            show(it.told[-1].removeprefix("tbd: ") if it.told else f"starting {path}")
+        with killed_at_a_fault(it):
+            await_ready(it, file, show)
     ready = next(filter(None, map(READY.match, it.told)), None)
     return Ledger(it, History(*map(int, ready.groups())) if ready else History())
+
+
+@contextlib.contextmanager
+def killed_at_a_fault(it: Program) -> Iterator[None]:
+    """A program that was asked nothing yet is killed if it is not waited for."""
+    try:
+        yield
+    except BaseException:
+        kill(it)
+        it.close()
+        raise
+
+
+def await_ready(it: Program, file: str, show: Callable[[str], None]) -> None:
+    """Waits until a program has read its ledger, as long as it has news."""
+    last, since = "", time.monotonic()
+    while not it.wait(PATIENCE):
+        news = next(filter(NEWS.match, reversed(it.told)), "")
+        if news != last:
+            last, since = news, time.monotonic()
+        if time.monotonic() - since > QUIET:
+            raise Device(
+                f"NotReady: {it.command[0]} reported nothing for {QUIET:g} seconds before it had "
+                f"read {file}, and was killed"
+            )
+        show(last.removeprefix("tbd: ") or f"starting {it.command[0]}")
 
 
 def head_of(file: str) -> tuple[int, int]:
@@ -144,7 +186,8 @@ def over(addresses: str, tls: Optional[ssl.SSLContext]) -> Ledger:
         places: Any = addresses_of(addresses)
         return Ledger(Socket(places, tls=tls), History(), places=() if tls else (*places,))
     except ClientError as why:
-        raise Fault(f"--connect: {why}") from None
+        # the client library names its own argument
+        raise Fault(f"--connect: {str(why).removeprefix('replica_addresses has ')}") from None
 
 
 def speaks_tls(place: Any) -> bool:

@@ -11,9 +11,10 @@ from .reader import GIVEN, PARTED, Awaited, Scan, awaited, scanned
 from .words import FLAGS, HEADER, ITEMS_MAX, KINDS, MAXIMA
 from .words import OPERATIONS, POSITIVE, U16, U32, U64, U128
 
-SHOWN_MAX, SHOWN_BEFORE = 100, 60
-ENDING = re.compile(r"[^\x00-\x20,;=|#\x7f]*\Z")
+SHOWN_MAX, SHOWN_BEFORE, WORD_MAX = 100, 60, 60
+BYTE_ORDER_MARK = "\xef\xbb\xbf"
 LEADING = re.compile(r"[^\x00-\x20,;=|#\x7f]*")
+NAME = re.compile(r"[a-zA-Z0-9_]*")
 IS_NUMBER = re.compile(r"0x[0-9a-fA-F]+|[0-9]+")
 MARKS = {"=": "'='", "|": "'|'", ",": "','", ";": "';'"}
 LARGEST = {U16: "65535", U32: "4294967295", U64: "18446744073709551615", U128: "2^128 - 1"}
@@ -23,6 +24,12 @@ BOOKS = "the books answer it: telovamish --books TABLES, tb-sql ask (docs/use/RE
 ELSEWHERE = {it: BOOKS for it in ("get_account_transfers", "get_account_balances")}
 ELSEWHERE |= {"query_accounts": BOOKS, "query_transfers": BOOKS}
 ELSEWHERE["get_change_events"] = "tbd dump FILE | telovamish audit has them (docs/use/READING.md)"
+
+
+def ending(pattern: re.Pattern[str], text: str) -> str:
+    """What a text ends with. A search for an end would begin again at each byte before it."""
+    found = pattern.match(text[::-1])
+    return found[0][::-1] if found else ""
 
 
 def nearest(written: str, names: list[str]) -> str:
@@ -62,19 +69,22 @@ def wrong_word(word: str, scan: Scan) -> str:
         return f"{word} is no operation here: {ELSEWHERE[word]}"
     if word in KINDS:
         return misplaced(word, scan, may)
+    if word.startswith(BYTE_ORDER_MARK):
+        return "found a byte order mark (U+FEFF): save the text as UTF-8 without it"
+    shown = word if len(word) <= WORD_MAX else f"{word[:WORD_MAX]}..."
     if word[0].isascii() and word[0].isalpha() and may.words:
-        near = nearest(word, [*may.words, *KINDS])
+        near = nearest(word.lower(), [*may.words, *KINDS])
         meant = f"; did you mean {near}?" if near else ""
-        return f"unknown {KINDS[near] if near else 'word'} '{word}'{meant}"
+        return f"unknown {KINDS[near] if near else 'word'} '{shown}'{meant}"
     if not may.number:
-        return f"found '{word}'"
+        return f"found '{shown}'"
     if may.number == "at" and "-" in word:
-        return f"'{word}' is no date from 1970-01-01 to 2262-04-11"
+        return f"'{shown}' is no date from 1970-01-01 to 2262-04-11"
     if not IS_NUMBER.fullmatch(word):
-        return f"'{word}' is no whole number"
+        return f"'{shown}' is no whole number"
     if not word.strip("0x"):
-        return f"{may.number} is not 0"
-    return f"'{word}' is too large for {may.number}"
+        return f"{may.number} cannot be 0"
+    return f"'{shown}' is too large for {may.number}"
 
 
 def misplaced(word: str, scan: Scan, may: Awaited) -> str:
@@ -89,14 +99,18 @@ def misplaced(word: str, scan: Scan, may: Awaited) -> str:
         others = next(it for it, flags in FLAGS.items() if word in flags)
         return f"{word} is a flag of {others.removeprefix('create_')} only"
     if word in OPERATIONS and not may.number and not ends:
-        return early(word, may)
+        return early(word, may, scan)
+    if word in HEADER and ends and not scan.given:
+        return f"'{word}' comes before {scan.operation}, or ';' is missing before it"
     if (word in OPERATIONS or word in HEADER) and ends:
         return f"';' is missing before '{word}'"
     return f"'{word}' is not allowed here"
 
 
-def early(word: str, may: Awaited) -> str:
-    """What is missing before an operation."""
+def early(word: str, may: Awaited, scan: Scan) -> str:
+    """What is missing before an operation, or must not be there."""
+    if word == "register" and (scan.given.get("session") or scan.given.get("request")):
+        return "a register has no session and no request"
     if "client" in may.words and (word != "register" or "request" in may.words):
         return f"a client comes first: write client=N before {word}"
     if word == "register":
@@ -117,15 +131,17 @@ def shown_line(before: str, rest: str) -> str:
 
 
 def plain(text: str) -> str:
-    """Bytes as UTF-8, with no control character except tabs and line ends."""
+    """Bytes as UTF-8, with no control character except tabs and line ends. What cannot be seen is
+    shown by its number."""
     shown = text.encode("latin-1", "replace").decode("utf-8", "replace")
-    return re.sub("[\x00-\x08\x0b-\x1f\x7f-\x9f]", "?", shown)
+    shown = re.sub("[\x00-\x08\x0b-\x1f\x7f-\x9f]", "?", shown)
+    return "".join(it if it.isprintable() or it in "\t\n" else f"<U+{ord(it):04X}>" for it in shown)
 
 
 def described(text: str, place: int, scan: Scan) -> tuple[str, str]:
     """What is wrong at a place where a reader stopped, and the lines after that."""
     before, rest = text[:place], text[place:]
-    head, tail = ENDING.search(before)[0], LEADING.match(rest)[0]  # type: ignore[index]
+    head, tail = ending(LEADING, before), LEADING.match(rest)[0]  # type: ignore[index]
     at_word, word = None if tail else scanned(before, scan.fill), ""
     if at_word is None:
         at_word, word = scanned(before[: len(before) - len(head)], scan.fill), head + tail
@@ -143,8 +159,7 @@ def fault_text(
     what, lines = described(text, place, scan)
     row = text.count("\n", 0, place)
     column = place - text.rfind("\n", 0, place) if row else place + first[1]
-    word = re.search(r"[a-zA-Z0-9_]*\Z", text[:place])[0]  # type: ignore[index]
-    word += re.match(r"[a-zA-Z0-9_]*", text[place:])[0]  # type: ignore[index]
+    word = ending(NAME, text[:place]) + NAME.match(text, place)[0]  # type: ignore[index]
     client = None if scan.operation else known.has_no_session(scan.given, word)
     if client is not None:
         what = f"client {client} has no session here: write session=N before {word}"

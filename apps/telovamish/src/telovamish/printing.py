@@ -7,7 +7,7 @@ from .words import FIELDS, FLAGS, HEADER
 
 
 def event_text(operation: str, record: bytes) -> str:
-    """An event or an id; a field that is 0 is left out, except an id."""
+    """An event or an id; a field that is 0 is omitted, except an id."""
     shown = []
     for name, (at, size) in FIELDS[operation].items():
         number = int.from_bytes(record[at : at + size], "little")

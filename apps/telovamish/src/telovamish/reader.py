@@ -66,7 +66,7 @@ class Goes(Exception):
         self.place = place
 
 
-# what fills in the fields that are left out before an operation, by those that are given
+# what fills in the fields that are omitted before an operation, by those that are given
 Fill = Callable[[Numbers, str], Numbers]
 
 
@@ -197,7 +197,7 @@ class Scan:
         return True
 
     def _open(self, operation: str) -> bool:
-        """Takes an operation: what is left out before it is filled in."""
+        """Takes an operation: what is omitted before it is filled in."""
         filled = self.fill(self.given, operation)
         if not suits(operation, {**self.given, **filled}):
             return False

@@ -38,7 +38,7 @@ class Printer:
     def write(self, lines: list[str]) -> None:
         size, text = shutil.get_terminal_size((100, 24)), "".join(f"{it}\n" for it in lines)
         with devices("standard output"):
-            if self.has_pager and len(lines) > size.lines - 2:
+            if self.has_pager and len(lines) > size.lines - 2 and is_pager_there():
                 with contextlib.suppress(BrokenPipeError):  # it was left before its end
                     click.echo_via_pager(text.removesuffix("\n"))
             else:
@@ -49,6 +49,12 @@ class Printer:
         """The parts of a text. Books answer the questions among its statements, in their places."""
         parts = self.books.answered(parts, self, desk) if self.books else parts
         return parts
+
+
+def is_pager_there() -> bool:
+    """Whether PAGER names a program: a reply that is written to no program is lost."""
+    words = os.environ.get("PAGER", "").split()
+    return not words or shutil.which(words[0]) is not None
 
 
 def run_text(desk: Desk, printer: Printer, parts: Iterator[bytes], name: str = "") -> None:
