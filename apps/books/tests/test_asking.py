@@ -65,6 +65,7 @@ class Asking(Tables):
         for words, count in (
             (["timestamp_min=2026-09-21", "timestamp_max=2026-09-21"], 2),
             (["timestamp_max=2026-09-20"], 0),
+            (["timestamp_max=2262-04-11"], 2),
             (["timestamp_min=2026-09-22"], 0),
             (["timestamp_min=2026-09-21T14:13:20.000000006Z"], 1),
             (["timestamp_max=2026-09-21T14:13:20.000000005Z"], 1),
@@ -85,10 +86,10 @@ class Asking(Tables):
             (["limit"], "'limit' is no field of its own"),
             (["limit=1", "limit=2"], "'limit=2' is no field of its own"),
             (["colour=1"], "query_accounts has no field colour"),
-            (["limit=-1"], "limit is a number from 0"),
-            (["limit=2026-09-21"], "limit is a number from 0 to 4294967295, and not '2026-09-21'"),
-            (["timestamp_min=2026-13-01"], "or a date in UTC, and not '2026-13-01'"),
-            (["timestamp_max=9999-01-01"], "timestamp_max is a number from 0 to"),
+            (["limit=-1"], "limit must be a number from 0"),
+            (["limit=2026-09-21"], "limit must be a number from 0 to 4294967295, not '2026-09-21'"),
+            (["timestamp_min=2026-13-01"], "or a date in UTC, not '2026-13-01'"),
+            (["timestamp_max=9999-01-01"], "timestamp_max must be a number from 0 to"),
             (["flags=debits"], "no flag 'debits'"),
         ):
             status, out, said = self.ask("query_accounts", *words)

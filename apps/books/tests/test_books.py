@@ -158,11 +158,11 @@ class Books(Pages):
         self.assertEqual([it["id"] for it in found], ["2"])
         self.assertEqual(found[0]["flags"], ["credits_must_not_exceed_debits", "history"])
         for address, says in (
-            ("/query_accounts?limit=x", "limit is a number"),
-            ("/query_accounts?limit=-1", "limit is a number"),
+            ("/query_accounts?limit=x", "limit must be a number"),
+            ("/query_accounts?limit=-1", "limit must be a number"),
             ("/query_accounts?flags=debits", "no flag 'debits': reversed"),
             ("/query_accounts?account_id=1", "query_accounts has no field account_id"),
-            (f"/query_accounts?code={1 << 16}", "code is a number from 0 to 65535"),
+            (f"/query_accounts?code={1 << 16}", "code must be a number from 0 to 65535"),
         ):
             with self.subTest(address):
                 reply = self.site.get(address, base_url=HERE)

@@ -1,17 +1,19 @@
 """Loading: what each kind of event does to the tables, going on, and what is refused."""
 
 import contextlib
+import errno
 import io
 import os
 import pathlib
 import subprocess
 import time
 import unittest
+import unittest.mock
 
 from support import COMMAND, Tables  # noqa: I001
 from made import MAX, START, Made, account, transfer
 from telovamish.streams import item_bytes
-from tb_sql.commands import Progress
+from tb_sql.commands import Progress, main
 from tb_sql.errors import AGAIN, Failed, Refused
 from tb_sql.loading import Loading
 from tb_sql.sqlite_store import SqliteStore
@@ -300,6 +302,110 @@ class GoingOn(Tables):
             return None
 
 
+class Arguments(Tables):
+    """What a person may write wrongly, and streams that nobody can read."""
+
+    def ends(self, *words, **streams):
+        """The status of the command, and what it printed on standard error. Its output waits in
+        memory until it is flushed, as it does for people."""
+        env = {**os.environ, "PYTHONUNBUFFERED": ""}
+        pipe = {"stderr": subprocess.PIPE, **streams}
+        ran = subprocess.run([*COMMAND, *words], timeout=60, env=env, **pipe)
+        return ran.returncode, (ran.stderr or b"").decode()
+
+    def test_values(self):
+        """Each is refused before a file is looked at, with status 2."""
+        ask = ["ask", self.path, "query_accounts"]
+        for words, wanted in (
+            (["load", ""], "argument FILE: it is empty"),
+            (["load", self.path, "--tbs", ""], "argument --tbs: it is empty"),
+            (["check", self.path, "--ledger", ""], "argument --ledger: it is empty"),
+            (["check", self.path, "--server", ""], "argument --server: it is empty"),
+            (["load", self.path, "--ledger", "", "--follow"], "argument --ledger: it is empty"),
+            ([*ask, "--names", "a", "--names", "b"], "argument --names: give it once"),
+            ([*ask, "--commit", "0", "--commit", "0"], "argument --commit: give it once"),
+            ([*ask, "--wait", "inf"], "'inf' is no number of seconds"),
+            ([*ask, "--wait", "1_0"], "'1_0' is no number of seconds"),
+            (["load", self.path, "--fol"], "unrecognized arguments: --fol"),
+        ):
+            with self.subTest(words):
+                err = io.StringIO()
+                with contextlib.redirect_stderr(err), self.assertRaises(SystemExit) as ended:
+                    main(words)
+                self.assertEqual(ended.exception.code, 2)
+                self.assertIn(wanted, err.getvalue())
+
+    def test_lost_output(self):
+        """A page of usage or an answer that cannot be written is a fault of a device; a message
+        that cannot be written does not change the status."""
+        self.load(Made().register().accounts(account(1)))
+        ask = ["ask", self.path, "query_accounts"]
+        wanted = (1, "tb-sql: standard output: No space left on device\n")
+        with open("/dev/full", "wb") as full:
+            for words in (["--help"], ["--version"], ask):
+                self.assertEqual(self.ends(*words, stdout=full), wanted)
+            for words in (["none"], [*ask, "limit=-1"]):
+                self.assertEqual(self.ends(*words, stderr=full), (2, ""))
+        for words in (["--help"], ["--version"], ask):
+            closed = subprocess.run(
+                ["sh", "-c", '"$@" >&-', "sh", *COMMAND, *words], stderr=subprocess.PIPE, timeout=60
+            )
+            self.assertEqual(closed.returncode, 1)
+            self.assertEqual(closed.stderr, b"tb-sql: standard output is closed\n")
+
+    def test_nobody_reads_the_output(self):
+        """It ends without a word."""
+        self.load(Made().register().accounts(account(1)))
+        for words in (["--help"], ["ask", self.path, "query_accounts"], ["check", self.path]):
+            reads, writes = os.pipe()
+            os.close(reads)
+            with open(writes, "wb") as output:
+                self.assertEqual(self.ends(*words, stdout=output), (1, ""))
+
+    def test_a_fault_of_the_system_without_a_file(self):
+        """It was named a fault of standard output."""
+        fault = OSError(errno.ENETDOWN, os.strerror(errno.ENETDOWN))
+        err = io.StringIO()
+        with unittest.mock.patch("tb_sql.commands.check", side_effect=fault):
+            with contextlib.redirect_stderr(err):
+                self.assertEqual(main(["check", self.path]), 1)
+        self.assertEqual(err.getvalue(), "tb-sql: Network is down\n")
+
+    def test_a_url_that_is_no_text(self):
+        """It was a traceback."""
+        for words in (["load"], ["ask"]):
+            more = ["query_accounts"] if words == ["ask"] else []
+            status, said = self.ends(*words, os.fsdecode(b"postgresql://u:secret@\xff/x"), *more)
+            self.assertEqual((status, said), (2, "tb-sql: '\\udcff/x' is no URL of PostgreSQL\n"))
+
+    def test_a_check_of_postgresql(self):
+        """It said that there was no such file."""
+        said = "tb-sql: check reads only a file of SQLite: load the history into one\n"
+        self.assertEqual(self.ends("check", "postgresql://localhost/x"), (2, said))
+
+    def test_names_without_an_end(self):
+        self.load(Made().register().accounts(account(1)))
+        said = "tb-sql: /dev/zero has more than 16,777,216 characters\n"
+        ask = ["ask", self.path, "query_accounts", "--names", "/dev/zero"]
+        self.assertEqual(self.ends(*ask), (2, said))
+
+    def test_files_that_are_none(self):
+        """A pipe is not waited for; a damaged file is no wrong input."""
+        os.mkfifo(self.path)
+        self.assertEqual(self.said("check", self.path)[0], 1)
+        os.unlink(self.path)
+        self.load(Made().register().accounts(account(1)))
+        with open(self.path, "r+b") as file:
+            file.seek(4096)
+            file.write(b"\xff" * (os.path.getsize(self.path) - 4096))
+        status, _, said = self.said("check", self.path)
+        self.assertEqual(status, 1)
+        self.assertIn("malformed", said)
+        ended = self.said("load", self.path + "2", "--ledger", str(self.room))
+        self.assertEqual(ended[0], 1)
+        self.assertIn("is no file: a kept ledger's file is meant", ended[2])
+
+
 class OtherHistories(Tables):
     """What is refused, with the tables as they were."""
 
@@ -443,11 +549,11 @@ class Words(Tables):
         self.load(Made().register().accounts(account(1)))
         check = ["check", self.path, "--server"]
         for words, wanted in (
-            ([*check, ""], 1),  # a variable that is not set is no address
-            ([*check, "host:\u00b2"], 1),
-            ([*check, "host:" + 5000 * "9"], 1),
-            (["load", self.path, "--ledger", ""], 1),
-            (["load", self.path, "--ledger", "", "--follow"], 1),
+            ([*check, "host:\u00b2"], 2),
+            ([*check, "host:" + 5000 * "9"], 2),
+            ([*check, "host:99999"], 2),
+            (["check", str(self.room / "none.sqlite"), "--server", "host:0"], 2),
+            ([*check, str(self.room / "no.sock")], 1),
             (["check", str(self.room / "none.sqlite")], 1),
             (["load", str(self.room / "no" / "folder.sqlite")], 1),
             (["load", self.path, "--follow"], 2),
@@ -462,7 +568,7 @@ class Words(Tables):
     def test_names_that_sqlite_takes_for_others(self):
         """What is said to be in a file is there."""
         made = Made().register()
-        for name, wanted in (("", 1), (":memory:", 0), ("file:x.sqlite?mode=memory", 0)):
+        for name, wanted in (("", 2), (":memory:", 0), ("file:x.sqlite?mode=memory", 0)):
             with self.subTest(name):
                 ran = subprocess.run(
                     [*COMMAND, "load", name],

@@ -71,6 +71,7 @@ class Files(Tables):
             (BOOKS.replace('"House"', '""'), 10, "account.1"),
             (BOOKS.replace('"House"', '"a\\tb"'), 10, "account.1"),
             (BOOKS.replace("[account]", "[accounts]"), 9, "accounts"),
+            (BOOKS.replace("[account]", '[account]\n01 = "Safe"'), 11, "account.1"),
             ("ledger = 5\n", 1, "ledger"),
             ("\nledger.700 = { name = 'EUR', places = -1 }\n", 2, "ledger.700.places"),
         ):
@@ -81,6 +82,9 @@ class Files(Tables):
         with self.assertRaises(Refused) as raised:
             read_names(self.file("[ledger\n"))
         self.assertIn("line 1", str(raised.exception))
+        with self.assertRaises(Refused) as raised:
+            read_names(self.file(f"a = {'[' * 9999}"))
+        self.assertIn("nested too deeply", str(raised.exception))
 
     def test_command(self):
         """A wrong file is refused before anything is read; a right one is kept in the tables."""

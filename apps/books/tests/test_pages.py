@@ -26,6 +26,7 @@ from support import COMMAND, Tables, stand_in  # noqa: I001
 from made import MAX, START, Made, account, transfer
 from test_load import history
 from tb_sql.errors import Failed, Stop
+from tb_sql.numbers import time_text
 from tb_sql.pages import queries, server, site
 from tb_sql.pages.server import make_app, make_server
 from tb_sql.pages.site import Site
@@ -391,6 +392,11 @@ class Tabled(Pages):
             [it[4:7] for it in rows[1:]], [[str(MAX), "0", str(MAX)], ["0", "5", str(MAX - 5)]]
         )
         self.assertEqual(len(self.csv("/csv/statement.csv?account=1&to=2026-09-21")), 2)
+        (time,) = self.rows("SELECT min(timestamp) FROM postings WHERE account_id = 1")[0]
+        for last, count in ((time - 1, 1), (time, 2)):  # both ends are included
+            self.assertEqual(
+                len(self.csv(f"/csv/statement.csv?account=1&to={time_text(last)}")), count
+            )
         self.assertEqual(len(self.csv("/csv/statement.csv")), 5)
 
     def test_each_table(self):
@@ -426,8 +432,11 @@ class Ports(Pages):
     def test_without_standard_output(self):
         """It serves, and ends at a signal without a word."""
         self.load(Made())
-        with socket.create_server(("127.0.0.1", 0)) as other:
-            port = other.getsockname()[1]
+        held = socket.socket()  # the port is given to nobody else
+        self.addCleanup(held.close)
+        held.setsockopt(socket.SOL_SOCKET, socket.SO_REUSEADDR, 1)
+        held.bind(("127.0.0.1", 0))
+        port = held.getsockname()[1]
         words = " ".join([*COMMAND, "serve", self.path, "--port", str(port)])
         process = subprocess.Popen(["sh", "-c", f"exec {words} >&-"], stderr=subprocess.PIPE)
         self.addCleanup(process.stderr.close)

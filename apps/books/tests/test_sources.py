@@ -150,8 +150,17 @@ class Sources(Tables):
         tbd.write_text(f"#!/bin/sh\nhead -c {cut} $2\nkill -9 $$\n")
         status, said = self.loaded()
         self.assertEqual((status, said.count("\n")), (1, 1), said)
-        self.assertIn("ended with -9", said)
+        self.assertIn("was killed by signal 9", said)
         self.assertEqual(self.rows("SELECT commit_number FROM position"), [(3,)])
+
+    def test_a_program_that_writes_no_dump(self):
+        """Its fault was told as one of the input."""
+        self.write(history())
+        tbd = self.room / "tbd"
+        for does in ("exit 0", "echo this is another program"):
+            tbd.write_text(f"#!/bin/sh\n{does}\n")
+            said = f"tb-sql: {tbd} wrote no dump of {self.file}: Head\n"
+            self.assertEqual(self.loaded(), (1, said))
 
     def test_words_of_a_follow(self):
         self.write(history())
@@ -186,6 +195,33 @@ class Sources(Tables):
         ):
             self.assertEqual(self.loaded(fault=fault), (1, f"tb-sql: {wanted}\n"))
             os.unlink(self.path)
+
+    def test_a_program_that_fails(self):
+        """It is not the input that is wrong: the status is 1, and the message names the program."""
+        self.write(history())
+        for name, text, wanted in (
+            ("tbs", "exit 7", "tbs replay ended with status 7"),
+            ("tbs", "echo tbs: NoMemory >&2; exit 1", "tbs replay ended with status 1: NoMemory"),
+            ("tbs", "kill -9 $$", "tbs replay was killed by signal 9"),
+            ("tbs", f"echo {'no reply ' * 9}", "tbs replay wrote what is no reply"),
+            ("tbd", "kill -9 $$", "was killed by signal 9"),
+        ):
+            with self.subTest(name, text=text):
+                program = self.room / name
+                before = program.read_text()
+                program.write_text(f"#!/bin/sh\n{text}\n")
+                status, said = self.loaded()
+                program.write_text(before)
+                self.assertEqual((status, said.count("\n")), (1, 1), said)
+                self.assertIn(wanted, said)
+        for name in ("tbd", "tbs"):
+            program = self.room / name
+            before = program.read_text()
+            program.write_text("no program")
+            status, said = self.loaded()
+            program.write_text(before)
+            self.assertEqual((status, said.count("\n")), (1, 1), said)
+            self.assertIn("does not start: Exec format error", said)
 
     def test_a_history_that_is_refused(self):
         """What the proved program says of it."""

@@ -133,8 +133,10 @@ class Numbers(unittest.TestCase):
 
                 shown = connection.execute(f"SELECT {_sqlite_time('?1')}", (time,)).fetchone()
             self.assertEqual(shown[0], text)
-        day = 86400 * SECOND
-        self.assertEqual(time_of("2026-09-21", is_end=True), time_of("2026-09-21") + day)
+        end = time_of("2026-09-22") - 1
+        self.assertEqual(time_of("2026-09-21", is_last=True), end)
+        self.assertEqual(time_of("2026-09-21 14:13", is_last=True), START - 20 * SECOND)
+        self.assertEqual(time_of("2262-04-11", is_last=True), last)
         self.assertEqual(time_of("2026-09-21 14:13"), START - 20 * SECOND)
         for text in ("", "yesterday", "2026-13-01", "2026-02-30", "2026-01-01T25:00:00", "9" * 50):
             with self.assertRaises(ValueError):

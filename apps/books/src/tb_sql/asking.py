@@ -14,6 +14,7 @@ from .errors import Refused
 from .filters import OPERATIONS, Shown, filter_of
 from .names import Names, read_names
 from .numbers import id_of
+from .output import say
 from .pages.queries import Tables, tables_at
 
 
@@ -74,9 +75,9 @@ def ask(given: argparse.Namespace) -> int:
     names = read_names(given.names) if given.names else None
     answer = answer_of(given.file, given.question, words, (given.commit, given.wait))
     if given.json:
-        print(json.dumps((names or Names()).for_json(answer.shown), indent=2))
+        say(json.dumps((names or Names()).for_json(answer.shown), indent=2))
     else:
-        print("\n".join(answer.lines(names, shutil.get_terminal_size().columns)))
+        say("\n".join(answer.lines(names, shutil.get_terminal_size().columns)))
     return 0
 
 

@@ -15,7 +15,7 @@ from telovamish.faults import Fault
 
 from .errors import Failed, Refused, Stop
 from .events import Changed, steps_of
-from .loading import Loading, store_of
+from .loading import Loading, is_postgresql, store_of
 from .numbers import (
     CLOSED,
     CLOSING_CREDIT,
@@ -25,6 +25,7 @@ from .numbers import (
     ID_MAX,
     Number,
 )
+from .output import say
 from .schema import KEYS, SUMS, TABLES, columns
 from .sources import Ledger, Programs
 from .sqlite_store import SqliteStore, check_schema, check_still, connect_read_only, write_time
@@ -43,18 +44,37 @@ class Difference(Stop):
 
 def check_tables(given: argparse.Namespace) -> int:
     """Prints what was compared; the first difference is raised."""
+    if is_postgresql(given.file):
+        raise Refused("check reads only a file of SQLite: load the history into one")
+    transport = None if given.server is None else transport_to(given.server)
     connection = connect_read_only(given.file)
     check_schema(connection, given.file)
     try:
         connection.isolation_level = None
         connection.execute("BEGIN")
-        print(checked(connection, given), flush=True)
+        say(checked(connection, given))
         connection.execute("COMMIT")
-        if given.server is not None:
-            print(Server(given, connection).compare(), flush=True)
+        if transport is not None:
+            say(Server(given, connection, transport).compare())
     finally:
         connection.close()
     return 0
+
+
+def transport_to(server: str) -> Any:
+    """The way to a server, to which no connection is made yet."""
+    try:
+        import tb_client
+    except ImportError:
+        raise Failed("tb_client is not installed: it is the client in clients/python") from None
+    host, colon, port = server.rpartition(":")
+    is_tcp = bool(colon) and "/" not in server
+    if is_tcp and not (port.isascii() and port.isdigit() and len(port) < 20):
+        raise Refused(f"--server {server[:300]!r}: write HOST:PORT, or a path with a slash")
+    try:
+        return tb_client.Socket((host.strip("[]"), int(port)) if is_tcp else server)
+    except tb_client.Invalid as error:
+        raise Refused(f"--server {server[:300]!r}: {error}") from None
 
 
 def checked(connection: sqlite3.Connection, given: argparse.Namespace) -> str:
@@ -261,9 +281,12 @@ class Moment:
 class Server:
     """A server whose accounts are compared."""
 
-    def __init__(self, given: argparse.Namespace, connection: sqlite3.Connection) -> None:
+    def __init__(
+        self, given: argparse.Namespace, connection: sqlite3.Connection, transport: Any
+    ) -> None:
         self.given = given
         self.connection = connection
+        self.transport = transport
         self.last_reply = b""
         self.answers: List[Tuple[int, List[Number], Dict[int, Any]]] = []
 
@@ -285,16 +308,10 @@ class Server:
         return reply
 
     def _ask(self) -> None:
-        try:
-            import tb_client
-        except ImportError:
-            raise Failed("tb_client is not installed: it is the client in clients/python") from None
+        import tb_client
+
         ids = [row[0] for row in self.connection.execute("SELECT id FROM accounts ORDER BY 1")]
-        host, colon, port = self.given.server.rpartition(":")
-        is_tcp = bool(colon) and port.isdigit() and "/" not in self.given.server
         try:
-            address = (host.strip("[]"), int(port)) if is_tcp else self.given.server
-            self.transport = tb_client.Socket(address)
             session = tb_client.Session.register(self)
             for first in range(0, len(ids), LOOKED_UP):
                 asked = ids[first : first + LOOKED_UP]

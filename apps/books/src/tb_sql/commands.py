@@ -6,11 +6,12 @@ import argparse
 import gc
 import io
 import os
+import re
 import signal
 import sqlite3
 import sys
 import time
-from typing import Any, List, Optional
+from typing import IO, Any, List, NoReturn, Optional
 
 from telovamish.faults import Fault
 
@@ -21,6 +22,7 @@ from .filters import OPERATIONS
 from .loading import Loading, store_of
 from .names import read_names
 from .numbers import time_text
+from .output import Unread, report, say, writing
 from .sources import Ledger, Programs, read_dump
 
 LOAD = """Reads a history into tables: a dump from standard input, or a kept ledger's file. The
@@ -35,7 +37,7 @@ ASK = """Prints the answer to a question of TigerBeetle's clients: get_account_t
 get_account_balances, query_accounts or query_transfers. A FIELD is one of its filter, as
 account_id=2, flags=debits,reversed or limit=10."""
 STATUSES = """Exit status: 0 done; 1 a file, a program or a database failed, or a check found a
-difference; 2 the input or the words are wrong."""
+difference; 2 the input or the arguments are wrong."""
 
 
 # Rows are freed without a search for cycles, because they have no cycles: it would take a quarter
@@ -56,23 +58,21 @@ class Progress:
         if self.is_shown and now - self.last >= 0.5:
             self.last = now
             speed = self.loading.events / (now - self.began)
-            print(
+            report(
                 f"\r\x1b[Kcommit {self.loading.commit_number:,}: {self.loading.events:,} events, "
                 f"{speed:,.0f} a second",
                 end="",
-                file=sys.stderr,
-                flush=True,
             )
 
     def end(self) -> None:
         if self.is_shown:
-            print("\r\x1b[K", end="", file=sys.stderr, flush=True)
+            report("\r\x1b[K", end="")
 
 
 def load(given: argparse.Namespace) -> int:
     """Loads, and prints how far the tables are."""
     if given.follow and given.ledger is None:
-        raise_usage("--follow goes with --ledger; a dump on standard input is followed anyway")
+        raise_usage("--follow needs --ledger; a dump on standard input is followed anyway")
     is_file = given.ledger is not None
     ledger = Ledger(given.ledger, programs_of(given)) if is_file else None
     if is_file and os.path.exists(given.file) and os.path.samefile(given.file, given.ledger):
@@ -95,7 +95,7 @@ def load(given: argparse.Namespace) -> int:
     finally:
         store.close()
     if not given.quiet:
-        print(
+        say(
             f"entries {loading.entries:,}, events {loading.events:,}: they came to {store.path}; "
             f"its last entry is {loading.commit_number:,}, at {time_text(loading.time)}"
         )
@@ -126,7 +126,7 @@ def raise_usage(words: str) -> None:
 
 
 class Usage(Stop):
-    """The words of the command are wrong."""
+    """The arguments of the command are wrong."""
 
     status = 2
 
@@ -156,23 +156,55 @@ def ask(given: argparse.Namespace) -> int:
     return answered(given)
 
 
+class Once(argparse.Action):
+    """Keeps a value: none is dropped without a word, for another one or because it is empty."""
+
+    def __call__(self, _: Any, given: Any, value: Any, option: Optional[str] = None) -> None:
+        found = vars(given).setdefault("options", set())
+        if option and self.dest in found:
+            raise argparse.ArgumentError(self, "give it once")
+        if value == "":
+            raise argparse.ArgumentError(self, "it is empty")
+        found.add(self.dest)
+        setattr(given, self.dest, value)
+
+
+class Parser(argparse.ArgumentParser):
+    """Takes each option once, by its whole name."""
+
+    def __init__(self, **more: Any) -> None:
+        super().__init__(allow_abbrev=False, **more)
+        self.register("action", None, Once)
+
+    def _print_message(self, message: str, file: Optional[IO[str]] = None) -> None:
+        """Prints a page of usage, or the version."""
+        if sys.stdout is None:  # or it goes to standard error
+            raise Failed("standard output is closed")
+        with writing():
+            super()._print_message(message, file)
+
+    def error(self, message: str) -> NoReturn:
+        """Ends with status 2, also if nobody can read why."""
+        report(f"{self.format_usage()}{self.prog}: error: {message}")
+        sys.exit(Usage.status)
+
+
 def commit(text: str) -> int:
     if not text.isascii() or not text.isdigit() or len(text) > 19:
-        raise argparse.ArgumentTypeError("a commit is a number of at most 19 digits")
+        raise argparse.ArgumentTypeError(f"{text[:60]!r} is no number of at most 19 digits")
     return int(text)
 
 
 def port(text: str) -> int:
-    if not text.isascii() or not text.isdigit() or int(text) > 65535:
-        raise argparse.ArgumentTypeError("a port is 0 to 65535")
+    if not re.fullmatch("[0-9]{1,9}", text) or int(text) > 65535:
+        raise argparse.ArgumentTypeError(f"{text[:60]!r} is no number from 0 to 65535")
     return int(text)
 
 
 def seconds(text: str) -> float:
-    value = float(text)
-    if not value >= 0:
-        raise argparse.ArgumentTypeError("seconds are 0 at least")
-    return value
+    if not re.fullmatch(r"[0-9]{1,9}(\.[0-9]{1,9})?", text):
+        raise argparse.ArgumentTypeError(f"{text[:60]!r} is no number of seconds, as 10 or 0.5")
+    return float(text)
 
 
 def add_ledger(parser: argparse.ArgumentParser, what: str) -> None:
@@ -198,7 +230,7 @@ def add_ask(commands: Any) -> None:
 
 
 def words() -> argparse.ArgumentParser:
-    parser = argparse.ArgumentParser(
+    parser = Parser(
         prog="tb-sql",
         description="A ledger's history as tables: exact, and safe to delete and make again.",
         epilog=STATUSES,
@@ -243,24 +275,29 @@ def words() -> argparse.ArgumentParser:
 
 def main(arguments: Optional[List[str]] = None) -> int:
     """Runs the command; its exit status."""
-    given: Any = words().parse_args(arguments)
-    if isinstance(sys.stdout, io.TextIOWrapper):
-        sys.stdout.reconfigure(errors="backslashreplace")  # names of files may be of any bytes
-    is_endless = given.command == "serve" or given.command == "load" and given.follow
+    is_endless = False
+    if sys.stderr is None:  # or argparse prints its faults on standard output
+        sys.stderr = open(os.devnull, "w", encoding="utf-8")
     try:
+        given: Any = words().parse_args(arguments)
+        if isinstance(sys.stdout, io.TextIOWrapper):
+            sys.stdout.reconfigure(errors="backslashreplace")  # names of files may be of any bytes
+        if sys.stdout is None and given.command in ("ask", "check"):
+            raise Failed("standard output is closed")
+        is_endless = given.command == "serve" or given.command == "load" and given.follow
         end_by(is_endless, signal.default_int_handler)
-        status = int(given.run(given))
-        if sys.stdout is not None:
-            sys.stdout.flush()
-        return status
-    except Fault as stop:
-        print(f"tb-sql: {stop}", file=sys.stderr)
+        return int(given.run(given))
+    except Unread as stop:
         return stop.status
-    except BrokenPipeError:
-        os.dup2(os.open(os.devnull, os.O_WRONLY), 1)
+    except Fault as stop:
+        report(f"tb-sql: {stop}")
+        return stop.status
+    except OSError as error:
+        file = f"{error.filename}: " if error.filename else ""
+        report(f"tb-sql: {file}{error.strerror or error}")
         return 1
-    except (OSError, sqlite3.Error) as error:
-        print(f"tb-sql: {error}", file=sys.stderr)
+    except sqlite3.Error as error:
+        report(f"tb-sql: {error}")
         return 1
     except KeyboardInterrupt:
         return 0 if is_endless else INTERRUPTED

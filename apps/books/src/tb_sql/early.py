@@ -24,6 +24,11 @@ def main() -> int:
     words = sys.argv[1:]
     is_endless = words[:1] == ["serve"] or words[:1] == ["load"] and "--follow" in words
     end_by(is_endless, lambda *_: os._exit(0 if is_endless else INTERRUPTED))
+    from telovamish.faults import leave
+
     from .commands import main as begin
 
-    return begin()
+    try:
+        return begin()
+    finally:
+        leave(sys.stderr)

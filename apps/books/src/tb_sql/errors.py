@@ -23,5 +23,13 @@ class Refused(Stop):
     status = 2
 
 
+class NoDump(Refused):
+    """The input is no dump of a history."""
+
+    def __init__(self, fault: str) -> None:
+        super().__init__(f"the input is no dump of a history: {fault}")
+        self.fault = fault
+
+
 class Cut(Refused):
     """The input ends within a line or an entry."""

@@ -191,20 +191,15 @@ def number_of(name: str, text: str, fields: Mapping[str, int]) -> int:
     which the last one has the whole day."""
     is_time = name.startswith("timestamp") and "-" in text[1:]
     try:
-        number = moment(text, name == "timestamp_max") if is_time else int(id_of(text))
+        number = time_of(text, name == "timestamp_max") if is_time else int(id_of(text))
     except (ValueError, OverflowError):
         number = -1
     if not 0 <= number <= fields[name]:
         dates = ", or a date in UTC" if "timestamp" in name else ""
         raise ValueError(
-            f"{name} is a number from 0 to {fields[name]}{dates}, and not {text[:60]!r}"
+            f"{name} must be a number from 0 to {fields[name]}{dates}, not {text[:60]!r}"
         )
     return number
-
-
-def moment(text: str, is_last: bool) -> int:
-    """The nanoseconds of a date or a time; as the last one of a range that of a day's end."""
-    return time_of(text, is_last) - (is_last and ":" not in text)
 
 
 def flags_of(text: str, names: Mapping[str, int]) -> int:

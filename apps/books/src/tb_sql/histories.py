@@ -9,11 +9,11 @@ import threading
 from typing import BinaryIO, Iterator, List, Optional, Tuple, Union, cast
 
 from tb_client import Reply
-from telovamish.faults import Fault
+from telovamish.faults import Device, Fault, devices
 from telovamish.live import Replay
-from telovamish.streams import Entry, Item, item_bytes, read_dump, read_reply
+from telovamish.streams import Entry, Item, item_bytes, read_dump
 
-from .errors import Cut, Failed, Refused
+from .errors import Cut, NoDump, Refused
 
 CHUNK = 1 << 18  # bytes that are read at once
 WAITING = 4  # parts of the history that are read before their rows are made
@@ -29,6 +29,7 @@ class Source:
         self._number = number
         self._data = b""
         self._at = 0
+        self.has_ended = False
 
     def wait(self) -> None:
         """What is done before more is awaited: nothing here."""
@@ -48,8 +49,10 @@ class Source:
         wanted = length - len(parts[0])
         while wanted > 0:
             self.wait()
-            data = os.read(self._number, max(CHUNK, wanted))
+            with devices("the history"):
+                data = os.read(self._number, max(CHUNK, wanted))
             if not data:
+                self.has_ended = True
                 break
             parts.append(data)
             wanted -= len(data)
@@ -136,23 +139,18 @@ class Judge(Replay):
 
     def take(self) -> Reply:
         """The next reply."""
-        assert self.stdout and self.stderr
         try:
-            reply = read_reply(self.stdout)
+            return self.reply()
+        except Device:
+            raise
         except Fault as fault:
-            raise Failed(f"tbs replay: {fault}") from None
-        if reply is None:
-            said = self.stderr.read().decode(errors="replace").strip()
-            if self.wait() < 0:
-                raise Failed(said or f"tbs replay ended with {self.returncode}")
-            raise Refused(f"the history is refused: {said.rpartition(': ')[2] or 'without a word'}")
-        return reply
+            raise Refused(f"the history is refused: {fault}") from None
 
 
 def _named(error: BaseException) -> BaseException:
     """What a dump that is read wrongly is called."""
-    if not isinstance(error, Fault):
+    if isinstance(error, Device) or not isinstance(error, Fault):
         return error
     if str(error) == "Short":
         return Cut("the input ends within an entry")
-    return Refused(f"the input is no dump of a history: {error}")
+    return NoDump(str(error))

@@ -24,6 +24,7 @@ from .schema import SUMS
 GREATEST = {"ledger": U32, "code": U16, "account": U128}
 PLACES_MAX = 38
 LENGTH_MAX = 200
+FILE_MAX = 16 << 20  # characters of a file
 AMOUNTS = ("amount", *SUMS)
 # the fields of records that have names, each with its kind and the field of its name in JSON
 NAMED = {
@@ -107,15 +108,19 @@ def read_names(path: str) -> Names:
     """The names of a file. Refuses a wrong one with its line and key."""
     try:
         with open(path, encoding="utf-8") as file:
-            text = file.read()
+            text = file.read(FILE_MAX + 1)
     except OSError as error:
         raise Failed(f"{path}: {error.strerror}") from None
     except UnicodeDecodeError:
         raise Refused(f"{path} is no text in UTF-8") from None
+    if len(text) > FILE_MAX:  # as that of a device that has no end
+        raise Refused(f"{path} has more than {FILE_MAX:,} characters")
     try:
         found = tomllib.loads(text)
     except tomllib.TOMLDecodeError as error:
         raise Refused(f"{path}: {error}") from None
+    except RecursionError:
+        raise Refused(f"{path} is nested too deeply") from None
     rows: List[Row] = []
     for kind, table in found.items():
         try:
@@ -141,7 +146,13 @@ def rows_of(kind: str, table: Any) -> List[Row]:
         raise Wrong(f"one of {', '.join(GREATEST)} is meant", kind)
     if not isinstance(table, dict):
         raise Wrong("this is a table, as [ledger.700]", kind)
-    return [row_of(kind, number, value) for number, value in table.items()]
+    found: Dict[Number, Row] = {}
+    for number, value in table.items():
+        row = row_of(kind, number, value)
+        if row[1] in found:  # as 7 and 07
+            raise Wrong(f"{kind} {row[1]} has a name already", kind, number)
+        found[row[1]] = row
+    return list(found.values())
 
 
 def row_of(kind: str, number: str, value: Any) -> Row:

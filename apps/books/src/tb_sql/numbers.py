@@ -10,13 +10,13 @@ import datetime
 import re
 from typing import Dict, Iterable, List, Union
 
+from telovamish.dates import nanoseconds
 from telovamish.words import ACCOUNT_FLAGS, SECOND, TRANSFER_FLAGS, U128
 
 Number = Union[int, str]
 
 INTEGER_END = 1 << 63
 ID_MAX = U128
-DAY_SECONDS = 86400
 DEBITS_LIMITED = ACCOUNT_FLAGS["debits_must_not_exceed_credits"]
 CREDITS_LIMITED = ACCOUNT_FLAGS["credits_must_not_exceed_debits"]
 HISTORY, CLOSED = ACCOUNT_FLAGS["history"], ACCOUNT_FLAGS["closed"]
@@ -50,18 +50,13 @@ TIME = re.compile(
 )
 
 
-def time_of(text: str, is_end: bool = False) -> int:
+def time_of(text: str, is_last: bool = False) -> int:
     """The nanoseconds since 1970 of a date or a time in UTC. A date without a time is its first
-    moment, or as an end the first moment of the next day."""
+    moment, or its last one if it is the last of a range."""
     found = TIME.fullmatch(text.strip())
     if not found:
         raise ValueError(f"{text!r} is no date, such as 2026-11-26 or 2026-11-26T10:00:00Z")
-    year, month, day, hour, minute, second = (int(it or 0) for it in found.groups()[:6])
-    moment = datetime.datetime(year, month, day, hour, minute, second)
-    seconds = (moment - datetime.datetime(1970, 1, 1)) // datetime.timedelta(seconds=1)
-    if is_end and found[4] is None:
-        seconds += DAY_SECONDS
-    return seconds * SECOND + int((found[7] or "0").ljust(9, "0"))
+    return nanoseconds(found, is_last)
 
 
 def id_of(text: str) -> Number:

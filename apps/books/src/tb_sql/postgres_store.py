@@ -16,7 +16,10 @@ ENDED = "state text, ended_at bigint, ended_by numeric(39), id numeric(39)"
 LOCK = 0x7462_5F73_716C  # of the transaction that writes
 
 
-def psycopg_module() -> Any:
+def psycopg_module(url: str) -> Any:
+    """The module that reads the database of a URL, which it takes only as text."""
+    if not url.isprintable():  # which bytes that are no text are not
+        raise Refused(f"{url.partition('?')[0].rpartition('@')[2]!r} is no URL of PostgreSQL")
     try:
         import psycopg
     except ImportError:
@@ -35,7 +38,7 @@ class PostgresStore:
     """A schema of a PostgreSQL database, the first one of its search path."""
 
     def __init__(self, url: str) -> None:
-        self._psycopg = psycopg_module()
+        self._psycopg = psycopg_module(url)
         self.path = url.partition("?")[0].rpartition("@")[2]
         self.is_new = False
         try:

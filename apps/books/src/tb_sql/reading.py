@@ -111,7 +111,7 @@ class PostgresReading(Reading):
     """A PostgreSQL database, in a transaction that cannot write."""
 
     def __init__(self, url: str) -> None:
-        self._psycopg = psycopg_module()
+        self._psycopg = psycopg_module(url)
         self._path = url.partition("?")[0].rpartition("@")[2]
         try:
             self._connection = self._psycopg.connect(

@@ -11,9 +11,11 @@ import subprocess
 import sys
 from typing import Callable, NamedTuple, Optional
 
+from telovamish.faults import devices
+from telovamish.live import end_of
 from telovamish.programs import program
 
-from .errors import Failed, Refused
+from .errors import Failed, NoDump, Refused
 from .histories import History
 from .loading import Loading
 
@@ -55,7 +57,8 @@ class Ledger:
 
     def __init__(self, path: str, programs: Programs) -> None:
         if not os.path.isfile(path):
-            raise Failed(f"there is no file {path}")
+            there_is = "is no file" if os.path.exists(path) else "does not exist"
+            raise Failed(f"{path} {there_is}: a kept ledger's file is meant")
         self.path = path
         self._tbd, self._tbs = programs.path("tbd"), programs.path("tbs")
 
@@ -74,37 +77,46 @@ class Ledger:
                 except Refused as error:
                     refused = error
                 finally:
-                    if follow or refused or loading.is_done:
+                    has_ended = history.has_ended  # by itself: its status says why
+                    if not has_ended and (follow or refused or loading.is_done):
                         dump.kill()
                     else:
                         dump.wait()
             history.join()
             said = dump.stderr.read().decode(errors="replace").strip()
-        if dump.returncode > 0 and not said.endswith(LOST):
-            raise Failed(said or f"tbd dump {self.path} ended with {dump.returncode}")
+        is_failed = dump.returncode > 0 or has_ended and dump.returncode < 0
+        if is_failed and not said.endswith(LOST):
+            raise Failed(self._end_of(dump, said))
+        if isinstance(refused, NoDump):
+            raise Failed(f"{self._tbd} wrote no dump of {self.path}: {refused.fault}")
         if refused:
             raise refused
         if not loading.is_done:
             if dump.returncode:
-                raise Failed(said or f"tbd dump {self.path} ended with {dump.returncode}")
+                raise Failed(self._end_of(dump, said))
             loading.ended()
+
+    def _end_of(self, dump: "subprocess.Popen[bytes]", said: str) -> str:
+        return said or end_of(f"tbd dump {self.path}", dump.returncode, "")
 
     def _dump(self, follow: bool) -> "subprocess.Popen[bytes]":
         pipe = subprocess.PIPE
-        return subprocess.Popen(
-            [self._tbd, "dump", self.path, *(["--follow"] if follow else [])],
-            stdin=subprocess.DEVNULL,
-            stdout=pipe,
-            stderr=pipe,
-            preexec_fn=end_with_parent,
-        )
+        with devices(f"{self._tbd} does not start"):
+            return subprocess.Popen(
+                [self._tbd, "dump", self.path, *(["--follow"] if follow else [])],
+                stdin=subprocess.DEVNULL,
+                stdout=pipe,
+                stderr=pipe,
+                preexec_fn=end_with_parent,
+            )
 
 
 def entries_of(path: str, tbd: str) -> int:
     """How many entries a file has now: the number of the last one."""
-    ran = subprocess.run([tbd, "check", path], capture_output=True, check=False)
+    with devices(f"{tbd} does not start"):
+        ran = subprocess.run([tbd, "check", path], capture_output=True, check=False)
     found = re.search(rb"^entries ([0-9]+)$", ran.stdout, re.M)
     if ran.returncode or not found:
         said = ran.stderr.decode(errors="replace").strip()
-        raise Failed(said or f"tbd check {path} ended with {ran.returncode}")
+        raise Failed(said or end_of(f"tbd check {path}", ran.returncode, "no number of entries"))
     return int(found[1])

@@ -6,6 +6,7 @@ import operator
 import os
 import pathlib
 import sqlite3
+import stat
 from typing import Any, Iterable, List, Optional, Sequence, Tuple
 
 from .errors import Failed, Refused
@@ -21,6 +22,8 @@ def connect_read_only(path: str) -> sqlite3.Connection:
     as one that nobody changes, if nobody does."""
     if not os.path.exists(path):
         raise Failed(f"there is no file {path}: tb-sql load makes it")
+    if stat.S_ISFIFO(os.stat(path).st_mode):  # or SQLite waits for its other end
+        raise Failed(f"{path} is no file")
     whole = pathlib.Path(path).resolve()  # the WAL lies next to what a link names
     for mode in ("mode=ro", "immutable=1"):
         try:
@@ -57,6 +60,8 @@ def check_schema(connection: sqlite3.Connection, path: str) -> None:
     try:
         found = connection.execute("SELECT schema FROM position").fetchone()
     except sqlite3.DatabaseError as error:
+        if error.sqlite_errorcode != sqlite3.SQLITE_ERROR:  # damaged, locked or not readable
+            raise Failed(f"{path}: {error}") from None
         raise Refused(f"{path} is no database of tb-sql: {error}") from None
     if found is not None and found[0] != SCHEMA:
         raise Refused(

@@ -13,11 +13,11 @@ CARRIED = ("from", "to", "ledger", "code", "user_data", "sort")
 
 
 def asked_range() -> Range:
-    """The range of times that the address asks for, its last day included."""
+    """The range of times that the address asks for, its last moment or day included."""
     try:
         start = request.args.get("from", "").strip()
         end = request.args.get("to", "").strip()
-        first, last = time_of(start) if start else 0, time_of(end, is_end=True) - 1 if end else LAST
+        first, last = time_of(start) if start else 0, time_of(end, is_last=True) if end else LAST
         return Range(max(0, min(first, LAST)), max(-1, min(last, LAST)))
     except (ValueError, OverflowError) as error:
         return abort(400, str(error))

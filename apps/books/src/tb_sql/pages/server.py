@@ -19,6 +19,7 @@ from ..filters import OPERATIONS
 from ..loading import is_postgresql
 from ..names import Names
 from ..numbers import flag_names
+from ..output import say
 from . import charts, texts
 from .asked import asked_number, carried
 from .queries import ROWS, Tables
@@ -166,6 +167,6 @@ def serve_pages(path: str, port: int, site: Site) -> int:
     port = listening.getsockname()[1]
     server = make_server(site, listening)
     name = path.partition("?")[0].rpartition("@")[2] if is_postgresql(path) else path
-    print(f"http://{HOST}:{port}/ shows {name}; Ctrl-C ends it", flush=True)
+    say(f"http://{HOST}:{port}/ shows {name}; Ctrl-C ends it")
     server.run()
     return 0

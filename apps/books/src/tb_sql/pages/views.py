@@ -25,7 +25,7 @@ def overview(site: Site) -> str:
     tables = site.tables()
     span = request.args.get("span", "all")
     if span not in SPANS:
-        abort(400, f"span is one of {', '.join(SPANS)}")
+        abort(400, f"span must be one of {', '.join(SPANS)}")
     first, last = tables.times()
     range = Range(max(0, last - SPANS[span] * SECOND) if SPANS[span] else 0, LAST)
     counted = tables.activity(range)
@@ -49,7 +49,7 @@ def overview(site: Site) -> str:
 def accounts(site: Site) -> str:
     tables, sort = site.tables(), request.args.get("sort") or "newest"
     if sort not in SORTS:
-        abort(400, f"sort is one of {', '.join(SORTS)}")
+        abort(400, f"sort must be one of {', '.join(SORTS)}")
     user_data = request.args.get("user_data", "").strip()
     wanted = Account(
         asked_number("ledger"), asked_number("code"), asked_id(user_data) if user_data else None
@@ -112,7 +112,7 @@ def month(site: Site, id: str, month: str) -> str:
     if row is None:
         abort(404, f"There is no account {found}.")
     if not re.fullmatch("[0-9]{4}-[0-9]{2}", month, re.A):
-        abort(400, "A month is as 2026-11.")
+        abort(400, "A month is written as 2026-11.")
     try:
         year, number = int(month[:4]), int(month[5:])
         start = time_of(f"{month}-01")
@@ -151,8 +151,7 @@ def trial_balance(site: Site) -> str:
     """Each ledger's sums at a time."""
     text = request.args.get("at", "").strip()
     try:
-        is_day = ":" not in text
-        at = time_of(text, is_end=True) - is_day if text else LAST
+        at = time_of(text, is_last=True) if text else LAST
     except (ValueError, OverflowError) as error:
         return abort(400, str(error))
     rows = site.tables().trial_balance_at(max(-1, min(at, LAST)))
