@@ -36,7 +36,7 @@ from tb_client import Session, Socket
 from tb_host import access, lines, listen, reports, sockets, tls
 from tb_host.evictions import Evictions
 from tb_host.lines import Ended
-from test_listen import KEEPER, Running, has_ipv6, register, told
+from test_listen import KEEPER, Running, has_ipv6, held_port, register, told
 from test_tb_client import PROGRAM
 
 sys.path.append(CONFORMANCE)
@@ -323,8 +323,8 @@ class Words(unittest.TestCase):
 
     def test_what_does_not_go_together(self):
         for options, said in (
-            (("--certificate", "a"), "--certificate and --key come together"),
-            (("--client-ca", "a"), "--client-ca comes with --certificate"),
+            (("--certificate", "a"), "--certificate and --key need each other"),
+            (("--client-ca", "a"), "--client-ca needs --certificate"),
             (("--unix", "a", "--certificate", "a", "--key", "b"), "--certificate is for TCP"),
             (("--allow-uid", "no such user"), "is no user of this computer"),
         ):
@@ -337,8 +337,8 @@ class Words(unittest.TestCase):
         with tempfile.TemporaryDirectory() as folder:
             file = os.path.join(folder, "it")
             for text, said in (
-                ("certificate a", "a line is `certificate NAME NUMBER`"),
-                ("person a 1", "a line is `certificate NAME NUMBER`"),
+                ("certificate a", "a line must be `certificate NAME NUMBER`"),
+                ("person a 1", "a line must be `certificate NAME NUMBER`"),
                 ("certificate a x", "line 1: invalid literal"),
                 (f"certificate a {1 << 64}", "is no number of 64 bits"),
                 ("certificate a -1", "is no number of 64 bits"),
@@ -353,8 +353,17 @@ class Words(unittest.TestCase):
                     status, line = ended("--clients", file)
                     self.assertEqual(status, 1)
                     self.assertIn(said, line)
+            pipe = os.path.join(folder, "pipe")
+            os.mkfifo(pipe)
+            said = "is a pipe or a device, not a file"
+            for place in (pipe, "/dev/zero"):  # for which it waited, and heard no signal
+                self.assertEqual(ended("--clients", place), (1, f"tb_listen: {place} {said}"))
+                tls = ("--certificate", place, "--key", file, "--tcp", "127.0.0.1:0")
+                found = f"tb_listen: {place} and {file}: {place} {said}"
+                self.assertEqual(ended(*tls), (1, found))
             for options in (
                 ("--clients", os.path.join(folder, "none")),
+                ("--clients", folder),
                 ("--certificate", file, "--key", file, "--tcp", "127.0.0.1:0"),
                 ("--status", os.path.join(folder, "none", "status")),
             ):
@@ -495,24 +504,24 @@ class Reports(unittest.TestCase):
             self.assertEqual(status, 1)
             self.assertIn("python3-prometheus-client", line)
             self.skipTest("prometheus_client is not installed")
-        for host in ("127.0.0.1", *(["[::1]"] if has_ipv6() else [])):
-            with sockets.tcp_socket(host.strip("[]"), 0) as free:
-                place = f"{host}:{free.getsockname()[1]}"
-                self.no_metrics_at(place, "Address already in use")
-            with Running("--metrics", place) as listener:
-                self.read_metrics(listener, place)
-                listener.end()
-                self.assertEqual(len(listener.said), 1, listener.said)
+        for host in ("127.0.0.1", *(["::1"] if has_ipv6() else [])):
+            with held_port(host) as port:
+                place = f"[{host}]:{port}" if ":" in host else f"{host}:{port}"
+                with sockets.tcp_socket(host, port):
+                    self.no_metrics_at(place, "Address already in use")
+                with Running("--metrics", place) as listener:
+                    self.read_metrics(listener, place)
+                    listener.end()
+                    self.assertEqual(len(listener.said), 1, listener.said)
         self.no_metrics_at(f"{'x' * 64}.example:1", "is no name of a place")
 
     @unittest.skipUnless(importlib.util.find_spec("prometheus_client"), "it is not installed")
     def test_who_reads_no_metrics(self):
         """Connections to the page that say nothing take few files, and one that breaks off leaves
         no traceback. Each took a file and a thread without an end, until no client got in."""
-        with sockets.tcp_socket("127.0.0.1", 0) as free:
-            place = free.getsockname()
-        words = ("--metrics", "{}:{}".format(*place))
-        with contextlib.ExitStack() as held, Running(*words) as listener:
+        with contextlib.ExitStack() as held:
+            place = "127.0.0.1", held.enter_context(held_port())
+            listener = held.enter_context(Running("--metrics", "{}:{}".format(*place)))
             with socket.create_connection(place) as it:
                 it.sendall(b"GET / HT")
                 it.setsockopt(socket.SOL_SOCKET, socket.SO_LINGER, struct.pack("ii", 1, 0))
@@ -544,9 +553,12 @@ class Reports(unittest.TestCase):
     def read_metrics(self, listener, place):
         with Session.register(Socket(listener.path)) as session:
             session.lookup_accounts([1])
-        time.sleep(0.1)  # the system counts what a process wrote a moment after that
-        with urllib.request.urlopen(f"http://{place}/metrics", timeout=10) as page:
-            text = page.read().decode()
+        text, until = "", time.monotonic() + 20
+        # the system counts what a process wrote a moment after that
+        while "tb_commits_total 2.0" not in text and time.monotonic() < until:
+            time.sleep(0.05)
+            with urllib.request.urlopen(f"http://{place}/metrics", timeout=10) as page:
+                text = page.read().decode()
         for line in (
             "tb_commits_total 2.0",
             "tb_syncs_total 4.0",

@@ -97,6 +97,30 @@ sys.exit(status)
 """
         self.assertEqual(self.ends(code, [], "", signal.SIGTERM), (8, "", []))
 
+    def test_lost_pages(self):
+        """A page of usage or a version that cannot be written is a fault of a device; a message
+        that cannot be written does not change the status."""
+        env = {**os.environ, "PYTHONUNBUFFERED": ""}  # as people run it
+        replica = os.path.join(os.path.dirname(LISTENER), "tb-replica")
+        for path, name in ((LISTENER, "tb_listen"), (replica, "tb_replica")):
+            command = [sys.executable, "-B", path]
+            with self.subTest(name), open("/dev/full", "wb") as full:
+                for word in ("--help", "--version"):
+                    ran = subprocess.run(
+                        [*command, word], stdout=full, stderr=subprocess.PIPE, env=env
+                    )
+                    wanted = f"{name}: standard output: No space left on device\n".encode()
+                    self.assertEqual((ran.returncode, ran.stderr), (1, wanted))
+                closed = ["sh", "-c", 'exec "$@" >&-', "sh", *command, "--version"]
+                ran = subprocess.run(closed, stderr=subprocess.PIPE)
+                wanted = f"{name}: standard output is closed\n".encode()
+                self.assertEqual((ran.returncode, ran.stderr), (1, wanted))
+                for words in (["--none"], ["--log", "etcd://a/b", "--copy", "c", "x"]):
+                    ran = subprocess.run([*command, *words], stderr=full, env=env)
+                    self.assertEqual(ran.returncode, 2)
+                closed = ["sh", "-c", 'exec "$@" >&- 2>&-', "sh", *command, "--none"]
+                self.assertEqual(subprocess.run(closed).returncode, 2)
+
 
 if __name__ == "__main__":
     unittest.main()

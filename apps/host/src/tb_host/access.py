@@ -11,7 +11,7 @@ import socket
 import struct
 from typing import Any, Dict, FrozenSet, NamedTuple, Optional, Set, Tuple
 
-from .arguments import is_number, path
+from .arguments import is_number, path, test_file
 from .lines import Ended, Told
 
 RANGE = 64  # bits of a client's id below its range
@@ -135,6 +135,7 @@ def access_of(given: argparse.Namespace) -> Access:
 
 def _ranges_of(file: str) -> Dict[Tuple[str, object], int]:
     try:
+        test_file(file)
         with open(file, encoding="utf-8") as lines:
             text = lines.read()
     except OSError as error:
@@ -161,7 +162,7 @@ def _ranges_of(file: str) -> Dict[Tuple[str, object], int]:
 def _range_in(words: list[str]) -> Tuple[Tuple[str, object], int]:
     """What a line says. Raises `ValueError` if it says nothing that is known."""
     if len(words) != 3 or words[0] not in ("certificate", "user"):
-        raise ValueError("a line is `certificate NAME NUMBER` or `user NAME NUMBER`")
+        raise ValueError("a line must be `certificate NAME NUMBER` or `user NAME NUMBER`")
     kind, name, number = words
     upper = int(number, 0)
     if not 0 <= upper < 1 << RANGE:

@@ -41,6 +41,18 @@ def _ignore() -> None:
     """Has a second signal change nothing about how a host ends."""
     for number in (signal.SIGINT, signal.SIGTERM, signal.SIGHUP):
         signal.signal(number, signal.SIG_IGN)
+    _leave()
+
+
+def _leave() -> None:
+    """Drops what standard output and error did not take: Python would write it again at its end,
+    and end with another status."""
+    for stream in (sys.stdout, sys.stderr):
+        try:
+            if stream is not None:
+                stream.flush()
+        except OSError:
+            os.dup2(os.open(os.devnull, os.O_WRONLY), stream.fileno())
 
 
 def listen() -> int:
@@ -76,3 +88,5 @@ def _part() -> int:
         return main()
     except KeyboardInterrupt:
         return INTERRUPTED
+    finally:
+        _leave()

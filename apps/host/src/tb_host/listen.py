@@ -37,7 +37,16 @@ import argparse
 from typing import Sequence
 
 from .access import add_access
-from .arguments import add_command, add_lines, add_places, add_times, ahead, settle_places
+from .arguments import (
+    Parser,
+    add_command,
+    add_lines,
+    add_places,
+    add_times,
+    ahead,
+    settle_places,
+    test_command,
+)
 from .command import Command
 from .evictions import clients_max_of
 from .lines import Ended, say, speak_json
@@ -65,12 +74,10 @@ async def listen(given: argparse.Namespace) -> None:
 def words(given: Sequence[str]) -> argparse.Namespace:
     """The words of the command line. A wrong one is told, and ends the program with status 2."""
     usage = "tb-listen [OPTIONS] -- COMMAND [WORD ..]"
-    parser = argparse.ArgumentParser(
+    parser = Parser(
         prog="tb_listen",
         usage=usage,
         description=__doc__,
-        formatter_class=argparse.RawDescriptionHelpFormatter,
-        allow_abbrev=False,
     )
     add_places(parser)
     add_tls(parser)
@@ -87,8 +94,7 @@ def words(given: Sequence[str]) -> argparse.Namespace:
     parser.add_argument("--version", action="version", version=f"tb-listen {__version__}")
     add_command(parser)
     found = parser.parse_args(given)
-    if not found.command[0]:
-        parser.error("an empty word is no COMMAND")
+    test_command(parser, found)
     settle_places(found)
     test_tls(parser, found)
     return found

@@ -152,9 +152,14 @@ def parts(url: str) -> Tuple[str, List[Tuple[str, int]], str]:
 
 def _address(text: str, port: int) -> Tuple[str, int]:
     found = re.fullmatch(r"(\[[0-9A-Fa-f:.]+\]|[^\[\]:]+)(?::([0-9]{1,5}))?", text)
+    try:
+        host = found[1].strip("[]") if found else ""
+        host.encode("idna")  # as it is looked up
+    except UnicodeError:
+        found = None
     if not found or int(found[2] or 0) > 65535:
         raise ValueError(f"{text!r} is no HOST or HOST:PORT")
-    return found[1].strip("[]"), int(found[2] or port)
+    return host, int(found[2] or port)
 
 
 def opened(url: str, access: Access, replicas: int = 1) -> Log:

@@ -39,15 +39,17 @@ from typing import Any, List, Sequence
 
 from .access import add_access
 from .arguments import (
+    Parser,
     add_command,
     add_lines,
     add_places,
     add_times,
     ahead,
-    is_number,
     path,
     seconds,
     settle_places,
+    test_command,
+    whole,
 )
 from .backlog import Backlog, copied_checkpoint
 from .faults import Fault
@@ -129,13 +131,15 @@ def _log(text: str) -> str:
 
 
 def _standbys(text: str) -> int:
-    if not (is_number(text) and int(text) < 1 << 16):
-        raise argparse.ArgumentTypeError(f"{text!r} is no number from 0 to 65535")
-    return int(text)
+    return whole(text, 0, 65535)
+
+
+def _position(text: str) -> int:
+    return whole(text, 0, (1 << 63) - 1)
 
 
 def _name(text: str) -> str:
-    if not text.isprintable():  # which bytes that are no text are not
+    if not (text and text.isprintable()):  # which bytes that are no text are not
         raise argparse.ArgumentTypeError(f"{text!r} is no name")
     return text
 
@@ -171,16 +175,14 @@ def _test_log(parser: argparse.ArgumentParser, given: argparse.Namespace) -> Non
     TLS, and told the password."""
     files = (given.log_certificate, given.log_key)
     if parts(given.log)[0] == "etcd" and any(files) and not (given.log_ca and all(files)):
-        parser.error("--log-certificate and --log-key come together, and with --log-ca")
+        parser.error("--log-certificate and --log-key need each other, and --log-ca")
 
 
 def _parser(usage: str) -> argparse.ArgumentParser:
-    parser = argparse.ArgumentParser(
+    parser = Parser(
         prog="tb-replica",
         usage=usage,
         description=__doc__,
-        formatter_class=argparse.RawDescriptionHelpFormatter,
-        allow_abbrev=False,
     )
     parser.add_argument("--version", action="version", version=f"tb-replica {__version__}")
     return parser
@@ -224,6 +226,7 @@ def _run_words(given: Sequence[str]) -> argparse.Namespace:
     add_command(parser)
     found = parser.parse_args(given)
     _test_log(parser, found)
+    test_command(parser, found)
     try:
         head_of(found.command, found.positions)
     except ValueError as error:
@@ -284,10 +287,12 @@ def _hashes_words(given: Sequence[str]) -> argparse.Namespace:
     parser = _parser("%(prog)s hashes --copy FOLDER [--at POSITION] -- COMMAND [WORD ..]")
     parser.add_argument("--copy", metavar="FOLDER", type=path, required=True, help="the copy")
     parser.add_argument(
-        "--at", metavar="POSITION", type=int, default=0, help="up to this position (the last)"
+        "--at", metavar="POSITION", type=_position, default=0, help="up to this position (the last)"
     )
     add_command(parser)
-    return parser.parse_args(given)
+    found = parser.parse_args(given)
+    test_command(parser, found)
+    return found
 
 
 def _copy_from(given: argparse.Namespace) -> int:
@@ -326,6 +331,8 @@ def main() -> int:
     words = sys.argv[1:]
     part = words[0] if words and words[0] in PARTS else ""
     try:
+        if part and sys.stdout is None:
+            raise Ended("standard output is closed", 1)
         return run(part, words[1:] if part else words)
     except Ended as ended:
         say(str(ended), "error")

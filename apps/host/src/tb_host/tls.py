@@ -9,7 +9,7 @@ import socket
 import ssl
 from typing import Any, Callable, Optional, Union
 
-from .arguments import path
+from .arguments import path, test_file
 from .lines import Ended
 
 
@@ -35,9 +35,9 @@ def add_tls(parser: argparse.ArgumentParser) -> None:
 def test_tls(parser: argparse.ArgumentParser, given: argparse.Namespace) -> None:
     """Ends the program if the options of TLS do not go together."""
     if bool(given.certificate) != bool(given.key):
-        parser.error("--certificate and --key come together")
+        parser.error("--certificate and --key need each other")
     if given.client_ca and not given.certificate:
-        parser.error("--client-ca comes with --certificate and --key")
+        parser.error("--client-ca needs --certificate and --key")
     if given.certificate and not given.tcp:
         parser.error("--certificate is for TCP: --tcp HOST:PORT")
     if given.tcp and not (given.client_ca or given.insecure or is_loopback(given.tcp[0])):
@@ -121,6 +121,8 @@ def load_own(
     passphrase: Optional[Callable[[], str]] = None,
 ) -> None:
     try:
+        test_file(certificate)
+        test_file(key)
         context.load_cert_chain(certificate, key, passphrase)
     except (OSError, Ended) as error:
         raise Ended(f"{certificate} and {key}: {_why(error)}", 1) from None
@@ -128,6 +130,7 @@ def load_own(
 
 def load_authority(context: ssl.SSLContext, file: str) -> None:
     try:
+        test_file(file)
         context.load_verify_locations(file)
     except OSError as error:
         raise Ended(f"{file}: {_why(error)}", 1) from None
