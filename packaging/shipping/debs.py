@@ -15,7 +15,7 @@ from .table import Program
 PACKAGES = 6
 # The commands of Python packages: a module and its function.
 SCRIPTS = {
-    "telovamish": ("telovamish.commands", "main"),
+    "telovamish": ("telovamish.early", "main"),
     "tb-listen": ("tb_host.early", "listen"),
     "tb-replica": ("tb_host.early", "replica"),
     "tb-sql": ("tb_sql.early", "main"),

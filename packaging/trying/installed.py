@@ -26,10 +26,16 @@ def check(is_right: bool, what: object) -> None:
         raise Failed(str(what)[-2000:])
 
 
+HELD: list[socket.socket] = []  # at ports that the system gives to nobody else
+
+
 def free_port() -> int:
-    with socket.socket() as it:
-        it.bind(("127.0.0.1", 0))
-        return int(it.getsockname()[1])
+    """A port at which only a program that is started for it listens: it sets SO_REUSEADDR."""
+    it = socket.socket()
+    it.setsockopt(socket.SOL_SOCKET, socket.SO_REUSEADDR, 1)
+    it.bind(("127.0.0.1", 0))
+    HELD.append(it)
+    return int(it.getsockname()[1])
 
 
 def first_reply(root: Root, deb: str) -> str:
