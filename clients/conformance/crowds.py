@@ -342,7 +342,7 @@ def words():
     parser.add_argument("command", metavar="COMMAND", nargs="+", help="the runner, behind --")
     given = parser.parse_args()
     if given.seed < 0 or given.count < 1:
-        parser.error("--seed is 0 or more, and --count is 1 or more")
+        parser.error("--seed must be 0 or more, and --count must be 1 or more")
     return given
 
 

@@ -175,10 +175,10 @@ class Kit:
         for it in workers:
             it.start()
         try:
-            while any(it.is_alive() for it in workers):
-                time.sleep(0.05)  # a join might not see an interrupt
+            wait_for(workers)
         except KeyboardInterrupt:
             self.stop()
+            wait_for(workers)  # Python may crash at its end if one of them is in OpenSSL then
             raise
 
     def stop(self):
@@ -188,6 +188,11 @@ class Kit:
         for it in self.runners:
             if it.process is not None:
                 it.strike()
+
+
+def wait_for(threads):
+    while any(it.is_alive() for it in threads):
+        time.sleep(0.05)  # a join might not see an interrupt
 
 
 def words():
@@ -220,9 +225,9 @@ def words():
     if not given.list and not given.show and not given.command:
         parser.error("no COMMAND of a runner is given")
     if given.jobs < 1:
-        parser.error("--jobs is 1 or more: with none no scenario would run")
+        parser.error("--jobs must be 1 or more: with none no scenario would run")
     if given.seed < 0 or any(it is not None and it < 1 for it in (given.drawn, given.more)):
-        parser.error("--drawn and --more are 1 or more, and --seed is 0 or more")
+        parser.error("--drawn and --more must be 1 or more, and --seed must be 0 or more")
     if given.steps is not None and (given.drawn != 1 or not re.fullmatch(STEPS, given.steps)):
         parser.error("--steps is none, or places like 2,5, with --drawn 1")
     return parser, given

@@ -333,9 +333,9 @@ def words():
     )
     given = parser.parse_args()
     if given.kills < 1:
-        parser.error("--kills is 1 or more: with none no money would move")
+        parser.error("--kills must be 1 or more: with none no money would move")
     if not 0 <= given.span < 60:
-        parser.error("--span is 0 or more seconds, below 60")
+        parser.error("--span must be 0 or more seconds, below 60")
     return given
 
 

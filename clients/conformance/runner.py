@@ -120,7 +120,8 @@ class Runner:
             self.past += waited(self.process.pid)
             self.strike()
             self.process.wait()
-            self.process.stdin.close()
+            with contextlib.suppress(OSError):  # an interrupt may have left bytes unsent
+                self.process.stdin.close()
             self.process.stdout.close()
             self.process = None
 

@@ -1,10 +1,12 @@
 """The kit as the server: sockets, and what a scenario has them do."""
 import contextlib
+import fcntl
 import os
 import select
 import socket
 import ssl
 import struct
+import termios
 import time
 
 from runner import Patience
@@ -12,6 +14,7 @@ from runner import Patience
 HEADER, ITEM = 48, 128  # bytes
 FIN_WAIT1 = 4  # the state of a TCP connection whose end the other side has not taken yet
 PATIENCE = 20.0  # seconds that the client may be idle while something is waited for
+UNDERWAY = 5.0  # seconds that the system may take for bytes to a client
 
 
 class Failed(Exception):
@@ -339,6 +342,10 @@ class Connections:
                     time.sleep(0.01)
 
     def do_wait(self, seconds, _):
+        """Waits, once the client's system has all that was sent to it."""
+        end = time.monotonic() + UNDERWAY
+        while any(map(is_underway, self.open.values())) and time.monotonic() < end:
+            time.sleep(0.005)
         time.sleep(seconds)
 
     def do_answer(self, count, action):
@@ -447,6 +454,14 @@ class Connections:
         self.open.clear()
         for server in self.servers.values():
             server.unlisten()
+
+
+def is_underway(it):
+    """Whether the other side's system has not yet all bytes that were sent. It has those over a
+    Unix socket at once."""
+    if it.family == socket.AF_UNIX or it.fileno() < 0:
+        return False
+    return fcntl.ioctl(it.fileno(), termios.TIOCOUTQ, bytes(4)) != bytes(4)
 
 
 def list_of(given):

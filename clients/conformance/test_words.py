@@ -63,7 +63,7 @@ class Money(unittest.TestCase):
         for words in (["--kills", "0"], ["--kills", "-2"], ["--span", "nan"], ["--span", "-1"]):
             status, said, faults = ran("money.py", *words, *RUNNER)
             self.assertEqual((status, said), (2, ""), words)
-            self.assertIn(f"{words[0]} is ", faults)
+            self.assertIn(f"{words[0]} must be ", faults)
 
     def interrupted(self, server, begun):
         """Interrupts it once this file is in its room, of which it leaves nothing. What the file
@@ -135,7 +135,7 @@ class WrongClients(unittest.TestCase):
         for name in ("conformance", "go"):
             status, said, faults = ran(f"../{name}/wrong_clients.py", "--jobs", "0")
             self.assertNotEqual(status, 0, said)
-            self.assertIn("--jobs is 1 or more", faults)
+            self.assertIn("--jobs must be 1 or more", faults)
 
 
 class Drawn(unittest.TestCase):
@@ -169,13 +169,15 @@ class Drawn(unittest.TestCase):
         for words in (["--drawn", "0"], ["--more", "-1"], ["--drawn", "1", "--seed", "-1"]):
             status, said, faults = ran("kit.py", *words, *RUNNER)
             self.assertEqual((status, said), (2, ""), words)
-            self.assertIn("--drawn and --more are 1 or more, and --seed is 0 or more", faults)
+            self.assertIn(
+                "--drawn and --more must be 1 or more, and --seed must be 0 or more", faults
+            )
 
     def test_no_crowd(self):
         for words in (["--count", "0"], ["--seed", "-1"]):
             status, said, faults = ran("crowds.py", *words, *RUNNER)
             self.assertEqual((status, said), (2, ""), words)
-            self.assertIn("--seed is 0 or more, and --count is 1 or more", faults)
+            self.assertIn("--seed must be 0 or more, and --count must be 1 or more", faults)
 
     def test_a_crowd_of_a_wrong_client(self):
         with tempfile.TemporaryDirectory() as folder:
@@ -272,7 +274,7 @@ class Kit(unittest.TestCase):
         for jobs in ("0", "-1"):
             status, said, faults = ran("kit.py", "--jobs", jobs, "--first", *RUNNER)
             self.assertEqual((status, said), (2, ""))
-            self.assertIn("--jobs is 1 or more", faults)
+            self.assertIn("--jobs must be 1 or more", faults)
 
     def begun(self, *words):
         it = subprocess.Popen(
@@ -341,17 +343,25 @@ class Kit(unittest.TestCase):
 class Waiting(unittest.TestCase):
     """How long the kit waits: seconds of an idle client, more for one without a processor."""
 
+    def setUp(self):
+        self.now = 0.0
+
+    def clock(self):
+        return mock.patch("runner.time.monotonic", lambda: self.now)
+
     def test_an_idle_process(self):
-        patience = Patience(0.05, lambda: 0.0)
-        self.assertFalse(patience.is_over())
-        time.sleep(patience.look())
-        self.assertTrue(patience.is_over())
+        with self.clock():
+            patience = Patience(0.05, lambda: 0.0)
+            self.assertFalse(patience.is_over())
+            self.now += patience.look()
+            self.assertTrue(patience.is_over())
 
     def test_a_process_that_waits_for_a_processor(self):
-        patience = Patience(0.05, time.monotonic)
-        for _ in range(4):
-            self.assertFalse(patience.is_over())
-            time.sleep(0.03)
+        with self.clock():
+            patience = Patience(0.05, lambda: self.now)
+            for _ in range(4):
+                self.assertFalse(patience.is_over())
+                self.now += 0.03
 
     def test_a_kit_that_waits_for_a_processor(self):
         """However late it looks, a look counts for a second."""

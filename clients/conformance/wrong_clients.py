@@ -416,11 +416,11 @@ def words():
     parser.add_argument("--seed", metavar="N", type=int, default=1, help="of the first one (1)")
     given = parser.parse_args()
     if given.jobs < 1:
-        parser.error("--jobs is 1 or more")
+        parser.error("--jobs must be 1 or more")
     if given.drawn is not None and given.drawn < 1:
-        parser.error("--drawn is 1 or more")
+        parser.error("--drawn must be 1 or more")
     if given.seed < 0:
-        parser.error("--seed is 0 or more")
+        parser.error("--seed must be 0 or more")
     return given
 
 

@@ -144,7 +144,7 @@ func ExampleSession_Retry() {
 	session := twoAccounts(context.Background(), socket)
 	release := server.holds(130) // the server takes its time
 
-	ctx, cancel := context.WithTimeout(context.Background(), 50*time.Millisecond)
+	ctx, cancel := context.WithTimeout(context.Background(), time.Second)
 	defer cancel()
 	check(session.Prepare(tb.CreateTransfers{sale(100)}))
 	_, err := session.Retry(ctx)

@@ -89,7 +89,7 @@ func TestMoneyMovesOnceOverLostReplies(t *testing.T) {
 func TestCancelledCallLeavesItsRequestInDoubt(t *testing.T) {
 	server, session := begun(t)
 	release := server.holds(130)
-	ctx, cancel := context.WithTimeout(background, 50*time.Millisecond)
+	ctx, cancel := context.WithTimeout(background, time.Second)
 	defer cancel()
 	_, err := session.CreateTransfers(ctx, []tb.Transfer{sale(100)})
 	if !errors.Is(err, context.DeadlineExceeded) || !errors.Is(err, tb.ErrCancelled) || errors.Is(err, tb.ErrNotSent) {

@@ -333,7 +333,7 @@ def words():
 def main():
     given = words()
     if given.jobs < 1:
-        sys.exit("--jobs is 1 or more")
+        sys.exit("--jobs must be 1 or more")
     tried = chosen(WRONG, given)
     return all_caught(tried, lambda it: caught(it, given.over, given.scenarios), given.jobs)
 

@@ -73,6 +73,16 @@ async function listener() {
   return it;
 }
 
+/** Ends a listener, and waits until it has gone: the next one has its socket and its ledger. */
+async function ended(it) {
+  it.removeAllListeners("exit");
+  if (it.exitCode !== null || it.signalCode !== null) return;
+  await new Promise((resolve) => {
+    it.on("exit", resolve);
+    it.kill();
+  });
+}
+
 /**
  * Passes bytes on to the listener and back. If `kill` is set, it is called once the listener
  * has answered a request of create_transfers, and the answer is kept back.
@@ -149,8 +159,7 @@ test("the README's program, a kill amid a sale, and one in doubt that is refused
     assert.deepEqual(await once(hooks), { said: "600n\n", status: 0, signal: null });
   } finally {
     server.close();
-    process.removeAllListeners("exit");
-    process.kill();
+    await ended(process);
   }
 });
 
@@ -163,7 +172,6 @@ test("the README's lines on a client that callers share", { skip: needs }, async
   try {
     assert.equal(run("node", ["shared.mjs"], folder), "true\n");
   } finally {
-    process.removeAllListeners("exit");
-    process.kill();
+    await ended(process);
   }
 });

@@ -463,7 +463,7 @@ def words():
     parser.add_argument("--first", action="store_true", help="stop behind a seed that failed")
     given = parser.parse_args()
     if given.seed < 0 or given.count < 1:
-        parser.error("--seed is 0 or more, and --count is 1 or more")
+        parser.error("--seed must be 0 or more, and --count must be 1 or more")
     return given
 
 

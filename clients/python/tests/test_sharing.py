@@ -1,6 +1,7 @@
 #!/usr/bin/env python3
 """A Program, a session and `id` shared by threads; programs that end, are closed, or were
 forked."""
+import contextlib
 import errno
 import os
 import signal
@@ -186,8 +187,10 @@ class Programs(unittest.TestCase):
                 for _ in range(5):
                     time.sleep(0.03)
                     process = program.process
-                    if process is not None:
-                        process.kill()
+                    if process is not None and process.returncode is None:
+                        # Popen.kill could take its status from the thread that waits for it
+                        with contextlib.suppress(ProcessLookupError):
+                            os.kill(process.pid, signal.SIGKILL)
                 return
             session = Session.register(lossy, 100 + number, now=at_ten, attempts=50)
             for at in range(30):

@@ -1,6 +1,7 @@
 """Sockets to several addresses, what a server sends, replies of other requests, and TLS's
 arguments."""
 import contextlib
+import errno
 import os
 import shutil
 import socket
@@ -57,6 +58,47 @@ class Server:
     def end(self):
         self.thread.join()
         self.socket.close()
+
+
+def bound_at_one_port(hosts):
+    """A socket at each of these hosts, at a port that is free at all of them. A program that
+    listens on all addresses may have a port that the system gives for one."""
+    for _ in range(40):
+        with contextlib.ExitStack() as stack:
+            port, found = 0, []
+            try:
+                for host in hosts:
+                    found.append(stack.enter_context(socket.socket()))
+                    found[-1].bind((host, port))
+                    port = found[-1].getsockname()[1]
+            except OSError as error:
+                if error.errno != errno.EADDRINUSE:
+                    raise
+                continue
+            stack.pop_all()
+            return found
+    raise AssertionError(f"no port is free at {hosts}")
+
+
+class Ports(unittest.TestCase):
+    def test_a_port_that_another_program_has(self):
+        """It is taken at the second host: another port is chosen."""
+        bind, ports = socket.socket.bind, []
+
+        class Bound(socket.socket):
+            def bind(self, address):
+                ports.append(address[1])
+                if len(ports) == 2:
+                    raise OSError(errno.EADDRINUSE, "Address already in use")
+                bind(self, address)
+
+        with mock.patch("socket.socket", Bound):
+            some = bound_at_one_port(["127.0.0.1", "127.0.0.2"])
+        port = some[0].getsockname()[1]
+        self.assertEqual([it.getsockname()[1] for it in some], [port, port])
+        self.assertEqual((ports[0], ports[2:]), (0, [0, port]))
+        for it in some:
+            it.close()
 
 
 class Addresses(unittest.TestCase):
@@ -154,27 +196,25 @@ class Addresses(unittest.TestCase):
 
     def test_a_host_of_many_addresses(self):
         """If they do not reply, they take the time of one, and leave some for the next."""
+        hosts, found = [f"127.0.0.{last}" for last in range(1, 5)], []
         with contextlib.ExitStack() as stack:
-            found, port = [], 0
-            for last in range(1, 5):
-                listening = stack.enter_context(socket.socket())
-                listening.bind((f"127.0.0.{last}", port))
+            for listening in map(stack.enter_context, bound_at_one_port(hosts)):
                 listening.listen(0)
-                port = listening.getsockname()[1]
-                found.append((socket.AF_INET, socket.SOCK_STREAM, 6, "", (f"127.0.0.{last}", port)))
+                place = listening.getsockname()
+                found.append((socket.AF_INET, socket.SOCK_STREAM, 6, "", place))
                 for _ in range(2):  # which fill its queue: no other one gets a reply
                     it = stack.enter_context(socket.socket())
                     it.setblocking(False)
-                    it.connect_ex(found[-1][4])
+                    it.connect_ex(place)
             server = Server(self.path("a"), registered(7))
-            host = ("ledger.example", port)
+            host = ("ledger.example", found[0][4][1])
             with mock.patch("socket.getaddrinfo", return_value=found):
-                with Socket([host, self.path("a")], timeout=2) as it:
+                with Socket([host, self.path("a")], timeout=4) as it:
                     self.assertEqual(it.exchange(0, register(7)), registered(7))
                 began = time.monotonic()
-                with Socket(host, timeout=0.5) as it, self.assertRaises(tb.CannotConnect):
+                with Socket(host, timeout=1) as it, self.assertRaises(tb.CannotConnect):
                     it.exchange(0, register(7))
-                self.assertLess(time.monotonic() - began, 1.5)
+                self.assertLess(time.monotonic() - began, 3.5)
             server.end()
 
     def test_a_name_that_is_looked_up_for_long(self):

@@ -28,7 +28,7 @@ from .layout import CLIENTS_MAX, HEADER
 from .transports import Closing
 from .values import MOMENT_MAX, U64, path_of, seconds, truth, whole
 
-CHUNK = 1 << 20
+CHUNK = 1 << 20  # bytes that are read at once, and the most that are kept of standard error
 SCRIPT_MAX = 256 << 20
 # what `tbd run --progress` says besides faults, the last of it when it serves
 READY = r"(ready)(?:: commit [0-9]+, time [0-9]+)?$"
@@ -178,7 +178,7 @@ class Program(Closing):
                     continue
             self._is_amid = True
             more = os.read(stderr.fileno(), CHUNK)
-            self.said += more
+            self.said = (self.said + more)[-CHUNK:]
             self.is_ready = any(it and it[1] for it in map(NEWS.match, self._lines()))
             self._is_amid = False
             if not more:
