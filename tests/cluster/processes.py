@@ -34,16 +34,17 @@ def slowed(words, seconds):
     return ["strace", *options, "-e", held, *words]
 
 
+HELD = []  # sockets at ports that the system gives to nobody else until the tests end
+
+
 def free_ports(count):
-    """Ports that nobody listens on."""
+    """Ports at which only the tests' programs listen: each of these sets SO_REUSEADDR."""
     held = [socket.socket() for _ in range(count)]
-    try:
-        for it in held:
-            it.bind(("127.0.0.1", 0))
-        return [it.getsockname()[1] for it in held]
-    finally:
-        for it in held:
-            it.close()
+    for it in held:
+        it.setsockopt(socket.SOL_SOCKET, socket.SO_REUSEADDR, 1)
+        it.bind(("127.0.0.1", 0))
+    HELD.extend(held)
+    return [it.getsockname()[1] for it in held]
 
 
 class Process:

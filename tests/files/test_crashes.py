@@ -2,6 +2,7 @@
 disk that is full.
 
     /usr/bin/python3 -m pytest tests/files/test_crashes.py [--rounds N] [--images N] [--seed N]
+    /usr/bin/python3 -m pytest -m quick tests/files/test_crashes.py     a short run, as in CI
 
 shim.c, which needs gcc, writes down each write, cut and sync of the file and each write of replies.
 From them the files are made that the disk may have at each moment: what was synced, and any bytes
@@ -16,6 +17,7 @@ import contextlib
 import functools
 import os
 import shutil
+import signal
 import struct
 import subprocess
 import threading
@@ -40,7 +42,8 @@ CASH, SALES = 1, 2
 SECONDS = 120 * tried.LONGER  # that a reply, an end and a check may take
 MAGIC, CLOSED = b"TBJRNL02", b"\x5a\xc3\x96\x69"
 FIRST = MAGIC + CLOSED
-pytestmark = [pytest.mark.slow, pytest.mark.usefixtures("counted")]
+QUICK_ROUNDS, QUICK_IMAGES = 14, 3  # of the run in CI
+pytestmark = pytest.mark.usefixtures("counted")
 
 
 def case(name, wrong):
@@ -212,15 +215,26 @@ def ended(process):
 
 
 def lives(run, shim, rounds, fault=""):
-    """Serves rounds in several lives, of which some are ended by a kill amid a write."""
+    """Serves rounds in several lives, of which the second and some later ones are ended by a kill
+    amid a write. Returns how many were killed."""
     process = run.start(shim, fault)
     run.open(process)
+    starts = kills = 0
     for number in range(rounds):
         if not run.round(process, run.some()) or number % 7 == 6:
-            ended(process)
+            kills += was_killed(run, process)
             kill = f"die {run.rng.randint(1, 9)} {run.rng.choice([0, 1, 9, 100, 400])}"
-            process = run.start(shim, fault or run.rng.choice(["", kill]))
-    ended(process)
+            process = run.start(shim, fault or (run.rng.choice(["", kill]) if starts else kill))
+            starts += 1
+    return kills + was_killed(run, process)
+
+
+def was_killed(run, process):
+    """Ends a life of a run. It is wrong unless it ends well, or by a kill."""
+    status = ended(process)
+    if status not in (0, -signal.SIGKILL):
+        run.wrong.append(f"a life ended with status {status}")
+    return status == -signal.SIGKILL
 
 
 # What the disk may have
@@ -362,16 +376,29 @@ class Images:
 # Cases
 
 
+@pytest.mark.slow
 def test_losses(tbd, tbs, folder, shim, rng, pytestconfig):
     """A run in several lives: all moments of it, and its dump."""
     rounds, count = pytestconfig.getoption("rounds"), pytestconfig.getoption("images")
+    lost_at_each_moment(Run(tbd, folder, "losses", rng), tbs, shim, rounds, count)
+
+
+@pytest.mark.quick
+def test_few_losses(tbd, tbs, folder, shim, rng):
+    """A short run: all moments of it, and its dump."""
     run = Run(tbd, folder, "losses", rng)
-    lives(run, shim, rounds)
-    case(f"{len(run.first)} requests in lives that kills end: each has one reply", run.wrong)
-    images = Images(run, folder, count, rng).follow()
+    lost_at_each_moment(run, tbs, shim, QUICK_ROUNDS, QUICK_IMAGES)
+
+
+def lost_at_each_moment(run, tbs, shim, rounds, count):
+    """What a power loss may leave at each moment of a run in several lives, and the run's dump."""
+    kills = lives(run, shim, rounds)
+    wrong = run.wrong if kills else ["no life was killed"]
+    case(f"{len(run.first)} requests, {kills} kills: each request has one reply", wrong)
+    images = Images(run, os.path.dirname(run.file), count, run.rng).follow()
     case(
         f"{images.judged} files that a power loss may leave, {images.opened} of them opened",
-        images.wrong,
+        images.wrong if images.opened else ["no file was opened"],
     )
     dumped(run, tbs)
 
@@ -403,6 +430,7 @@ def dumped(run, tbs):
     case(f"tbs replay gives the {len(run.first)} replies that were sent", wrong)
 
 
+@pytest.mark.slow
 def test_controls(tbd, folder, shim, rng):
     """A disk that drops syncs, and a program that answers before it commits, are caught."""
     for fault in ("nosync", "early 1"):
@@ -427,6 +455,7 @@ def test_controls(tbd, folder, shim, rng):
     case("caught by kills: early", [] if run.wrong else ["nothing was found"])
 
 
+@pytest.mark.slow
 def test_full(tbd, tbs, folder, rng):
     """A file system of 64 KiB is filled. With more room all that was acknowledged is there."""
     room = os.path.join(folder, "room")

@@ -153,6 +153,7 @@ def test_what_was_acknowledged_is_in_the_file(tbd, tmp_path, harm):
     """The file goes amid the rounds, and is looked at by another name that it has."""
     served = Served(tbd, tmp_path / "ledger")
     os.link(served.path, tmp_path / "beside") if served.opens() is None else None
+    assert served.round()
     slow = threading.Timer(0.2, harm, [served.path])
     slow.start()
     end = time.monotonic() + SECONDS

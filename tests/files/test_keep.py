@@ -334,7 +334,7 @@ def faulty(tbd, folder, shim, fault, status, name):
 def test_faults(tbd, folder, shim):
     """Calls on the file that fail once, or take a part."""
     for number in range(1, 51):
-        # The first two are those of the opening, of the file and of its folder.
+        # The first are those of the opening, of the file and of its folder.
         faulty(tbd, folder, shim, f"sync {number} {EIO}", 9, f"sync {number} fails")
     for number in range(1, 9):
         faulty(tbd, folder, shim, f"write {number} {EIO}", 1, f"write {number} fails")
@@ -1157,7 +1157,7 @@ def followers(tbd, folder, path, after):
     return going
 
 
-@pytest.mark.slow
+@pytest.mark.quick
 def test_follows(tbd, folder):
     """What is written of a file that is served, killed and served again: each entry once."""
     ledger = Ledger(tbd, folder, "followed")
@@ -1205,10 +1205,11 @@ def test_follows(tbd, folder):
 
 
 def shorter_file(tbd, folder, ledger):
-    """A dump that goes on ends if its file gets shorter than what it wrote."""
+    """A dump that goes on ends if its file gets shorter than what it wrote: all of it was."""
     path = shutil.copy(ledger.file, os.path.join(folder, "shorter.tbk"))
-    follower = followers(tbd, folder, path, 0)[0]
-    more_of(follower, 16)
+    follower, other = followers(tbd, folder, path, 0)
+    other.kill()
+    more_of(follower, len(dumped(tbd, folder, path)))
     os.truncate(path, 1000)
     told = ended(follower), follower.stderr.read().decode()
     case(
@@ -1218,7 +1219,8 @@ def shorter_file(tbd, folder, ledger):
 
 def closed_pipe(tbd, folder, ledger):
     """A dump that goes on ends if nobody reads it any more."""
-    follower = followers(tbd, folder, ledger.file, 0)[0]
+    follower, other = followers(tbd, folder, ledger.file, 0)
+    other.kill()
     follower.stdout.close()
     process = ledger.start()
     ledger.round(process, ledger.clients)

@@ -5,6 +5,8 @@
 """
 
 import subprocess
+import threading
+import time
 from pathlib import Path
 
 import pytest
@@ -14,6 +16,7 @@ LOG = (ROOT / "examples/first.log").read_bytes()
 FIRST = 385  # where the first of its three entries ends
 HEAD, ENTRY = 16, 64  # bytes of a dump's head, and of the first entry of the log's history
 SECONDS = 60
+LOOKS = 0.5  # seconds in which a dump that goes on looks at its file several times
 pytestmark = pytest.mark.quick
 
 
@@ -44,13 +47,18 @@ def test_entries_are_written_as_they_come(tbd, followed, words, start):
     path, follow = followed
     first = ran([tbd, "dump", path]).stdout
     dump = subprocess.Popen([tbd, "dump", path, *words, "--follow"], stdout=subprocess.PIPE)
+    late = threading.Timer(SECONDS, dump.kill)
+    late.start()
     try:
         assert dump.stdout.read(len(first) - start) == first[start:]
         follow()
         whole = ran([tbd, "dump", path]).stdout
         assert len(whole) > len(first)
         assert dump.stdout.read(len(whole) - len(first)) == whole[len(first) :]
+        time.sleep(LOOKS)
     finally:
         dump.terminate()
-        rest = dump.communicate(timeout=SECONDS)[0]
+        rest = dump.stdout.read()
+        late.cancel()
+        dump.wait(SECONDS)
     assert rest == b""

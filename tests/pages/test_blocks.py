@@ -67,7 +67,7 @@ def test_the_status_of_the_listener(clone):
     (clone.folder / "ranges").write_text(ranges.replace("user         alice", "user  root"))
     words = "--unix ledger.sock --status status.sock --clients ranges"
     with clone.started(f"apps/host/tb-listen {words} -- tbd run ledger.tbk 64"):
-        until((clone.folder / "ledger.sock").exists)
+        until((clone.folder / "status.sock").exists)
         asked = "import socket; it = socket.socket(socket.AF_UNIX); it.connect('status.sock'); "
         said = clone.run(f'/usr/bin/python3 -c "{asked}print(it.makefile().read())"')
     (shown,) = blocks("docs/use/LISTENER.md", "json")

@@ -2,11 +2,11 @@
 what they reply then.
 
 `tb_test_refusals` serves a script by each call that may run out of memory, and makes a refused call
-again. What is right comes from the frames of this file, from examples/first.replies, and from `tbs`
-when nothing is refused. All memory has to be given back after each run, whatever was refused. A
-loop that refuses nothing shows nothing: each case counts its refusals and has a least number of
-them. With `--every N` the first call is refused, and each N-th after it. refuse.c, which the
-programs are run over, needs cc and Linux.
+again; `tbs run`, `dump` and `replay` end at the first refusal. What is right comes from the frames
+of this file, from examples/first.replies, and from `tbs` when nothing is refused. All memory has to
+be given back after each run, whatever was refused. A loop that refuses nothing shows nothing: each
+case counts its refusals and has a least number of them. With `--every N` the first call is refused,
+and each N-th after it. refuse.c, which the programs are run over, needs cc and Linux.
 """
 
 import collections
@@ -24,6 +24,7 @@ from ..conftest import ROOT, found
 HERE = ROOT / "tests" / "programs"
 PROGRAM, AGAIN, KEEPER = map(found, ("tbs", "tb_test_refusals", "tbd"))
 SECONDS = 60  # that one run may take
+NO_MEMORY = "tbs: NoMemory"  # the line of a form that ends at its fault
 pytestmark = pytest.mark.slow
 Ran = collections.namedtuple("Ran", "status output lines asked refused blocks")
 
@@ -118,10 +119,10 @@ def chains():
 def evictions():
     """Three clients by turns in two places."""
     script = Script()
-    for client, session in (7, 1), (8, 2), (9, 3), (7, 4):
+    for client, session in (7, 1), (8, 3), (9, 5), (7, 7):
         script.pair(client, 0, 0, 2)
         script.pair(client, session, 1, ACCOUNTS, account(client) + account(100 + session))
-    script.pair(8, 2, 2, LOOK_ACCOUNTS, ids(7, 8))
+    script.pair(8, 3, 2, LOOK_ACCOUNTS, ids(7, 8))
     return script
 
 
@@ -206,18 +207,18 @@ def shown(counts):
     return ", ".join(f"{count} {name}" for name, count in sorted(counts.items()))
 
 
-# What is refused of the program's own, if no call says so: a block that would have become smaller
-OWN = "SetUp", "copy NoMemory", "no call"
+# What is refused of a program's own, if no call says so: a block that would have become smaller
+OWN = "SetUp", "copy NoMemory", "no call", "no reply"
 
 
-def each_growth(refuser, name, form, clients, script, judge, least, wanted):
-    """Each allocation refused in turn while a form serves a script: what `judge` says of each run,
-    all memory given back, and at least this many refusals of calls, each of the wanted kinds among
-    them.
+def each_growth(refuser, name, program, words, script, judge, least, wanted):
+    """Each allocation refused in turn while a program serves a script: what `judge` says of each
+    run, all memory given back, and at least this many refusals of calls, each of the wanted kinds
+    among them.
     """
     counts, whys = collections.Counter(), []
-    for at, ran in refuser.in_turn(AGAIN, [form, clients], script):
-        why = judge(ran)
+    for at, ran in refuser.in_turn(program, words, script):
+        why = judge(ran, at)
         if ran.blocks:
             why = why or f"{ran.blocks} blocks were not given back"
         if why:
@@ -232,10 +233,11 @@ def each_growth(refuser, name, form, clients, script, judge, least, wanted):
 
 
 def refusal_of(ran):
-    """Which call a run was refused at."""
+    """Which call a run was refused at. What `tbs` is refused before its first byte of output is
+    its words, its buffers, its machine or its first pair."""
+    if ran.lines == [NO_MEMORY]:
+        return NO_MEMORY if ran.output else "no reply"
     for line in ran.lines:
-        if line.startswith(("frame", "entering")):
-            return f"{line.split()[0]} NoMemory"
         if line == "SetUp" or line.endswith(
             ("NoMemory", "NoPlace", "NoCopy", "NoThread", "before", "behind", "Unpublished")
         ):
@@ -246,13 +248,13 @@ def refusal_of(ran):
 
 
 def set_up(ran):
-    return ran.status == 3 and ran.lines[-1:] == ["SetUp"] and ran.output == b""
+    return ran.refused and (ran.status, ran.lines[-1:], ran.output) == (3, ["SetUp"], b"")
 
 
 def answers(wanted):
     """The whole right answer, whatever was refused once."""
 
-    def judge(ran):
+    def judge(ran, _):
         if set_up(ran) or (ran.status, ran.output) == (0, wanted):
             return ""
         return f"status {ran.status}, {ran.lines}, {len(ran.output)} bytes of {len(wanted)}"
@@ -263,7 +265,7 @@ def answers(wanted):
 def calls_answer(replies, history):
     """As `answers`, or a server that ended because memory ran out, and a prefix of both."""
 
-    def judge(ran):
+    def judge(ran, _):
         if set_up(ran) or (ran.status, ran.output) == (0, replies + history):
             return ""
         if ran.status == 4 and "run NoMemory" in ran.lines:
@@ -283,7 +285,7 @@ def offers_stand(pairs, clients):
     """The history is that of the requests that were taken, without those at the places that were
     refused."""
 
-    def judge(ran):
+    def judge(ran, _):
         if set_up(ran):
             return ""
         if ran.status:
@@ -310,37 +312,32 @@ def ends(pairs, first=0):
     return all_ends
 
 
-def faults(script, starts, header, written):
-    """A run that ends at its fault: Frame(NoMemory) after a header whose body finds no room,
-    NoMemory after a whole pair, or before the first byte; and the output is what belongs to all
-    pairs before."""
-    whole = len(script)
+class Faults:
+    """A run that ends at its fault, NoMemory, and the output is what belongs to the pairs before
+    the refused allocation. A run over fewer pairs says how many allocations belong to them. `seen`
+    has the numbers of pairs before a refusal."""
 
-    def judge(ran):
-        if set_up(ran):
+    def __init__(self, refuser, words, pairs, head):
+        parts = [head + b"".join(pairs[:count]) for count in range(len(pairs) + 1)]
+        self.whole = [refuser.run(PROGRAM, words, it, "growth", 0) for it in parts]
+        self.seen = set()
+
+    def __call__(self, ran, at):
+        if (ran.status, ran.lines, ran.output) == (0, [], self.whole[-1].output):
             return ""
-        if ran.status or len(ran.lines) != 1:
+        if not ran.refused or (ran.status, ran.lines) != (1, [NO_MEMORY]):
             return f"status {ran.status}, {ran.lines}"
-        kind, unread, *name = ran.lines[0].split()
-        at = whole - int(unread)
-        if kind == "done":
-            return "" if ran.output == written[-1] and at == whole else "another output"
-        if name != ["NoMemory"]:
-            return f"another fault: {ran.lines[0]}"
-        begun = [it + header for it in starts[:-1]]
-        if kind == "frame" and at in begun:
-            return "" if ran.output == written[begun.index(at)] else f"another output at byte {at}"
-        if kind == "entering" and at in starts[1:]:
-            return (
-                ""
-                if ran.output == written[starts.index(at) - 1]
-                else f"another output at byte {at}"
-            )
-        if kind == "entering" and at <= 16:
-            return "" if ran.output in (b"", written[0]) else f"another output at byte {at}"
-        return f"{ran.lines[0]} at byte {at}"
+        before = sum(it.asked < at for it in self.whole) - 1
+        wanted = self.whole[before].output if before >= 0 else b""
+        if ran.output != wanted:
+            return f"{len(ran.output)} bytes, not the {len(wanted)} of {before} pairs"
+        self.seen.add(before)
+        return ""
 
-    return judge
+    def wanted(self):
+        """How many pairs are before each one that memory is allocated for; -1 is before all."""
+        asked = [-1] + [it.asked for it in self.whole]
+        return {k - 1 for k, (some, more) in enumerate(zip(asked, asked[1:])) if some < more}
 
 
 def dumped(script, clients):
@@ -365,21 +362,21 @@ def test_growth(refuser, name):
     each_growth(
         refuser,
         f"apply, {name}",
-        "apply",
-        clients,
+        AGAIN,
+        ["apply", clients],
         script.bytes,
         answers(replies),
         4,
         ["apply NoMemory"],
     )
-    taken = ["open NoMemory", "take NoMemory", "take Unpublished behind"] + ["answer NoMemory"] * (
+    taken = ["open NoMemory", "take NoMemory", "take Unpublished after"] + ["answer NoMemory"] * (
         name != "evictions"
     )
     each_growth(
         refuser,
         f"open, take and answer, {name}",
-        "take",
-        clients,
+        AGAIN,
+        ["take", clients],
         script.bytes,
         answers(replies + history),
         20,
@@ -395,8 +392,8 @@ def test_growth(refuser, name):
     each_growth(
         refuser,
         f"offers and a server, {name}",
-        "offer",
-        clients,
+        AGAIN,
+        ["offer", clients],
         script.bytes,
         offers_stand(script.pairs, clients),
         30,
@@ -412,8 +409,8 @@ def test_growth_next_to_a_server(refuser, name):
     each_growth(
         refuser,
         f"calls next to a server, {name}",
-        "call",
-        clients,
+        AGAIN,
+        ["call", clients],
         script.bytes,
         calls_answer(replies, history),
         30,
@@ -428,7 +425,7 @@ def test_storm(refuser):
     wanted, counts, whys = plain(PROGRAM, words, b"").output, collections.Counter(), []
     rights = {
         (0, wanted, ()): "made up for",
-        (1, b"", ("tbs: NoMemory",)): "NoMemory",
+        (1, b"", (NO_MEMORY,)): "NoMemory",
         (3, b"", ("tbs: GaveUp",)): "GaveUp",
     }
     for at, ran in refuser.in_turn(PROGRAM, words, b""):
@@ -449,43 +446,26 @@ def test_storm(refuser):
 
 
 def served(refuser, name, script, clients):
-    """`run`, `dump` with a mark, and `replay`."""
-    starts = [0] + ends(script.pairs)
-    written = beginnings(["run", clients], script.pairs)
-    each_growth(
-        refuser,
-        f"run, {name}",
-        "run",
-        clients,
-        script.bytes,
-        faults(script.bytes, starts, 56, written),
-        8,
-        [],
-    )
-    written = beginnings(["dump", clients, 2], script.pairs)
-    each_growth(
-        refuser,
-        f"dump, {name}",
-        "dump",
-        clients,
-        script.bytes,
-        faults(script.bytes, starts, 56, written),
-        8,
-        [],
-    )
+    """`tbs run`, `dump` with a mark, and `replay`."""
     head, entries = dumped(script.bytes, clients)
-    written = beginnings(["replay"], entries, head)
     dump = head + b"".join(entries)
-    each_growth(
-        refuser,
-        f"replay, {name}",
-        "replay",
-        clients,
-        dump,
-        faults(dump, [16] + ends(entries, 16), 64, written),
-        4,
-        [],
-    )
+    for words, source, pairs, first, least in (
+        (["run", clients], script.bytes, script.pairs, b"", 8),
+        (["dump", clients, 2], script.bytes, script.pairs, b"", 8),
+        (["replay"], dump, entries, head, 4),
+    ):
+        judge = Faults(refuser, words, pairs, first)
+        each_growth(
+            refuser,
+            f"{words[0]}, {name}",
+            PROGRAM,
+            words,
+            source,
+            judge,
+            least,
+            [NO_MEMORY],
+        )
+        assert refuser.every > 1 or judge.seen == judge.wanted(), f"{words}: {judge.seen}"
 
 
 MOST = 40
