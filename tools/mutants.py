@@ -58,12 +58,14 @@ SCRIPTS = {
     "files/test_forms.py": ([], {"tbd"}),
     "files/test_records.py": ([], {"tbd"}),
     "files/test_log_forms.py": ([], {"tbd", "tbs"}),
+    "files/test_log_dumps.py": ([], {"tbd"}),
     "files/test_rounds.py": ([], {"tbd", "tbs"}),
     "files/test_form_faults.py": ([], {"tbd"}),
     "files/test_keep.py": (
         ["-k", "not builds", "--kills", "3", "--flips", "20", "--cuts", "20"],
         {"tbd", "tbs"},
     ),
+    "files/test_crashes.py": (["-m", "quick"], {"tbd", "tbs"}),
 }
 PYTEST = ["/usr/bin/python3", "-m", "pytest", "-q", "-x", "-s", "-p", "no:cacheprovider"]
 
@@ -531,16 +533,24 @@ def read_words():
     return parser.parse_args()
 
 
+def wrong_patch(name):
+    """Why a patch of the folder can't be applied, if it can't."""
+    words = ["git", "apply", "--check", f"{FOLDER}/{name}"]
+    tried = subprocess.run(words, cwd=ROOT, capture_output=True, text=True, check=False)
+    return tried.stderr.strip() if tried.returncode else None
+
+
 def try_texts(mutants):
-    """Prints each bug that can't be planted; the exit status."""
-    wrong, texts = {}, {}
+    """Prints each bug or patch that can't be planted; the exit status."""
+    patches = [it for it in sorted(os.listdir(FOLDER)) if it.endswith(".patch")]
+    wrong, texts = {it: why for it in patches if (why := wrong_patch(it))}, {}
     for it in mutants:
         why = wrong_text(it) or wrong_behind(it, texts)
         if why:
             wrong[it.name] = why
     for name, why in wrong.items():
         print(f"{name}: {why}")
-    print(f"{len(mutants) - len(wrong)} passed, {len(wrong)} failed")
+    print(f"{len(mutants) + len(patches) - len(wrong)} passed, {len(wrong)} failed")
     return 1 if wrong else 0
 
 
