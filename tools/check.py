@@ -5,8 +5,9 @@ Installs the Debian packages of tools/packages.txt that are missing (as root; an
 their names and a failure), and runs `rt ci`. Over the programs that it built come formats, types,
 the quick tests of tests/, telovamish, books and the host, and the own tests of the four clients.
 After the proofs two lanes of parts run next to each other; what a part prints goes out when it has
-ended. The last line is 'N passed, M failed' over all parts; a part that cannot be run counts as one
-failure.
+ended. Tests that failed there are tried once more, alone: a busy machine may have stopped one for
+longer than it waits. What fails again has failed, and what then passes is named at the end. The
+last line is 'N passed, M failed' over all parts; a part that cannot be run counts as one failure.
 """
 
 import argparse
@@ -20,7 +21,7 @@ import sys
 import time
 from collections.abc import Callable
 from concurrent.futures import ThreadPoolExecutor
-from dataclasses import dataclass
+from dataclasses import dataclass, replace
 from pathlib import Path
 
 ROOT = Path(__file__).resolve().parent.parent
@@ -181,6 +182,17 @@ def run_all(parts: list[Part]) -> list[Counts]:
     return [run(it) for it in parts]
 
 
+def tried_again(part: Part, first: Counts) -> Counts:
+    """The counts of a part, of which what failed is run once more if it is tests that wait."""
+    passed, failed = first
+    if not failed or part.count is by_status:
+        return first
+    is_pytest = part.count is pytest_counts
+    words = [*part.words, "--last-failed"] if is_pytest else part.words
+    second = run(replace(part, name=f"{part.name}, once more", words=words))
+    return first if second[1] else (passed + failed, 0)
+
+
 def main() -> int:
     argparse.ArgumentParser(description=__doc__).parse_args()
     needed = missing()
@@ -191,7 +203,11 @@ def main() -> int:
     lanes = [[it for it in others if (it.count is pytest_counts) == of] for of in (True, False)]
     counts = [run(proofs, is_live=True)]
     with ThreadPoolExecutor() as pool:
-        counts += sum(pool.map(run_all, lanes), [])
+        firsts = list(zip(sum(lanes, []), sum(pool.map(run_all, lanes), [])))
+    for part, first in firsts:
+        counts.append(tried_again(part, first))
+        if counts[-1] != first:
+            print(f"{part.name}: {first[1]} failed beside other tests, and passed alone")
     passed, failed = (sum(it) for it in zip(*counts))
     print(f"{passed} passed, {failed} failed")
     return 1 if failed else 0

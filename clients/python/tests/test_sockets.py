@@ -82,7 +82,7 @@ def bound_at_one_port(hosts):
 
 class Ports(unittest.TestCase):
     def test_a_port_that_another_program_has(self):
-        """It is taken at the second host: another port is chosen."""
+        """It is taken at the second host: another is chosen, once or, on a busy machine, again."""
         bind, ports = socket.socket.bind, []
 
         class Bound(socket.socket):
@@ -96,7 +96,8 @@ class Ports(unittest.TestCase):
             some = bound_at_one_port(["127.0.0.1", "127.0.0.2"])
         port = some[0].getsockname()[1]
         self.assertEqual([it.getsockname()[1] for it in some], [port, port])
-        self.assertEqual((ports[0], ports[2:]), (0, [0, port]))
+        self.assertEqual((ports[0], ports[-2:]), (0, [0, port]))
+        self.assertGreaterEqual(len(ports), 4)
         for it in some:
             it.close()
 
