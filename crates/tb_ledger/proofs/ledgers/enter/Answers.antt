@@ -20,3 +20,9 @@ run_batch-requires-clause-ready g c =
 
 pub returns-in_err-reserve-2-clause-err : goal.returns-in_err-reserve-2-clause-err
 returns-in_err-reserve-2-clause-err g c = search rules
+
+pub returns-clause-books : goal.returns-clause-books
+returns-clause-books g c = search rules
+
+pub returns-clause-results : goal.returns-clause-results
+returns-clause-results g c = search rules
