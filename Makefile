@@ -15,7 +15,7 @@ run:
 	(cd crates/avl_tree && rt lib --jobs 2) & (cd crates/tb_records && rt lib --jobs 2); wait
 	@copy=$$(mktemp -d) && tar -c $(LEDGER:%=crates/%) | tar -x -C $$copy && \
 	    for it in $(LEDGER); do grep "^$$it:" crates.txt; done > $$copy/crates.txt && \
-	    { (cd $$copy/crates/tb_ledger && rt lib --jobs 2) & (cd crates/tb_sessions && rt lib --jobs 2); wait; }; \
+	    { (cd $$copy/crates/tb_ledger && rt lib) & (cd crates/tb_sessions && rt lib --jobs 2); wait; }; \
 	    cp -a $$copy/crates/tb_ledger/out crates/tb_ledger; \
 	    $(SERVE) && rt run -- run 2 < $$script | $(TELOVAMISH) replies; rm -rf $$script $$copy
 
