@@ -207,7 +207,7 @@ def main() -> int:
     for part, first in firsts:
         counts.append(tried_again(part, first))
         if counts[-1] != first:
-            print(f"{part.name}: {first[1]} failed beside other tests, and passed alone")
+            print(f"{part.name}: {first[1]} failed while other parts ran, and passed alone")
     passed, failed = (sum(it) for it in zip(*counts))
     print(f"{passed} passed, {failed} failed")
     return 1 if failed else 0
