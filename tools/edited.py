@@ -1,4 +1,4 @@
-"""What an edit is: the changes that its file lists, the crate as they leave it, and what a check of
+"""What an edit is: the changes that its text lists, the crate as they leave it, and what a check of
 the one function says at which the edit is refused."""
 import glob
 import os
@@ -17,37 +17,35 @@ class Misfit(Exception):
     """An edit that cannot be applied."""
 
 
-def said_of(path):
+def said_of(edit):
     """What the first lines of an edit say, by their words."""
-    with open(path, encoding="utf-8") as edit:
-        lines = [re.match(r"# ([a-z ]+): (\S.*)", line) for line in edit.read().split("\n")]
+    lines = [re.match(r"# ([a-z ]+): (\S.*)", line) for line in edit.split("\n")]
     return {it[1]: it[2] for it in lines if it and it[1] in HEADS}
 
 
-def changes_of(path):
+def changes_of(edit):
     """The changes of an edit in their order: the file, the old text and the new one."""
     file, old, changes = None, None, []
-    with open(path, encoding="utf-8") as edit:
-        for line in edit.read().split("\n"):
-            word, _, rest = line.partition(": ") if not line == "new:" else ("new", "", "")
-            if word == "file":
-                file = rest.strip()
-            elif word == "old":
-                old = rest
-            elif word == "new":
-                if not file or not old:
-                    raise Misfit("a 'new:' line comes before any 'file:' or 'old:' line")
-                changes.append((file, old, rest))
-                old = None
+    for line in edit.split("\n"):
+        word, _, rest = line.partition(": ") if not line == "new:" else ("new", "", "")
+        if word == "file":
+            file = rest.strip()
+        elif word == "old":
+            old = rest
+        elif word == "new":
+            if not file or not old:
+                raise Misfit("a 'new:' line comes before any 'file:' or 'old:' line")
+            changes.append((file, old, rest))
+            old = None
     if not changes:
         raise Misfit("it has no 'old:' and 'new:' pair")
     return changes
 
 
-def changed(home, *paths):
+def changed(home, *edits):
     """The files that edits change of a crate in the folder `home`, each with its text then."""
     texts = {}
-    for file, old, new in (it for path in paths for it in changes_of(path)):
+    for file, old, new in (it for edit in edits for it in changes_of(edit)):
         if file not in texts:
             texts[file] = text_of(home, file)
         found = texts[file].count(old)
@@ -64,33 +62,33 @@ def text_of(home, file):
         return source.read()
 
 
-def misfit(crate, path):
+def misfit(crate, edit):
     """Why an edit cannot be applied, or what it does not say; None if it can."""
-    missing = [f"no line '# {it}:'" for it in HEADS[:2] if it not in said_of(path)]
+    missing = [f"no line '# {it}:'" for it in HEADS[:2] if it not in said_of(edit)]
     if missing:
         return "it has " + " and ".join(missing)
     try:
-        changed(f"{ROOT}/crates/{crate}", path)
+        changed(f"{ROOT}/crates/{crate}", edit)
     except Misfit as why:
         return str(why)
     return None
 
 
-def function_of(home, path):
+def function_of(home, edit):
     """The function at which an edit says that it is refused, by the name that a check prints."""
-    place, *clauses = edited_at(path)
+    place, *clauses = edited_at(edit)
     law = re.fullmatch(r"the law (\w+)", place)
     if law:
         return stating(home, law[1]) or place
     if "the trait's clause" in clauses:
         module, _, method = place.rsplit("::", 2)
-        return f"{module}::{impl_of(home, path)}::{method}"
+        return f"{module}::{impl_of(home, edit)}::{method}"
     return place
 
 
-def edited_at(path):
+def edited_at(edit):
     """The place at which an edit says that it is refused: the function, and the clauses."""
-    return said_of(path)["refused at"].split(", ")
+    return said_of(edit)["refused at"].split(", ")
 
 
 def stating(home, law):
@@ -103,20 +101,20 @@ def stating(home, law):
     return None
 
 
-def impl_of(home, path):
+def impl_of(home, edit):
     """The impl that an edit changes, as a check prints it: `MemoryDevice`, `FaultFromRefusal`."""
-    file, old, _ = changes_of(path)[0]
+    file, old, _ = changes_of(edit)[0]
     before = text_of(home, file).partition(old)[0]
     head = re.findall(r"^impl\b.*? (?:\w+::)?(\w+)(?:<(\w+).*>)? for (\w+)", before, re.M)[-1]
     trait, argument, name = head
     return f"{name}{trait}{argument}"
 
 
-def is_within(home, path, function):
+def is_within(home, edit, function):
     """Whether an edit changes nothing outside of one function and its own proof."""
     name = function.rsplit("::", 1)[-1]
     whole = rf"^( *)(?:pub(?:\(crate\))? )?fn {name}\b.*?^\1\}}"
-    for file, old, _ in changes_of(path):
+    for file, old, _ in changes_of(edit):
         if file.startswith(f"proofs/{function.replace('::', '/')}/"):
             continue
         text = text_of(home, file)
@@ -130,9 +128,9 @@ def batches(home, edits):
     """The edits that one check can try, each with its function: a batch has edits that are all
     within functions of their own, or a single one that changes more."""
     alone, together = [], []
-    for name, path in edits.items():
-        function = function_of(home, path)
-        if not is_within(home, path, function):
+    for name, edit in edits.items():
+        function = function_of(home, edit)
+        if not is_within(home, edit, function):
             alone.append({name: function})
             continue
         free = (it for it in together if len(it) < MOST and function not in it.values())

@@ -6,19 +6,20 @@ cores.
     tools/edits.py --only [--jobs N] [CRATE ..]
     tools/edits.py --texts | --rules [CRATE ..]
 
-CI tries the edits in crates/CRATE/must-fail. This script tries those and the ones in
-crates/CRATE/must-fail-release: it copies the repository, with what is kept of earlier checks, puts
-all edits of a crate into its must-fail folder there, proves the libraries below, and runs `rt
-must-fail CRATE`, one job a crate. Run it before a release, and whenever a public clause or a
-definition changes. Ends in 'N passed, M failed': passed are the edits that the prover refused.
+CI tries the edits in crates/CRATE/must-fail, a file each. This script tries those and the ones in
+crates/CRATE/edits.txt: it copies the repository, with what is kept of earlier checks, puts all
+edits of a crate into its must-fail folder there, proves the libraries below, and runs `rt must-fail
+CRATE`, one job a crate. Run it before a release, and whenever a public clause or a definition
+changes. Ends in 'N passed, M failed': passed are the edits that the prover refused.
 
 --only checks the function alone that an edit names, by `rt check --only`, several edits in one
 check where each changes nothing outside of its function. It says how an edit is refused: at a goal
 that is printed, inside an answer, where a search met a limit. An edit that leaves its function
 proved counts as failed, whatever else it breaks.
 
-An edit begins with two lines that `rt` does not read: `# rule:`, what its body breaks, and
-`# refused at:`, the function at whose goal it is refused, with the clause where it is known.
+A file of must-fail begins with two lines that `rt` does not read: `# rule:`, what the body breaks,
+and `# refused at:`, the function at whose goal it is refused, with the clause where it is known. In
+edits.txt an edit is a block `# NAME: rule`, then `refused at:` and the lines that `rt` reads.
 --rules prints all rules, with their edits and functions.
 
 --texts proves nothing, and takes a second: it reports each edit whose old text is not in its file
@@ -26,8 +27,8 @@ exactly once, so that `rt must-fail` could not apply it, and each that lacks one
 """
 import collections
 import os
+import pathlib
 import re
-import shutil
 import subprocess
 import sys
 import tempfile
@@ -39,31 +40,48 @@ import repository
 import tried
 
 ROOT = repository.ROOT
-FOLDERS = ("must-fail", "must-fail-release")
 
 
 def edits_of(crate):
-    """The paths of a crate's edits. Two of one name would hide each other, so that is an error."""
-    paths = {}
-    for folder in FOLDERS:
-        at = f"{ROOT}/crates/{crate}/{folder}"
-        for name in sorted(os.listdir(at)) if os.path.isdir(at) else []:
-            if name.endswith(".edit"):
-                if name in paths:
-                    sys.exit(f"{crate}: two edits are called {name}")
-                paths[name] = f"{at}/{name}"
-    return paths
+    """The text of each edit of a crate by its name, as a file of must-fail has it. Two of one name
+    would hide each other, so that is an error."""
+    texts = {}
+    for name, text in (*in_files(crate), *in_list(crate)):
+        if name in texts:
+            sys.exit(f"{crate}: two edits are called {name}")
+        texts[name] = text
+    return texts
+
+
+def in_files(crate):
+    """The edits that CI tries, each in a file."""
+    for path in sorted(pathlib.Path(ROOT, "crates", crate, "must-fail").glob("*.edit")):
+        yield path.stem, path.read_text("utf-8")
+
+
+def in_list(crate):
+    """The other edits, each a block of one file."""
+    path = pathlib.Path(ROOT, "crates", crate, "edits.txt")
+    text = path.read_text("utf-8") if path.is_file() else ""
+    first, *blocks = re.split(r"^# ", text, flags=re.M)
+    if first.strip():
+        sys.exit(f"{crate}: edits.txt does not begin with '# NAME: rule'")
+    for block in blocks:
+        head, _, rest = block.partition("\n")
+        name, _, rule = head.partition(": ")
+        lines = re.sub("^refused at: ", "# refused at: ", rest, count=1).rstrip("\n")
+        yield name, f"# rule: {rule}\n{lines}\n"
 
 
 def table(edits):
     """A row for each rule of a crate, with its edits."""
     lines, last = ["| Crate | Rule | Edit | Refused at |", "|---|---|---|---|"], None
-    for crate, paths in edits.items():
+    for crate, texts in edits.items():
         rules = collections.defaultdict(list)
-        for name, path in paths.items():
-            said = edited.said_of(path)
+        for name, text in texts.items():
+            said = edited.said_of(text)
             if "rule" in said:
-                rules[said["rule"]].append((name.removesuffix(".edit"), said.get("refused at", "")))
+                rules[said["rule"]].append((name, said.get("refused at", "")))
         for rule, found in rules.items():
             names = ", ".join(name for name, _ in found)
             # A clause without a name is the function's only one.
@@ -81,15 +99,17 @@ def copy_into(room, crates):
     repository.kept(room)
     for crate, edits in crates.items():
         os.makedirs(f"{room}/crates/{crate}/must-fail", exist_ok=True)
-        for name, path in edits.items():
-            shutil.copy2(path, f"{room}/crates/{crate}/must-fail/{name}")
+        for name, text in edits.items():
+            pathlib.Path(room, "crates", crate, "must-fail", f"{name}.edit").write_text(
+                text, "utf-8"
+            )
 
 
 def try_texts(edits):
     """Reports each edit that cannot be applied."""
-    for crate, paths in edits.items():
-        for name, path in paths.items():
-            why = edited.misfit(crate, path)
+    for crate, texts in edits.items():
+        for name, text in texts.items():
+            why = edited.misfit(crate, text)
             tried.case(f"{crate}/{name}", why is None, why, quietly=True)
     return tried.status()
 
@@ -97,13 +117,13 @@ def try_texts(edits):
 def all_edits(chosen=()):
     """The edits of these crates, or of all that have some."""
     found = {crate: edits_of(crate) for crate in chosen or repository.crates()}
-    return {crate: paths for crate, paths in found.items() if paths}
+    return {crate: texts for crate, texts in found.items() if texts}
 
 
 def try_crate(room, crate, edits, told):
     """Runs `rt must-fail` for a crate, and prints what it says of each edit."""
     lines = edited.said_by_rt(room, "must-fail", crate)
-    said = dict(re.findall(rf"must-fail {crate}/([^ :]+): (.*)", lines))
+    said = dict(re.findall(rf"must-fail {crate}/([^ :]+)\.edit: (.*)", lines))
     for name in edits:
         told(crate, name, said.get(name, "NOT TRIED"))
 

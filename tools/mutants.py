@@ -54,18 +54,18 @@ NO_MEMORY = "not test_memory"
 SCRIPTS = {
     "programs/test_storms.py": (["--storms", "1"], {"tbs"}),
     "programs/test_tbs.py": (["-k", NO_MEMORY], {"tbs"}),
+    "programs/test_dumps.py": ([], {"tbs"}),
     "programs/test_pieces.py": ([], {"tbs"}),
     "files/test_forms.py": ([], {"tbd"}),
     "files/test_records.py": ([], {"tbd"}),
-    "files/test_log_forms.py": ([], {"tbd", "tbs"}),
-    "files/test_log_dumps.py": ([], {"tbd"}),
+    "files/test_follow.py": ([], {"tbd"}),
     "files/test_rounds.py": ([], {"tbd", "tbs"}),
     "files/test_form_faults.py": ([], {"tbd"}),
     "files/test_keep.py": (
         ["-k", "not builds", "--kills", "3", "--flips", "20", "--cuts", "20"],
         {"tbd", "tbs"},
     ),
-    "files/test_crashes.py": (["-m", "quick"], {"tbd", "tbs"}),
+    "files/test_crashes.py": (["-m", "not slow"], {"tbd", "tbs"}),
 }
 PYTEST = ["/usr/bin/python3", "-m", "pytest", "-q", "-x", "-s", "-p", "no:cacheprovider"]
 

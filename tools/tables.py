@@ -62,6 +62,8 @@ def whole(table, top):
     yield f"{COMMAND}/words.json", python.words(table)
     if os.path.isdir(f"{top}/clients/go"):
         yield "clients/go/names.go", go.whole(table)
+    if os.path.isdir(f"{top}/server"):
+        yield "server/internal/frames/layout.go", go.frames(table)
     if os.path.isdir(f"{top}/clients/java"):
         for name, text in java.files(table).items():
             yield f"{JAVA}/{name}", laid_out(f"{JAVA}/{name}", text)

@@ -1,4 +1,4 @@
-"""The names and layouts of the client in Go, as one file."""
+"""The names and layouts of the client in Go, as one file, and what the server reads of frames."""
 from . import table as t
 
 PACKAGE = "tbclient"
@@ -221,6 +221,36 @@ def sizes_of(table):
         wide = max(len(operation) for operation, _ in found) + 1
         lines += [f'\t{operation + ":":<{wide}} {size},' for operation, size in found] + ["}", ""]
     return "\n".join(lines)
+
+
+def frames(table):
+    """What a host reads of frames, as a package of its own: the headers' fields, and the sizes of
+    bodies."""
+    size, name = t.sizes(table), "reply_header"  # which has each field of a request's header
+    sizes = [
+        ("HeaderSize", "", size["header"], "bytes of the header of a request or reply"),
+        ("recordSize", "", size["record"], "bytes of an account or a transfer: the longest item"),
+    ]
+    fields = [
+        (name_of("at", field["name"]), "", field["at"], field["type"])
+        for field in t.fields(table, name)
+    ]
+    lines = [HEAD, "package frames\n", f'import "telovamish.org/{PACKAGE}"\n']
+    lines += [
+        block("// Sizes.", sizes),
+        block("// Where the fields of headers are: a request's has zeros for some.", fields),
+        "// itemSizes are the bytes of an item in the body of a request, and in that of its reply.",
+        f"func itemSizes(operation {PACKAGE}.Operation) (request, reply uint32) {{",
+        "\tswitch operation {",
+    ]
+    for row in table["operations"]:
+        if row["request"]:
+            pair = ", ".join(str(t.item_bytes(table, row[side])) for side in ("request", "reply"))
+            lines += [
+                f"\tcase {PACKAGE}.{name_of('Operation', row['name'])}:",
+                f"\t\treturn {pair}",
+            ]
+    return "\n".join([*lines, "\t}", "\treturn 0, 0", "}", ""])
 
 
 def places(table):

@@ -12,7 +12,7 @@ use Rattle.tb_sessions.specs.declared.classes.Class.{Class}
 use Rattle.tb_sessions.specs.declared.classes.Class.TheVariants.{Repeat}
 use Rattle.tb_sessions.specs.Judged.{row_of, class_of}
 use Rattle.tb_machine.specs.declared.entries.Entry.{Entry}
-use Rattle.tb_machine.specs.Histories.{State, is_lawful, reply_at, key_of, answer_by, answer_to}
+use Rattle.tb_machine.specs.Histories.{State, is_lawful, reply_at, session_of, key_of, answer_by, answer_to}
 use Rattle.tb_machine.specs.HistoryLaws.{KeysDiffer}
 use Rattle.tb_machine.specs.Dumps.{IsLegalWith}
 use Rattle.tb_machine.specs.MarkedLaws.{next_in}
@@ -32,6 +32,12 @@ use Rattle.tb_caller.proofs.Lists.{each_among, each_of_all, each_before}
 others_differ : (front : List Entry) (e : Entry) (rest : List Entry) → KeysDiffer (front ++ e ∷ rest) → Each (λ (other : Entry). key_of other ≢ key_of e) (front ++ rest)
 others_differ [] e rest differ = differ.0
 others_differ (x ∷ xs) e rest differ = (λ same. each_mid (λ (later : Entry). key_of later ≢ key_of x) xs e rest differ.0 (sym same), others_differ xs e rest differ.1)
+
+-- entries that hold one call have one key
+same_key : (e f : Entry) → e.request ≡ f.request → IsCall e.request → key_of e ≡ key_of f
+same_key e f same call =
+    let session : session_of e ≡ session_of f = session_numbered e call ∙ ap (λ (m : Message). m.session) same ∙ sym (session_numbered f (subst IsCall same call)) in
+    λ i. ((same i).client, session i, (same i).request)
 
 register_body : (b : Body) → is_register b ≡ true → b ≡ Register
 register_body Register is = refl
@@ -147,7 +153,9 @@ module _ (profile : Profile) (clients_max : ℕ) (mark : Option ℕ) where
         reply = is.reply;
         place = commit_is ∙ place_is;
         register = λ register. ap (λ (b : Answer). b.session) is.reply ∙ session_register is.entry (kind ∙ register) ∙ sym commit_is;
-        only = others_differ is.front is.entry is.rest (one_key_with profile clients_max mark (is.front ++ is.entry ∷ is.rest) (split is.front is.entry is.rest is.whole).0);
+        only = λ call. each-map (λ (other : Entry). key_of other ≢ key_of is.entry) (λ (other : Entry). other.request ≢ r) (is.front ++ is.rest)
+            (λ other differ same. differ (same_key other is.entry (same ∙ sym one_request) (subst IsCall (sym same) call)))
+            (others_differ is.front is.entry is.rest (one_key_with profile clients_max mark (is.front ++ is.entry ∷ is.rest) (split is.front is.entry is.rest is.whole).0));
       }
 
     -- the answer after a part of the history

@@ -1,5 +1,5 @@
 -- The premises of the worked schedule.
-use Rattle.std.proofs.Common.{ℕ, zero, suc, inl, inr, List, [], ◌∷◌, None, refl, arith}
+use Rattle.std.proofs.Common.{ℕ, zero, suc, inl, inr, List, [], ◌∷◌, refl, arith}
 use Rattle.std.specs.List.{All}
 use mathlib.Core.List.{IsPrefix}
 use Rattle.tb_records.specs.declared.limits.Profile.TheVariants.{One}
@@ -11,7 +11,7 @@ use Rattle.tb_machine.specs.Dumps.{IsLegalWith}
 use Rattle.tb_machine.specs.ReplyLaws.{HoldRequests}
 use Rattle.tb_caller.specs.Endpoints.{IsAmong}
 use Rattle.tb_caller.specs.Networks.{IsReadFrom}
-use Rattle.tb_caller.specs.Worked.{worked_register, worked_lookup, first, second_entry, answer_in, BothReturn}
+use Rattle.tb_caller.specs.Worked.{worked_register, worked_lookup, first, second_entry, mark, answer_in, BothReturn, LookupWaits}
 use Rattle.tb_caller.proofs.Frames.{answer_has_frame}
 
 register_is : IsRequest worked_register
@@ -27,8 +27,8 @@ lookup_is = record { client = omega arith; session = omega arith; request = omeg
 abbrev both : List Entry
 both = first ∷ second_entry ∷ []
 
-legal : IsLegalWith One 4 None both
-legal = (refl, (refl, tt))
+legal : IsLegalWith One 4 mark both
+legal = ((refl, tt), (refl, tt))
 
 requests : HoldRequests both
 requests = (register_is, (lookup_is, tt))
@@ -38,7 +38,7 @@ read : (given : List (List ℕ)) (seen : List Entry) (r : Message) → IsPrefix 
 read given seen r prefix is among = record {
   frame = reply_bytes (answer_in seen r);
   was_given = among;
-  spells = record { bytes_are = refl; is = answer_has_frame One 4 None seen both r legal requests prefix is };
+  spells = record { bytes_are = refl; is = answer_has_frame One 4 mark seen both r legal requests prefix is };
 }
 
 pub both_return : BothReturn
@@ -48,7 +48,7 @@ both_return = (
     (
       ((refl, tt, register_is), tt),
       (
-        ((refl, tt), register_is, λ ours. inl refl),
+        (((refl, tt), tt), register_is, λ ours. inl refl),
         (
           (([], refl), register_is),
           (
@@ -62,7 +62,7 @@ both_return = (
                   (
                     (([], refl), lookup_is),
                     (
-                      ((refl, (refl, tt)), lookup_is, λ ours. inl refl),
+                      (((refl, tt), (refl, tt)), lookup_is, λ ours. inl refl),
                       (
                         (tt, tt),
                         (
@@ -91,3 +91,25 @@ both_return = (
   ),
   refl,
 )
+
+pub lookup_waits : LookupWaits
+lookup_waits = record {
+  runs = (
+    (refl, tt),
+    (
+      ((refl, tt, register_is), tt),
+      (
+        (((refl, tt), tt), register_is, λ ours. inl refl),
+        (
+          (([], refl), register_is),
+          (
+            (inl refl, read _ (first ∷ []) worked_register (second_entry ∷ [], refl) register_is (inl refl)),
+            ((refl, tt), ((tt, tt), (((refl, refl, lookup_is), tt), tt))),
+          ),
+        ),
+      ),
+    ),
+  );
+  waits = refl;
+  has = (_, refl, refl);
+}

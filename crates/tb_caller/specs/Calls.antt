@@ -49,7 +49,8 @@ module _ (profile : Profile) (clients_max : ℕ) (mark : Option ℕ) where
     pub prefix : IsPrefix seen h
     pub answer : a ≡ answer_to (next_in profile clients_max mark seen) request
 
-  -- one entry of the history, which the reply names, holds the request, and gave this reply; no other entry has its key
+  -- one entry of the history, which the reply names, holds the request, and gave this reply. No other entry holds a call. A register's session is
+  -- that of this entry; after an eviction another entry may hold it too
   pub record IsOnce (h : List Entry) (r : Message) (a : Answer) : Type 0 where
     pub front : List Entry
     pub entry : Entry
@@ -59,7 +60,7 @@ module _ (profile : Profile) (clients_max : ℕ) (mark : Option ℕ) where
     pub reply : a ≡ reply_at (next_in profile clients_max mark front) entry
     pub place : a.commit ≡ length front + 1
     pub register : is_register r.body ≡ true → a.session ≡ a.commit
-    pub only : Each (λ (other : Entry). key_of other ≢ key_of entry) (front ++ rest)
+    pub only : IsCall r → Each (λ (other : Entry). other.request ≢ r) (front ++ rest)
 
 -- an entry with the call's key holds the call
 abbrev pub HoldsCall : Message → Entry → Type 0
@@ -71,9 +72,9 @@ InOrder id h = (front : List Entry) (e : Entry) (rest : List Entry) → h ≡ fr
     → Each (λ (x : Entry). x.request.client ≡ id → IsCall x.request → x.request.request < e.request.request) front
 
 pub record CallsHold (profile : Profile) (clients_max : ℕ) (mark : Option ℕ) (id : ℕ) (h : List Entry) (sent : List Message) (returned : List (Message × Answer)) : Type 0 where
-  -- a request that returned a reply is in the history once, and its entry gave this reply
+  -- a call that returned a reply is in the history once, a register in the entry of its session, and this entry gave the reply
   pub once : Each (λ (p : Message × Answer). IsOnce profile clients_max mark h p.0 p.1) returned
-  -- a call that was sent is in the history at most once, whatever became of it
+  -- no two entries have one client, session and number: a call that was sent is in the history at most once, whatever became of it
   pub keys : KeysDiffer h
   pub at_most : Each (λ (r : Message). IsCall r → Each (HoldsCall r) h) sent
   -- the calls are there in their order

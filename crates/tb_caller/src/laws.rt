@@ -2,7 +2,7 @@
 ghost use Rattle.tb_caller.specs.CallLaws.{FieldsAreRight, InHistory, InLog, InScript, OneClient, OverForGood};
 ghost use Rattle.tb_caller.specs.Networks.{CallsOnce, NeverRefused};
 ghost use Rattle.tb_caller.specs.Streams.{ReadsWhatWasSent};
-ghost use Rattle.tb_caller.specs.Worked.{BothReturn};
+ghost use Rattle.tb_caller.specs.Worked.{BothReturn, LookupWaits};
 
 /// Whatever it hears, and wherever its process ends: all that a client sends is its one register, and calls of one session,
 /// no two with the same number, numbers in the order of sending. Each has a frame. The session is that of a register's
@@ -55,7 +55,8 @@ pub fn never_refused()
     ensures { NeverRefused }
 {}
 
-/// A schedule in which a register and a lookup return.
+/// A schedule in which a register and a lookup return, with the change to profile 2 between them.
 pub fn both_return()
-    ensures { BothReturn }
+    ensures returns { BothReturn }
+    ensures waits { LookupWaits }
 {}

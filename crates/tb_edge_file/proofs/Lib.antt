@@ -1,8 +1,10 @@
 pub mod CopiedFiles
+pub mod CutCopies
 pub mod FirstBytes
 pub mod Lengths
 pub mod Lives
 pub mod Mends
+pub mod NamedDisks
 pub mod PartCauses
 pub mod DumpPrefixes
 pub mod Passing

@@ -5,7 +5,8 @@ use Rattle.tb_records.specs.declared.devices.Sink as sinks
 use Rattle.tb_records.specs.declared.devices.Source as sources
 use Rattle.tb_file_journal.specs.declared.devices.Device as devices
 use Rattle.tb_file.specs.declared.recovering.Rules.{Rules}
-use Rattle.tb_edge_commands.specs.Streams.{Change, OnStreams, Streams, new, old}
+use Rattle.tb_edge_commands.specs.Streams.{Change, Streams, new, old, streams}
+use Rattle.tb_edge_file.specs.declared.ends.Pipes.{Pipes}
 use Rattle.tb_edge_file.specs.declared.openers.Opener as openers
 use Rattle.tb_edge_file.specs.declared.openers.OpeningFault.{OpeningFault}
 
@@ -40,9 +41,14 @@ pub record KnownEnds (O D E R W L : Type 0) : Type 1 where
   pub gone : W → Type 0
   pub lines : sinks.Ghosts L
 
--- a relation of the streams between the ends of a command, before it and after it
-abbrev pub OnEnds : {O D E R W L : Type 0} → KnownEnds O D E R W L → (Streams → Streams → Type 0) → Change R → Change W → Change L → Type 0
-OnEnds its = OnStreams its.source its.sink its.lines
+-- a relation of the contents of a reader, a writer and a writer of lines, before a call and after it
+abbrev pub OnPipes : {R W L : Type 0} → sources.Ghosts R → sinks.Ghosts W → sinks.Ghosts L → (Streams → Streams → Type 0) → Change (Pipes R W) → Change L → Type 0
+OnPipes source sink lines Does pipes faults =
+    Does (streams source sink lines (old pipes).reader (old pipes).writer (old faults)) (streams source sink lines (new pipes).reader (new pipes).writer (new faults))
+
+-- the same between the ends of a command
+abbrev pub OnEnds : {O D E R W L : Type 0} → KnownEnds O D E R W L → (Streams → Streams → Type 0) → Change (Pipes R W) → Change L → Type 0
+OnEnds its = OnPipes its.source its.sink its.lines
 
 -- done, or the fault by the name that this form has for it
 abbrev pub outcome_by : {T F G : Type 0} → (F → G) → Result T F → Result (Unit {0}) G

@@ -27,6 +27,9 @@ use Rattle.tb_machine.specs.declared.serving.RunFault.{RunFault}
 use Rattle.tb_machine.specs.declared.serving.RunFault.TheVariants as run
 use Rattle.tb_machine.specs.RunFaults.{run_fault_name}
 use Rattle.tb_machine.specs.Restoring.{unfit_name}
+use Rattle.tb_log.specs.Faults.{log_fault_name}
+use Rattle.tb_log.specs.declared.faults.LogFault.{LogFault}
+use Rattle.tb_log.specs.declared.faults.LogFault.TheVariants as log
 use Rattle.tb_file.specs.declared.faults.DumpFault.{DumpFault}
 use Rattle.tb_file.specs.declared.faults.DumpFault.TheVariants as dump
 use Rattle.tb_file.specs.declared.faults.KeepFault.{KeepFault}
@@ -40,7 +43,7 @@ use Rattle.tb_edge_file.specs.declared.faults.KeepCommandFault.{KeepCommandFault
 use Rattle.tb_edge_file.specs.Asides.{uncopied_text}
 use Rattle.tb_edge_file.specs.declared.asides.Reason.{Reason}
 use Rattle.tb_edge_file.specs.declared.asides.Reason.TheVariants as reasons
-use Rattle.tb_edge_file.specs.declared.faults.KeepCommandFault.TheVariants.{Usage, Device, Opening, Making, NoMemory, Request, NotAJournal, NoHead, Damaged, OtherRules, Full, SyncFailed, Gone, NotCopied}
+use Rattle.tb_edge_file.specs.declared.faults.KeepCommandFault.TheVariants.{Usage, Device, Opening, Making, NoMemory, Request, Item, NotAJournal, NoHead, Damaged, OtherRules, Full, SyncFailed, Gone, NotCopied}
 use Rattle.tb_edge_file.specs.declared.faults.Failed.{Failed}
 use Rattle.tb_edge_file.specs.declared.faults.Failed.TheVariants.{Input, Output as OutputSide, File, New}
 use Rattle.tb_edge_file.specs.declared.faults.Mismatch.{Mismatch}
@@ -57,7 +60,6 @@ use Rattle.tb_edge_file.specs.declared.help.TheConstants.{USAGE}
 use Rattle.tb_edge_file.specs.declared.openers.OpeningFault.{OpeningFault}
 use Rattle.tb_edge_file.specs.declared.openers.OpeningFault.TheVariants as opening
 use Rattle.tb_edge_file.specs.declared.reports.Reported.{Reported}
-use Rattle.tb_edge_file.specs.declared.lines.WrongEntry.{WrongEntry}
 use Rattle.tb_edge_file.specs.Printable.{printable}
 
 -- the fault of a command for each fault of the system and of the libraries
@@ -153,6 +155,12 @@ read_fault pipe (run.Frame frame.NoMemory) = NoMemory
 read_fault pipe run.NoMemory = NoMemory
 read_fault pipe fault = Request fault
 
+-- the fault of an item of a log that is not served, or of its reply; if a pipe failed, it is this one
+abbrev pub item_fault : Failed → LogFault → KeepCommandFault
+item_fault pipe log.Device = Device pipe
+item_fault pipe log.NoMemory = NoMemory
+item_fault pipe fault = Item fault
+
 abbrev pub kept_fault : Failed → KeepFault → KeepCommandFault
 kept_fault pipe (keep.Serving fault) = read_fault pipe fault
 kept_fault pipe (keep.Journal fault) = disk_fault fault
@@ -182,6 +190,7 @@ file_exit_status (Opening fault) = opening_exit_status fault
 file_exit_status (Making fault) = opening_exit_status fault
 file_exit_status Usage = 2
 file_exit_status (Request fault) = 2
+file_exit_status (Item fault) = 2
 file_exit_status (NotAJournal kind) = 5
 file_exit_status NoHead = 5
 file_exit_status (Damaged damage) = 6
@@ -207,10 +216,6 @@ named first path last = first ++ (printable path ++ last)
 abbrev pub line_of : List ℕ → List ℕ
 line_of text = text ++ codes "\n"
 
--- the line of what is wrong at a place
-abbrev pub place_line : List ℕ → ℕ → List ℕ → List ℕ
-place_line first place what = line_of (numbered first place ++ (codes ": " ++ what))
-
 abbrev pub damage_text : Damage → List ℕ
 damage_text (Block at entry) = codes "at byte " ++ decimal at
 damage_text (Record place fault) = codes "record " ++ decimal place ++ (codes ": " ++ fault_name fault)
@@ -235,9 +240,6 @@ harm_text (Torn at bytes) = counted_text bytes (codes " bytes are after byte ") 
 abbrev pub damaged_text : List ℕ → Damage → List ℕ → List ℕ → List ℕ
 damaged_text first damage path next = named first path (codes ": ") ++ (harm_text damage ++ next)
 
-abbrev pub damage_line : Damage → List ℕ → List ℕ → List ℕ
-damage_line damage path next = line_of (damaged_text (codes "tbd: Damaged: ") damage path next)
-
 -- the head is known to be damaged: without it no file is read
 abbrev pub is_of_head : Damage → Bool
 is_of_head (Block at (Some n)) = n == 0
@@ -248,11 +250,6 @@ abbrev pub next_of : Damage → List ℕ
 next_of damage =
     if is_of_head damage then codes "; restore a backup: tbd salvage needs the head"
     else codes "; tbd salvage makes a new file of the entries before it"
-
--- what is wrong with an entry in the file of this path, and what to do about it
-abbrev pub wrong_text : WrongEntry → List ℕ → List ℕ → List ℕ
-wrong_text wrong path next =
-    named (codes "tbd: Damaged: ") path wrong.before.now ++ (counted_text wrong.number wrong.after.now ++ (wrong.name.now ++ next))
 
 abbrev pub sync_text : List ℕ → List ℕ
 sync_text path = named (codes "SyncFailed: ") path (codes ": restart the machine or copy the file before the next start")
@@ -275,7 +272,7 @@ opening_text opening.Dangling path = named (codes "Device: ") path (codes " is a
 opening_text opening.Unopened path = named (codes "Device: cannot open ") path (codes "; look at its disk and at its folder")
 opening_text opening.Unread path = named (codes "Device: ") path (codes ": a read or write failed; look at the disk, and start again")
 opening_text opening.Full path = full_text path
-opening_text opening.Empty path = codes "NotAJournal: " ++ (printable path ++ codes " is empty; without --existing tbd run makes a ledger in it, and tbd follow a log")
+opening_text opening.Empty path = codes "NotAJournal: " ++ (printable path ++ codes " is empty; without --existing tbd run makes a ledger in it")
 
 -- why a new file was not made, or not to its end: it then has a prefix of what was to be in it
 abbrev pub making_text : OpeningFault → List ℕ → List ℕ
@@ -295,15 +292,13 @@ failed_text New path = named (codes "Device: ") path (codes ": a read or write f
 abbrev pub kind_text : FileKind → List ℕ → List ℕ
 kind_text kind.Unread path = codes "NotAJournal"
 kind_text kind.Empty path = codes "NotAJournal: " ++ (printable path ++ codes " is empty; tbd run makes a ledger in it")
-kind_text kind.Former path = codes "NotAJournal: " ++ (printable path ++ codes " has the former format TBJRNL01; tools/convert_journal.py makes a new file of it")
 kind_text kind.Dump path = codes "NotAJournal: " ++ (printable path ++ codes " is a dump; tbs replay and telovamish dump read it")
-kind_text kind.NoRecord path = codes "NotAJournal: " ++ (printable path ++ codes " has no record yet; tbd run makes a ledger in it, and tbd follow a log")
+kind_text kind.NoRecord path = codes "NotAJournal: " ++ (printable path ++ codes " has no record yet; tbd run makes a ledger in it")
 kind_text kind.Closed path =
     codes "NotAJournal: " ++ (printable path ++ codes " has a closed first latch at byte 8 and bytes after it; restore a backup if it had a record: tbd salvage finds none, and tbd run may cut these bytes off and begin a new ledger")
 kind_text kind.Begun path =
     codes "NotAJournal: " ++ (printable path ++ codes " ends before its first record; restore a backup if it had one, or start without --existing")
 kind_text kind.Ledger path = codes "NotAJournal: " ++ (printable path ++ codes " is a ledger; tbd run serves it")
-kind_text kind.Log path = codes "NotAJournal: " ++ (printable path ++ codes " is a log; tbd follow serves it")
 kind_text kind.Script path = codes "NotAJournal: " ++ (printable path ++ codes " is a script; tbs and tbd run read it as standard input")
 kind_text kind.Text path = codes "NotAJournal: " ++ (printable path ++ codes " is a text; telovamish script makes request frames of statements")
 kind_text kind.Other path = codes "NotAJournal: " ++ (printable path ++ codes " does not begin as a ledger's file")
@@ -320,6 +315,18 @@ abbrev pub mismatch_text : Option Mismatch → List ℕ → List ℕ
 mismatch_text None path = named (codes "OtherRules: ") path (codes " was made with others; tbd check shows them")
 mismatch_text (Some both) path = (codes "OtherRules: " ++ (printable path ++ codes " was made with ")) ++ both_text both (codes ", not with ")
 
+-- what is wrong with an item of a log, and where
+abbrev pub item_text : LogFault → List ℕ
+item_text (log.UnknownKind kind) = numbered (codes "UnknownKind ") kind ++ codes ": standard input goes on with no item; those before it were answered"
+item_text log.Short = codes "Short: standard input ends within an item; those before it were answered"
+item_text (log.Gap at) = numbered (codes "Gap at ") at
+item_text (log.Repeat at) = numbered (codes "Repeat at ") at
+item_text (log.TooLong at) = numbered (codes "TooLong at ") at
+item_text (log.Damaged at) = numbered (codes "Damaged at ") at
+item_text (log.TimeExhausted at) = numbered (codes "TimeExhausted at ") at
+item_text (log.BadEntry at fault) = numbered (codes "BadEntry at ") at ++ (codes ": " ++ fault_name fault)
+item_text fault = log_fault_name fault
+
 -- the fault's name, and after it what more there is to say, over a file of this path
 abbrev pub fault_text : KeepCommandFault → List ℕ → List ℕ
 fault_text Usage path = codes "Usage: a word is not UTF-8"
@@ -328,6 +335,7 @@ fault_text (Opening fault) path = opening_text fault path
 fault_text (Making fault) path = making_text fault path
 fault_text NoMemory path = codes "NoMemory"
 fault_text (Request fault) path = run_fault_name fault ++ codes ": the next request on standard input is refused; those before it were answered"
+fault_text (Item fault) path = item_text fault
 fault_text (NotAJournal kind) path = kind_text kind path
 fault_text NoHead path = named (codes "NotAJournal: ") path (codes " has a first record that is no ledger's head; restore a backup")
 fault_text (Damaged damage) path = damaged_text (codes "Damaged: ") damage path (next_of damage)
@@ -476,6 +484,15 @@ line_of_a_new_file_that_is_not_whole = refl
 pub line_of_a_request :
     file_fault_line (Request (run.Frame frame.Short)) [] ≡ codes "tbd: Short: the next request on standard input is refused; those before it were answered\n"
 line_of_a_request = refl
+
+pub line_of_a_gap : file_fault_line (Item (log.Gap 2)) [] ≡ codes "tbd: Gap at 2\n"
+unfolding digits
+line_of_a_gap = refl
+
+pub line_of_no_item :
+    file_fault_line (Item (log.UnknownKind 3)) [] ≡ codes "tbd: UnknownKind 3: standard input goes on with no item; those before it were answered\n"
+unfolding digits
+line_of_no_item = refl
 
 pub line_of_a_new_name : file_fault_line (Making opening.Exists) (codes "new") ≡ codes "tbd: Usage: new exists; give the name of one that is not there\n"
 unfolding printable chars lib.Utf8.encode

@@ -28,23 +28,18 @@ abbrev pub run_form : Option ℕ → Profile → Options → Option Form
 run_form None profile options = None
 run_form (Some clients_max) profile options = Some (form.Run clients_max profile options)
 
-abbrev pub follow_by : Option ℕ → Profile → Options → Option Form
-follow_by None profile options = None
-follow_by (Some clients_max) profile options = Some (form.Follow clients_max profile options)
-
-abbrev pub memory_by : Option ℕ → Profile → Option Form
-memory_by None profile = None
-memory_by (Some clients_max) profile = Some (form.Memory clients_max profile)
+abbrev pub follow_form : Option ℕ → Profile → Option Form
+follow_form None profile = None
+follow_form (Some clients_max) profile = Some (form.Follow clients_max profile)
 
 -- the form that is asked for, by what is given for it
 abbrev pub form_by : FormName → Given → Option Form
 form_by name.Run given = run_form given.clients_max given.profile (given_options given)
 form_by name.Dump given = Some (form.Dump given.after given.follow)
-form_by name.Follow given = follow_by given.clients_max given.profile (given_options given)
+form_by name.Follow given = follow_form given.clients_max given.profile
 form_by name.Check given = Some (form.Check given.quick)
 form_by name.Salvage given = Some form.Salvage
 form_by name.Backup given = Some form.Backup
-form_by name.Memory given = memory_by given.clients_max given.profile
 form_by name.Help given = Some (form.Help name.Help)
 form_by name.Version given = Some form.Version
 
@@ -88,10 +83,9 @@ ReadsForm (Err wrong) form file new = form ≡ Err wrong
 abbrev pub IsRead : Result Command Wrong → List (List ℕ) → Type 0
 IsRead read words = ReadsForm read (command_form words) (file_word words) (new_word words)
 
--- the options of `run` and `follow`
+-- the options of `run`
 abbrev pub options_in : Form → Options
 options_in (form.Run clients_max profile options) = options
-options_in (form.Follow clients_max profile options) = options
 options_in asked = record { reports = false; existing = false; drops = false }
 
 -- rows
@@ -125,24 +119,21 @@ pub the_new_file_is_the_second : new_word (codes "backup" ∷ codes "ledger" ∷
 unfolding asked_in
 the_new_file_is_the_second = refl
 
-pub no_log_of_profile_two_is_made : command_form (codes "follow" ∷ codes "log" ∷ codes "64" ∷ codes "2" ∷ codes "--existing" ∷ [])
-    ≡ Ok (form.Follow 64 Two (record { reports = false; existing = true; drops = false }))
+pub a_log_is_followed : command_form (codes "follow" ∷ codes "64" ∷ []) ≡ Ok (form.Follow 64 One)
 unfolding asked_in
-no_log_of_profile_two_is_made = refl
+a_log_is_followed = refl
 
-pub both_options_of_a_log : command_form (codes "follow" ∷ codes "--drop-torn" ∷ codes "log" ∷ codes "64" ∷ codes "--existing" ∷ [])
-    ≡ Ok (form.Follow 64 One (record { reports = false; existing = true; drops = true }))
+pub a_log_is_followed_by_profile_two : command_form (codes "follow" ∷ codes "64" ∷ codes "2" ∷ []) ≡ Ok (form.Follow 64 Two)
 unfolding asked_in
-both_options_of_a_log = refl
+a_log_is_followed_by_profile_two = refl
 
-pub a_log_in_memory : command_form (codes "follow-memory" ∷ codes "64" ∷ []) ≡ Ok (form.Memory 64 One)
+pub no_log_is_in_a_file : command_form (codes "follow" ∷ codes "log" ∷ codes "64" ∷ []) ≡ Err (record { shown = 2; fault = fault.Wrong operand.ClientsMax })
 unfolding asked_in
-a_log_in_memory = refl
+no_log_is_in_a_file = refl
 
-pub no_start_of_a_log_is_reported : command_form (codes "follow" ∷ codes "log" ∷ codes "64" ∷ codes "--progress" ∷ [])
-    ≡ Err (record { shown = 4; fault = fault.NoOption name.Follow })
+pub a_log_has_no_options : command_form (codes "follow" ∷ codes "64" ∷ codes "--existing" ∷ []) ≡ Err (record { shown = 3; fault = fault.NoOption name.Follow })
 unfolding asked_in
-no_start_of_a_log_is_reported = refl
+a_log_has_no_options = refl
 
 pub a_check_is_quick : command_form (codes "check" ∷ codes "--quick" ∷ codes "./64" ∷ []) ≡ Ok (form.Check true)
 unfolding asked_in

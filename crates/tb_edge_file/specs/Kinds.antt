@@ -4,8 +4,8 @@ use Rattle.std.specs.List.{list_all}
 use Rattle.std.specs.Cmp.Lexicographic.{pointwise}
 use Rattle.tb_file_journal.specs.declared.faults.JournalFault.{JournalFault}
 use Rattle.tb_edge_file.specs.declared.kinds.FileKind.{FileKind}
-use Rattle.tb_edge_file.specs.declared.kinds.TheConstants.{DUMP, FORMER, HEAD, JOURNAL, MARK, NO_RECORD, REGISTER}
-use Rattle.tb_edge_file.specs.declared.kinds.FileKind.TheVariants.{Unread, Empty, Former, Dump, NoRecord, Closed, Begun, Ledger, Log, Script, Text, Other}
+use Rattle.tb_edge_file.specs.declared.kinds.TheConstants.{DUMP, HEAD, JOURNAL, NO_RECORD, REGISTER}
+use Rattle.tb_edge_file.specs.declared.kinds.FileKind.TheVariants.{Unread, Empty, Dump, NoRecord, Closed, Begun, Ledger, Script, Text, Other}
 
 -- bytes that begin with a prefix
 abbrev pub begins : List ℕ → List ℕ → Bool
@@ -24,13 +24,12 @@ begins_at at prefix bytes = if nat_lt (length bytes) at then false else begins p
 abbrev pub unrecorded_kind : List ℕ → FileKind
 unrecorded_kind first = if nat_lt (length NO_RECORD.now) (length first) then Closed else NoRecord
 
--- a journal whose first latch is closed, or that ends before its first record; or whose first record, at byte 19, begins as a ledger's or a log's
+-- a journal whose first latch is closed, or that ends before its first record; or whose first record, at byte 19, begins as a ledger's
 abbrev pub journal_kind : List ℕ → FileKind
 journal_kind first =
     if begins NO_RECORD.now first then unrecorded_kind first
     else if begins first NO_RECORD.now then Begun
     else if begins_at 19 HEAD.now first then Ledger
-    else if begins_at 19 MARK.now first then Log
     else Other
 
 -- by the first 56 bytes of the file, or all if it has fewer. In a script the header of a request to register has a moment of 8 bytes before it
@@ -38,7 +37,6 @@ journal_kind first =
 abbrev pub file_kind : List ℕ → FileKind
 file_kind first =
     if nat_eq (length first) 0 then Empty
-    else if begins FORMER.now first then Former
     else if begins DUMP.now first then Dump
     else if begins JOURNAL.now first || begins first JOURNAL.now then journal_kind first
     else if begins_at 24 REGISTER.now first then Script
@@ -55,9 +53,6 @@ kind_by (Err fault) file = Unread
 pub a_dump : file_kind (codes "TBSDUMP1" ++ 1 ∷ 0 ∷ 0 ∷ 0 ∷ 2 ∷ 0 ∷ 0 ∷ 0 ∷ []) ≡ Dump
 a_dump = refl
 
-pub a_file_of_the_former_format : file_kind (codes "TBJRNL01" ++ 90 ∷ []) ≡ Former
-a_file_of_the_former_format = refl
-
 pub a_journal_without_a_record : file_kind (codes "TBJRNL02" ++ 90 ∷ 195 ∷ 150 ∷ 105 ∷ []) ≡ NoRecord
 a_journal_without_a_record = refl
 
@@ -71,8 +66,8 @@ a_closed_latch_and_a_head = refl
 pub the_first_bytes_alone : file_kind (codes "TBJRNL02") ≡ Begun
 the_first_bytes_alone = refl
 
-pub a_log : file_kind (codes "TBJRNL02" ++ 255 ∷ 255 ∷ 255 ∷ 255 ∷ 9 ∷ 0 ∷ 0 ∷ 1 ∷ 2 ∷ 3 ∷ 4 ∷ codes "TBF1") ≡ Log
-a_log = refl
+pub a_ledger : file_kind (codes "TBJRNL02" ++ 255 ∷ 255 ∷ 255 ∷ 255 ∷ 6 ∷ 0 ∷ 0 ∷ 1 ∷ 2 ∷ 3 ∷ 4 ∷ codes "TBK1") ≡ Ledger
+a_ledger = refl
 
 pub a_text : file_kind (codes "register 7\n") ≡ Text
 a_text = refl

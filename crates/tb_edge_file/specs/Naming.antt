@@ -20,7 +20,7 @@ use Rattle.tb_edge_file.specs.declared.faults.Damage.TheVariants.{Block}
 use Rattle.tb_edge_file.specs.declared.faults.KeepCommandFault.TheVariants.{NotAJournal, NoHead, Damaged, OtherRules}
 use Rattle.tb_edge_file.specs.declared.faults.Mismatch.{Mismatch}
 use Rattle.tb_edge_file.specs.declared.kinds.FileKind.{FileKind}
-use Rattle.tb_edge_file.specs.declared.kinds.FileKind.TheVariants.{NoRecord, Closed, Begun, Log}
+use Rattle.tb_edge_file.specs.declared.kinds.FileKind.TheVariants.{NoRecord, Closed, Begun}
 use Rattle.tb_edge_file.specs.Kinds.{kind_by}
 use Rattle.tb_edge_file.specs.ExitStatuses.{is_of_head, numbers_of, started_fault}
 
@@ -45,7 +45,6 @@ entry_by at (Err fault) = None
 abbrev pub headless_fault : FileKind → KeepCommandFault
 headless_fault NoRecord = NotAJournal NoRecord
 headless_fault Closed = NotAJournal Closed
-headless_fault Log = NotAJournal Log
 headless_fault kind = NoHead
 
 -- the fault of a journal whose first block is not what was written: it may end before its first record

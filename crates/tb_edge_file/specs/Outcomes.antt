@@ -21,6 +21,7 @@ use Rattle.tb_edge_file.specs.declared.faults.Failed.TheVariants as failed
 use Rattle.tb_edge_file.specs.declared.asides.Reason.{Reason}
 use Rattle.tb_edge_file.specs.declared.openers.OpeningFault.{OpeningFault}
 use Rattle.tb_edge_file.specs.declared.summaries.Found.{Found}
+use Rattle.tb_edge_file.specs.declared.ends.Pipes.{Pipes}
 use Rattle.tb_edge_file.specs.declared.keeping.FileStart.{FileStart}
 use Rattle.tb_edge_commands.specs.Streams.{Change, Streams, new, old}
 use Rattle.tb_edge_file.specs.Ends.{FileOutput, KeptFile, KnownEnds, KnownFiles, OnEnds, kept_file, made_by, outcome_by}
@@ -259,12 +260,12 @@ module _ {O D E : Type 0} (its : KnownFiles O D E) (name : List ℕ) (before lef
       Opens Opening (its.opener.opens before name) left outcome (written ≡ start)
       (λ device. (after : E) × ChecksFile its.reading its.whole quick outcome (record { file = device; sink = start }) (record { file = after; sink = written }))
 
--- the file of a start, in which a ledger of these rules is kept
-abbrev pub file_of : Rules → FileStart → KeptFile
-file_of rules start = kept_file start.path.now start.existing rules
+-- the file of a start, in which a ledger of its rules is kept
+abbrev pub file_of : FileStart → KeptFile
+file_of start = kept_file start.path.now start.existing start.rules
 
-module _ {O D E R W L : Type 0} (its : KnownEnds O D E R W L) (rules : Rules) (start : FileStart) where
-  -- a ledger of these rules was served over the file of a start, between the ends of a command
-  abbrev pub RunsOn : Bool → FileOutcome → Change O → Change R → Change W → Change L → Type 0
+module _ {O D E R W L : Type 0} (its : KnownEnds O D E R W L) (start : FileStart) where
+  -- a ledger was served over the file of a start, between the ends of a command
+  abbrev pub RunsOn : Bool → FileOutcome → Change O → Change (Pipes R W) → Change L → Type 0
   RunsOn talks outcome opener =
-      OnEnds its (RunsOver its.files (old opener) (new opener) outcome (file_of rules start) (start_notes start.reports talks))
+      OnEnds its (RunsOver its.files (old opener) (new opener) outcome (file_of start) (start_notes start.reports talks))

@@ -2,7 +2,7 @@
 use Rattle.std.specs.Prelude.{ℕ, List}
 use Rattle.tb_edge_words.specs.declared.table.FormName.{FormName}
 use Rattle.tb_edge_words.specs.declared.table.FormName.TheVariants as name
-use Rattle.tb_edge_file.specs.declared.help.TheConstants.{BACKUP, CHECK, DUMP, FOLLOW, MEMORY, RUN, SALVAGE, USAGE}
+use Rattle.tb_edge_file.specs.declared.help.TheConstants.{BACKUP, CHECK, DUMP, FOLLOW, RUN, SALVAGE, USAGE}
 
 -- the page of a form; for `--help` and `--version`, the page of the program
 abbrev pub page_of : FormName → List ℕ
@@ -12,6 +12,5 @@ page_of name.Follow = FOLLOW.now
 page_of name.Check = CHECK.now
 page_of name.Salvage = SALVAGE.now
 page_of name.Backup = BACKUP.now
-page_of name.Memory = MEMORY.now
 page_of name.Help = USAGE.now
 page_of name.Version = USAGE.now

@@ -6,7 +6,7 @@ ghost use Rattle.tb_edge_file.specs.Forms.{IsRead, ReadsForm, asked_in, form_by,
 use tb_edge_words::{Asked, Fault, FormName, Given, Wrong, given_word, read};
 use tb_records::{ClientsMax, Profile};
 
-/// The options of `run` and `follow`.
+/// The options of `run`.
 #[derive(Clone, Copy)]
 pub struct Options {
     /// Its start is reported.
@@ -22,10 +22,8 @@ pub struct Options {
 pub enum Form {
     /// Serve requests over a file, which is made if it is missing, unless the options say otherwise.
     Run(ClientsMax, Profile, Options),
-    /// Follow a log over a file, which is made if it is missing, unless the options say otherwise.
-    Follow(ClientsMax, Profile, Options),
     /// Follow a log, with the ledger in memory.
-    Memory(ClientsMax, Profile),
+    Follow(ClientsMax, Profile),
     /// Write the history of a file as a dump: all of it, or the entries above a commit number, without a head. With the flag it waits for more.
     Dump(Option<u64>, bool),
     /// Read a file, and report what is in it. With the flag only checksums, commit numbers and times are checked.
@@ -55,7 +53,6 @@ pub const FORMS: &[FormName] = &[
     FormName::Run,
     FormName::Dump,
     FormName::Follow,
-    FormName::Memory,
     FormName::Check,
     FormName::Salvage,
     FormName::Backup,
@@ -81,12 +78,12 @@ fn options_of(given: Given) -> Options
 }
 
 impl Form {
-    /// Its options: all are false if it is neither `run` nor `follow`.
+    /// Its options: all are false if it is not `run`.
     pub fn options(self) -> Options
         ensures { result ≡ options_in self }
     {
         match self {
-            Form::Run(_, _, options) | Form::Follow(_, _, options) => options,
+            Form::Run(_, _, options) => options,
             _ => Options {
                 reports: false,
                 existing: false,
@@ -102,18 +99,13 @@ fn form_by(form: FormName, given: Given) -> Option<Form>
 {
     match form {
         FormName::Run => Some(Form::Run(given.clients_max?, given.profile, options_of(given))),
-        FormName::Follow => Some(Form::Follow(
-            given.clients_max?,
-            given.profile,
-            options_of(given),
-        )),
+        FormName::Follow => Some(Form::Follow(given.clients_max?, given.profile)),
         FormName::Dump => Some(Form::Dump(given.after, given.follow)),
         FormName::Check => Some(Form::Check(given.quick)),
         FormName::Salvage => Some(Form::Salvage),
         FormName::Backup => Some(Form::Backup),
         FormName::Help => Some(Form::Help(form)),
         FormName::Version => Some(Form::Version),
-        FormName::Memory => Some(Form::Memory(given.clients_max?, given.profile)),
     }
 }
 

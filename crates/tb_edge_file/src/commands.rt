@@ -5,7 +5,7 @@ ghost use Rattle.tb_edge_file.specs.private.Stages.{DumpsAsked, RunsOpened};
 ghost use Rattle.tb_edge_file.specs.Outcomes.{ChecksOver, DumpsOver, PrintsWhole, RunsOn, named_by};
 
 use crate::asides::Reason;
-use crate::ends::{Ends, Files};
+use crate::ends::{Ends, Files, Pipes};
 use crate::faults::{Failed, KeepCommandFault, reason_fault};
 use crate::files::{check, dump};
 use crate::following::{Part, follow};
@@ -14,15 +14,10 @@ use crate::lines::print_frames;
 use crate::openers::{Opener, OpeningFault};
 use crate::outlets::Outlet;
 use std::alloc::Global;
-use tb_file::Rules;
 use tb_records::{Sink, Source, put_all};
 
 /// Opens the device of a path that is served. If it has to exist, none is made; otherwise a missing one is made.
-pub fn made_by<O: Opener>(
-    opener: &mut O,
-    path: &str,
-    existing: bool,
-) -> Result<O::File, OpeningFault>
+fn made_by<O: Opener>(opener: &mut O, path: &str, existing: bool) -> Result<O::File, OpeningFault>
     ensures made { made_by ⟦<O as Files>⟧.its existing opener.old path.now result opener.new }
     ensures sound { O.File.tells → IfOk result (λ device. (O.File.disk device).sound ≡ true) }
 {
@@ -49,35 +44,31 @@ fn named_by(
 fn run_opened<O: Opener, R: Source, W: Outlet, E: Sink>(
     alloc: Global,
     opener: &mut O,
-    rules: Rules,
     file: &FileStart,
-    reader: &mut R,
-    writer: &mut W,
+    pipes: &mut Pipes<R, W>,
     faults: &mut E,
 ) -> Result<(), KeepCommandFault>
-    ensures { RunsOpened ⟦<O as Ends<R, W, E>>⟧.its rules file.now result opener reader writer faults }
+    ensures { RunsOpened ⟦<O as Ends<R, W, E>>⟧.its file.now result opener pipes faults }
 {
     match made_by(opener, file.path, file.existing) {
-        Ok(device) => run(alloc, device, rules, file, reader, writer, faults),
+        Ok(device) => run(alloc, device, file, pipes, faults),
         Err(fault) => Err(KeepCommandFault::Opening(fault)),
     }
 }
 
 /// Serves a ledger over the device of a path. If requests would come from a terminal, it first reports which programs read words.
-pub fn run_over<O: Opener, R: Source, W: Outlet, E: Sink>(
+pub(crate) fn run_over<O: Opener, R: Source, W: Outlet, E: Sink>(
     alloc: Global,
     opener: &mut O,
-    rules: Rules,
     file: &FileStart,
     talks: bool,
-    reader: &mut R,
-    writer: &mut W,
+    pipes: &mut Pipes<R, W>,
     faults: &mut E,
 ) -> Result<(), KeepCommandFault>
-    ensures { RunsOn ⟦<O as Ends<R, W, E>>⟧.its rules file.now talks result opener reader writer faults }
+    ensures { RunsOn ⟦<O as Ends<R, W, E>>⟧.its file.now talks result opener pipes faults }
 {
     print_frames(talks, faults);
-    let served = run_opened(alloc, opener, rules, file, reader, writer, faults);
+    let served = run_opened(alloc, opener, file, pipes, faults);
     let reason = opener.reason();
     named_by(reason, served)
 }
@@ -145,7 +136,7 @@ pub fn check_over<O: Opener, W: Sink>(
 }
 
 /// Writes a text.
-pub fn print<W: Sink>(writer: &mut W, text: &str) -> Result<(), KeepCommandFault>
+pub(crate) fn print<W: Sink>(writer: &mut W, text: &str) -> Result<(), KeepCommandFault>
     ensures { PrintsWhole text.now result (W.output writer.old) (W.output writer.new) }
 {
     match put_all(writer, text.as_bytes()) {

@@ -4,7 +4,7 @@ ghost use Rattle.tb_edge_file.specs.Copies.{copied_of, is_mended, mended_line, c
 ghost use Rattle.tb_file.specs.Keeping.{IsUsable, IsFresh};
 ghost use Rattle.tb_edge_file.specs.Outcomes.{PrintsWhole, PrintsText};
 ghost use Rattle.tb_edge_file.specs.Ends.{OnDevice, known_reading};
-ghost use Rattle.tb_edge_file.specs.private.Stages.{CopiesHeadedOn, CopiesMendedOn, CopiesRefusedOn, EndsSalvage, MakesCopyOn, NotesMendedOn};
+ghost use Rattle.tb_edge_file.specs.private.Stages.{CopiesHeadedOn, CopiesMendedOn, EndsSalvage, MakesCopyOn, NotesMendedOn};
 
 use crate::copies::{Copied, damage_of};
 use crate::ends::Files;
@@ -235,7 +235,7 @@ fn is_mended(whole: bool, fault: KeepCommandFault) -> bool
 const MENDED: &str = "damaged magic: the first 8 bytes are not a journal's\n";
 
 /// Writes that the first bytes of a file that was copied are not a journal's.
-pub fn print_mended<W: Sink>(writer: &mut W) -> Result<(), KeepCommandFault>
+pub(crate) fn print_mended<W: Sink>(writer: &mut W) -> Result<(), KeepCommandFault>
     ensures { PrintsWhole mended_line result (W.output writer.old) (W.output writer.new) }
 {
     match put_all(writer, MENDED.as_bytes()) {
@@ -286,27 +286,6 @@ fn copy_mended<O: Opener, W: Sink>(
     }
 }
 
-/// Copies a file that is refused, if it may be one of which only the first bytes are damaged.
-fn copy_refused<O: Opener, W: Sink>(
-    alloc: Global,
-    opener: &mut O,
-    from: O::Reading,
-    fault: StartFault,
-    new: &str,
-    whole: bool,
-    writer: &mut W,
-) -> Result<(), KeepCommandFault>
-    ensures { CopiesRefusedOn ⟦<O as Files>⟧.its W.Sink new.now fault whole result from opener writer }
-{
-    let mut from = from;
-    let refused = named(alloc, &mut from, fault);
-    if is_mended(whole, refused) {
-        return copy_mended(alloc, opener, from, refused, new, writer);
-    }
-    drop(from);
-    Err(refused)
-}
-
 /// Copies a file into a new one of a name, which is made if the file begins as a ledger's. Otherwise the file is refused, or its first bytes are
 /// mended.
 fn copy_headed<O: Opener, W: Sink>(
@@ -327,12 +306,19 @@ fn copy_headed<O: Opener, W: Sink>(
             drop(from);
             copied
         }
-        Err(fault) => copy_refused(alloc, opener, from, fault, new, whole, writer),
+        Err(fault) => {
+            let refused = named(alloc, &mut from, fault);
+            if is_mended(whole, refused) {
+                return copy_mended(alloc, opener, from, refused, new, writer);
+            }
+            drop(from);
+            Err(refused)
+        }
     }
 }
 
 /// Copies the file of a name into a new one of another name, and writes what was copied.
-pub fn copy_over<O: Opener, W: Sink>(
+pub(crate) fn copy_over<O: Opener, W: Sink>(
     alloc: Global,
     opener: &mut O,
     name: &str,

@@ -5,6 +5,13 @@ use crate::openers::Opener;
 use crate::outlets::Outlet;
 use tb_records::{Sink, Source};
 
+/// What a command reads and what it writes.
+#[derive(Drop)]
+pub struct Pipes<R, W> {
+    pub reader: R,
+    pub writer: W,
+}
+
 /// What opens the files of a command, and those files. Each opener is one.
 pub trait Files: Opener {
     /// What is known of them.

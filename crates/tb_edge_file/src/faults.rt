@@ -1,6 +1,6 @@
 //! Why a command ends with an exit status other than 0.
 ghost use Rattle.std.specs.Prelude.{◌≡◌, ◌<◌};
-ghost use Rattle.tb_edge_file.specs.ExitStatuses.{is_of_head, fault_path, file_exit_status, opening_exit_status, new_fault, numbers_of, opened_fault, read_fault, reason_fault, refused_fault, disk_fault, dumped_fault, started_fault, kept_fault, words_fault};
+ghost use Rattle.tb_edge_file.specs.ExitStatuses.{is_of_head, fault_path, file_exit_status, opening_exit_status, new_fault, numbers_of, opened_fault, read_fault, reason_fault, refused_fault, disk_fault, dumped_fault, started_fault, kept_fault, item_fault, words_fault};
 
 use crate::asides::{Reason, Uncopied};
 use crate::kinds::FileKind;
@@ -10,6 +10,7 @@ use std::io;
 use std::io::ErrorKind;
 use tb_file::{DumpFault, KeepFault, Rules, StartFault};
 use tb_file_journal::{OpenFault, Refusal};
+use tb_log::LogFault;
 use tb_machine::{RestoreFault, RunFault};
 use tb_records::FrameFault;
 
@@ -96,6 +97,8 @@ pub enum KeepCommandFault {
     NoMemory,
     /// What was read is no request, or no time is left for it.
     Request(RunFault),
+    /// What was read is no item of a log, or not the next one.
+    Item(LogFault),
     /// The file is no journal, but something of this kind.
     NotAJournal(FileKind),
     /// The file is a journal, but it has no record, or its first one is no ledger's head.
@@ -115,7 +118,7 @@ pub enum KeepCommandFault {
 }
 
 /// The fault of a call that failed for this reason.
-pub fn reason_fault(reason: Reason) -> KeepCommandFault
+pub(crate) fn reason_fault(reason: Reason) -> KeepCommandFault
     ensures { result ≡ reason_fault reason }
 {
     match reason {
@@ -125,7 +128,7 @@ pub fn reason_fault(reason: Reason) -> KeepCommandFault
 }
 
 /// The fault of a call on a journal or its file.
-pub fn disk_fault(fault: tb_file_journal::JournalFault) -> KeepCommandFault
+pub(crate) fn disk_fault(fault: tb_file_journal::JournalFault) -> KeepCommandFault
     ensures { result ≡ disk_fault fault }
 {
     match fault {
@@ -149,7 +152,7 @@ fn refused_fault(why: Refusal) -> KeepCommandFault
 }
 
 /// The fault of a journal that is not read or opened.
-pub fn opened_fault(fault: OpenFault) -> KeepCommandFault
+pub(crate) fn opened_fault(fault: OpenFault) -> KeepCommandFault
     ensures { result ≡ opened_fault fault }
 {
     match fault {
@@ -159,7 +162,7 @@ pub fn opened_fault(fault: OpenFault) -> KeepCommandFault
 }
 
 /// The fault of a ledger that is not opened, before the file is looked at for what else there is to say of it.
-pub fn started_fault(fault: StartFault) -> KeepCommandFault
+pub(crate) fn started_fault(fault: StartFault) -> KeepCommandFault
     ensures { result ≡ started_fault fault }
 {
     match fault {
@@ -180,7 +183,7 @@ pub fn started_fault(fault: StartFault) -> KeepCommandFault
 }
 
 /// The fault of a dump that is not written.
-pub fn dumped_fault(fault: DumpFault) -> KeepCommandFault
+pub(crate) fn dumped_fault(fault: DumpFault) -> KeepCommandFault
     ensures { result ≡ dumped_fault fault }
 {
     match fault {
@@ -190,7 +193,7 @@ pub fn dumped_fault(fault: DumpFault) -> KeepCommandFault
 }
 
 /// A fault of the file, if that is the new one.
-pub fn new_fault(fault: KeepCommandFault) -> KeepCommandFault
+pub(crate) fn new_fault(fault: KeepCommandFault) -> KeepCommandFault
     ensures { result ≡ new_fault fault }
 {
     match fault {
@@ -214,8 +217,19 @@ fn read_fault(fault: RunFault, pipe: Failed) -> KeepCommandFault
     }
 }
 
+/// The fault of an item that is not served, or of its reply. If a pipe failed, it is this one.
+pub(crate) fn item_fault(fault: LogFault, pipe: Failed) -> KeepCommandFault
+    ensures { result ≡ item_fault pipe fault }
+{
+    match fault {
+        LogFault::Device => KeepCommandFault::Device(pipe),
+        LogFault::NoMemory => KeepCommandFault::NoMemory,
+        fault => KeepCommandFault::Item(fault),
+    }
+}
+
 /// The fault that serving ends with. If a pipe failed, it is this one.
-pub fn kept_fault(fault: KeepFault, pipe: Failed) -> KeepCommandFault
+pub(crate) fn kept_fault(fault: KeepFault, pipe: Failed) -> KeepCommandFault
     ensures { result ≡ kept_fault pipe fault }
 {
     match fault {
@@ -271,7 +285,7 @@ impl KeepCommandFault {
             KeepCommandFault::Opening(fault) | KeepCommandFault::Making(fault) =>
                 fault.exit_status(),
             KeepCommandFault::SyncFailed => 9,
-            KeepCommandFault::Usage | KeepCommandFault::Request(_) => 2,
+            KeepCommandFault::Usage | KeepCommandFault::Request(_) | KeepCommandFault::Item(_) => 2,
             KeepCommandFault::Device(_) | KeepCommandFault::NoMemory => 1,
             KeepCommandFault::NotAJournal(_) | KeepCommandFault::NoHead => 5,
             KeepCommandFault::Damaged(_) => 6,

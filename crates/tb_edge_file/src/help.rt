@@ -26,66 +26,58 @@ macro_rules! page {
   dump FILE [--after COMMIT] [--follow]
                                   writes the history of FILE, as tbs dump does. With --after only
                                   entries above that commit number, without a head. With --follow
-                                  it waits for more, until a write fails or SIGTERM comes. If FILE
-                                  is a log, it writes the entries without positions"
+                                  it waits for more, until a write fails or SIGTERM comes"
 "
-  follow FILE CLIENTS_MAX [PROFILE] [--existing] [--drop-torn]
-                                  serves a log of entries with positions; each reply goes out
-                                  when its entry is on the disk. Its start says up to which
-                                  position FILE has the log"
-"
-  follow-memory CLIENTS_MAX [PROFILE]
-                                  serves such a log from its first entry on, in memory"
+  follow CLIENTS_MAX [PROFILE]
+                                  serves a log of entries with positions from its first entry on,
+                                  in memory: it opens no file"
 "
   check FILE [--quick]            reads all of FILE and prints what is in it, or the damage. With
                                   --quick only frames, checksums, commit numbers and times are
                                   checked, in little memory: the ledger is not replayed"
 "
   salvage FILE NEW                copies what is whole before the first damage into NEW, and what
-                                  can be read after it, and prints what is lost and where. FILE
-                                  is a ledger or a log. NEW must not exist"
+                                  can be read after it, and prints what is lost and where. NEW
+                                  must not exist"
 "
   backup FILE NEW                 the same for a FILE that is whole, otherwise status 6"
 "
 
 CLIENTS_MAX is 1 to 64, PROFILE 1 or 2; a file keeps those that it was made with. FILE is no
 number and does not begin with -: the file 64 is ./64. So is NEW. Options go in any order, each
-once. One run or follow serves a file at a time; the other forms only read it, also while it is
-served. The exit status is 0 if all is done; otherwise a line of standard error names the fault:
-1 Device or NoMemory, 2 Usage or a refused request, 4 Locked, 5 NotAJournal or Plain,
-6 Damaged, 7 OtherRules, 8 Full, 9 SyncFailed, 10 Gone, 11 NotCopied.
+once. One run serves a file at a time; the other forms only read it, also while it is served.
+The exit status is 0 if all is done; otherwise a line of standard error names the fault:
+1 Device or NoMemory, 2 Usage or a refused request or item, 4 Locked, 5 NotAJournal, 6 Damaged,
+7 OtherRules, 8 Full, 9 SyncFailed, 10 Gone, 11 NotCopied.
 "
         )
     };
-    (@ all $run:literal $dump:literal $follow:literal $memory:literal $check:literal $salvage:literal $backup:literal $end:literal) => {
+    (@ all $run:literal $dump:literal $follow:literal $check:literal $salvage:literal $backup:literal $end:literal) => {
         concat!(
             "Usage: tbd FORM\n\n",
             "Keeps a ledger in a file: what was acknowledged is in the file, whenever the program or the machine stops.\n",
-            $run, $dump, $follow, $memory, $check, $salvage, $backup,
+            $run, $dump, $follow, $check, $salvage, $backup,
             "\n  FORM --help                     prints the lines of one form\n",
             "  --help, -h, --version",
             $end
         )
     };
-    (@ run $run:literal $dump:literal $follow:literal $memory:literal $check:literal $salvage:literal $backup:literal $end:literal) => {
+    (@ run $run:literal $dump:literal $follow:literal $check:literal $salvage:literal $backup:literal $end:literal) => {
         concat!("Usage: tbd FORM\n", $run, $end)
     };
-    (@ dump $run:literal $dump:literal $follow:literal $memory:literal $check:literal $salvage:literal $backup:literal $end:literal) => {
+    (@ dump $run:literal $dump:literal $follow:literal $check:literal $salvage:literal $backup:literal $end:literal) => {
         concat!("Usage: tbd FORM\n", $dump, $end)
     };
-    (@ follow $run:literal $dump:literal $follow:literal $memory:literal $check:literal $salvage:literal $backup:literal $end:literal) => {
+    (@ follow $run:literal $dump:literal $follow:literal $check:literal $salvage:literal $backup:literal $end:literal) => {
         concat!("Usage: tbd FORM\n", $follow, $end)
     };
-    (@ memory $run:literal $dump:literal $follow:literal $memory:literal $check:literal $salvage:literal $backup:literal $end:literal) => {
-        concat!("Usage: tbd FORM\n", $memory, $end)
-    };
-    (@ check $run:literal $dump:literal $follow:literal $memory:literal $check:literal $salvage:literal $backup:literal $end:literal) => {
+    (@ check $run:literal $dump:literal $follow:literal $check:literal $salvage:literal $backup:literal $end:literal) => {
         concat!("Usage: tbd FORM\n", $check, $end)
     };
-    (@ salvage $run:literal $dump:literal $follow:literal $memory:literal $check:literal $salvage:literal $backup:literal $end:literal) => {
+    (@ salvage $run:literal $dump:literal $follow:literal $check:literal $salvage:literal $backup:literal $end:literal) => {
         concat!("Usage: tbd FORM\n", $salvage, $end)
     };
-    (@ backup $run:literal $dump:literal $follow:literal $memory:literal $check:literal $salvage:literal $backup:literal $end:literal) => {
+    (@ backup $run:literal $dump:literal $follow:literal $check:literal $salvage:literal $backup:literal $end:literal) => {
         concat!("Usage: tbd FORM\n", $backup, $end)
     };
 }
@@ -102,9 +94,6 @@ pub const DUMP: &str = page!(dump);
 /// The page of `follow`.
 pub const FOLLOW: &str = page!(follow);
 
-/// The page of `follow-memory`.
-pub const MEMORY: &str = page!(memory);
-
 /// The page of `check`.
 pub const CHECK: &str = page!(check);
 
@@ -115,7 +104,7 @@ pub const SALVAGE: &str = page!(salvage);
 pub const BACKUP: &str = page!(backup);
 
 /// The page of a form; for `--help` and `--version`, the page of the program.
-pub fn page(form: FormName) -> &'static str
+pub(crate) fn page(form: FormName) -> &'static str
     ensures { result.now ≡ page_of form }
 {
     match form {
@@ -125,7 +114,6 @@ pub fn page(form: FormName) -> &'static str
         FormName::Check => CHECK,
         FormName::Salvage => SALVAGE,
         FormName::Backup => BACKUP,
-        FormName::Memory => MEMORY,
         FormName::Help | FormName::Version => USAGE,
     }
 }

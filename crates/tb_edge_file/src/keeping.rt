@@ -1,13 +1,13 @@
 //! The serving of a ledger over a device.
 ghost use Rattle.std.specs.Prelude.{◌≡◌, true, IfOk};
 ghost use Rattle.tb_file.specs.Keeping.{IsFresh, IsUsable};
-ghost use Rattle.tb_edge_commands.specs.Streams.{OnStreams};
-ghost use Rattle.tb_edge_file.specs.Ends.{outcome_by};
+ghost use Rattle.tb_edge_file.specs.Ends.{OnPipes, outcome_by};
 ghost use Rattle.tb_edge_file.specs.Naming.{NamesAsked, Left};
 ghost use Rattle.tb_edge_file.specs.Outcomes.{StartsBy, HandsBy, IsAside};
 ghost use Rattle.tb_edge_file.specs.private.Stages.{KeepsOver, RunsFile, StartsOver};
 ghost use Rattle.tb_edge_file.specs.ExitStatuses.{failed_pipe, kept_fault};
 
+use crate::ends::Pipes;
 use crate::faults::{Failed, KeepCommandFault, disk_fault, kept_fault};
 use crate::lines::{print_cut, print_made, print_reading, print_ready};
 use crate::naming::named_asked;
@@ -17,10 +17,11 @@ use tb_file_journal::{Device, LATCH_BYTES};
 use tb_machine::over_two_pools;
 use tb_records::{Sink, Source};
 
-/// A start: the path of its file, whether it reports that it reads and that it is ready, and whether the file has to have a ledger.
+/// A start: the path of its file and its rules, whether it reports that it reads and that it is ready, and whether the file has to have a ledger.
 #[derive(Clone, Copy)]
 pub struct FileStart<'a> {
     pub path: &'a str,
+    pub rules: Rules,
     pub reports: bool,
     pub existing: bool,
 }
@@ -37,7 +38,7 @@ fn refused<D: Device + Drop>(alloc: Global, failed: NotKept<D>, asked: Rules) ->
 }
 
 /// Which pipe failed, if one did, by how many errors a reader had before and has now.
-pub fn failed_pipe(before: u64, now: u64) -> Failed
+pub(crate) fn failed_pipe(before: u64, now: u64) -> Failed
     ensures { result ≡ failed_pipe before now }
 {
     if before == now {
@@ -64,13 +65,12 @@ fn serve<D: Device + Drop, A: Allocator + Clone, R: Source, W: Sink, E: Sink>(
     keeper: Keeper<D, A>,
     file: &FileStart,
     len: usize,
-    reader: &mut R,
-    writer: &mut W,
+    pipes: &mut Pipes<R, W>,
     faults: &mut E,
 ) -> Result<(), KeepCommandFault>
     requires usable { IsUsable keeper }
     requires fresh { D.tells → IsFresh D.disk keeper }
-    ensures { OnStreams R.Source W.Sink E.Sink (KeepsOver D.Device result keeper file.now len) reader writer faults }
+    ensures { OnPipes R.Source W.Sink E.Sink (KeepsOver D.Device result keeper file.now len) pipes faults }
 {
     let mut keeper = keeper;
     let cut = keeper.cut_bytes();
@@ -81,10 +81,10 @@ fn serve<D: Device + Drop, A: Allocator + Clone, R: Source, W: Sink, E: Sink>(
     print_cut(cut, at, faults);
     let machine = keeper.machine();
     print_ready(file.reports, machine.commit(), machine.time(), faults);
-    let failures = reader.failures();
-    let kept = keep(alloc, &mut keeper, reader, writer);
+    let failures = pipes.reader.failures();
+    let kept = keep(alloc, &mut keeper, &mut pipes.reader, &mut pipes.writer);
     drop(keeper);
-    kept_outcome(kept, failed_pipe(failures, reader.failures()))
+    kept_outcome(kept, failed_pipe(failures, pipes.reader.failures()))
 }
 
 /// Opens a ledger over a device; unless the ledger has to exist, creates one in a blank file.
@@ -107,28 +107,31 @@ fn started<D: Device, A: Allocator + Copy>(
     Keeper::start(alloc, pool, device, rules)
 }
 
+/// A device, and how many bytes its file had before a start.
+#[derive(Drop)]
+struct Measured<D> {
+    device: D,
+    len: usize,
+}
+
 /// Opens a ledger over a device, or creates one, and serves pairs until they end: each reply is sent when the entry that it rests on is in the
-/// file. The machine's records are allocated in the pool. `len` is how many bytes the file had before.
+/// file. The machine's records are allocated in the pool.
 fn start<D: Device + Drop, A: Allocator + Copy, R: Source, W: Sink, E: Sink>(
     alloc: Global,
     pool: A,
-    device: D,
-    rules: Rules,
+    measured: Measured<D>,
     file: &FileStart,
-    len: usize,
-    reader: &mut R,
-    writer: &mut W,
+    pipes: &mut Pipes<R, W>,
     faults: &mut E,
 ) -> Result<(), KeepCommandFault>
-    requires { D.tells → (D.disk device).sound ≡ true }
-    ensures { OnStreams R.Source W.Sink E.Sink (StartsOver D.Device result rules file.now len device) reader writer faults }
+    requires { D.tells → (D.disk measured.device).sound ≡ true }
+    ensures { OnPipes R.Source W.Sink E.Sink (StartsOver D.Device result file.now measured.len measured.device) pipes faults }
 {
+    let Measured { device, len } = measured;
     print_reading(file.reports, file.path, len, faults);
-    // Both calls take the rules, and a struct can be given by value once.
-    let asked = rules;
-    match started(alloc, pool, device, rules, file.existing) {
-        Ok(keeper) => serve(alloc, keeper, file, len, reader, writer, faults),
-        Err(failed) => Err(refused(alloc, failed, asked)),
+    match started(alloc, pool, device, file.rules, file.existing) {
+        Ok(keeper) => serve(alloc, keeper, file, len, pipes, faults),
+        Err(failed) => Err(refused(alloc, failed, file.rules)),
     }
 }
 
@@ -136,23 +139,18 @@ fn start<D: Device + Drop, A: Allocator + Copy, R: Source, W: Sink, E: Sink>(
 fn start_over<D: Device + Drop, A: Allocator + Copy, R: Source, W: Sink, E: Sink>(
     alloc: Global,
     below: A,
-    device: D,
-    rules: Rules,
+    measured: Measured<D>,
     file: &FileStart,
-    len: usize,
-    reader: &mut R,
-    writer: &mut W,
+    pipes: &mut Pipes<R, W>,
     faults: &mut E,
 ) -> Result<(), KeepCommandFault>
-    requires { D.tells → (D.disk device).sound ≡ true }
-    ensures { OnStreams R.Source W.Sink E.Sink (StartsOver D.Device result rules file.now len device) reader writer faults }
+    requires { D.tells → (D.disk measured.device).sound ≡ true }
+    ensures { OnPipes R.Source W.Sink E.Sink (StartsOver D.Device result file.now measured.len measured.device) pipes faults }
 {
     over_two_pools!(
         below,
         pool,
-        start(
-            alloc, &pool, device, rules, file, len, reader, writer, faults,
-        )
+        start(alloc, &pool, measured, file, pipes, faults)
     )
 }
 
@@ -160,24 +158,21 @@ fn start_over<D: Device + Drop, A: Allocator + Copy, R: Source, W: Sink, E: Sink
 pub(crate) fn run<D: Device + Drop, R: Source, W: Sink, E: Sink>(
     alloc: Global,
     device: D,
-    rules: Rules,
     file: &FileStart,
-    reader: &mut R,
-    writer: &mut W,
+    pipes: &mut Pipes<R, W>,
     faults: &mut E,
 ) -> Result<(), KeepCommandFault>
     requires { D.tells → (D.disk device).sound ≡ true }
-    ensures { OnStreams R.Source W.Sink E.Sink (RunsFile D.Device result rules file.now device) reader writer faults }
+    ensures { OnPipes R.Source W.Sink E.Sink (RunsFile D.Device result file.now device) pipes faults }
 {
     let mut device = device;
     match device.len() {
         Ok(len) => {
+            let measured = Measured { device, len };
             over_two_pools!(
                 alloc,
                 pool,
-                start_over(
-                    alloc, &pool, device, rules, file, len, reader, writer, faults,
-                )
+                start_over(alloc, &pool, measured, file, pipes, faults)
             )
         }
         Err(fault) => {

@@ -10,8 +10,6 @@ pub enum FileKind {
     Unread,
     /// It has no byte.
     Empty,
-    /// A ledger or log in the format before this one.
-    Former,
     /// A dump, by its head.
     Dump,
     /// A journal without a record, and nothing after its latch.
@@ -22,8 +20,6 @@ pub enum FileKind {
     Begun,
     /// A ledger, by its first record.
     Ledger,
-    /// A log, by its first record.
-    Log,
     /// Moments with request frames, the first of which registers a client.
     Script,
     /// Text.
@@ -31,9 +27,6 @@ pub enum FileKind {
     /// Other bytes.
     Other,
 }
-
-/// The bytes that a file of the former format begins with.
-pub const FORMER: &[u8] = b"TBJRNL01";
 
 /// The bytes that a dump begins with.
 pub const DUMP: &[u8] = b"TBSDUMP1";
@@ -46,9 +39,6 @@ pub const JOURNAL: &[u8] = b"TBJRNL02";
 
 /// The bytes that a ledger's first record begins with.
 pub const HEAD: &[u8] = b"TBK1";
-
-/// The bytes that a log's first record begins with.
-pub const MARK: &[u8] = b"TBF1";
 
 /// The bytes of the header of a request to register after its client.
 pub const REGISTER: &[u8] = b"\0\0\0\0\0\0\0\0\0\0\0\0\x02\0\0\0\0\0\0\0\0\0\0\0\0\0\0\0\0\0\0\0";
@@ -113,9 +103,6 @@ fn journal_kind(first: &[u8]) -> FileKind
     if begins_at(RECORD_AT, HEAD, first) {
         return FileKind::Ledger;
     }
-    if begins_at(RECORD_AT, MARK, first) {
-        return FileKind::Log;
-    }
     FileKind::Other
 }
 
@@ -125,9 +112,6 @@ pub(crate) fn kind_of(first: &[u8]) -> FileKind
 {
     if first.is_empty() {
         return FileKind::Empty;
-    }
-    if begins(FORMER, first) {
-        return FileKind::Former;
     }
     if begins(DUMP, first) {
         return FileKind::Dump;

@@ -1,4 +1,5 @@
-//! The commands of `tbd`, a ledger server whose history is in a file: over whatever opens devices, any reader and any writer.
+//! The commands of `tbd`, a ledger server whose history is in a file: over whatever opens devices, any reader and any writer. One of them follows a
+//! log with the ledger in memory, and opens no file.
 //!
 //! Modules, each over those before it:
 //!
@@ -10,8 +11,11 @@
 //! - `openers`: `Opener`, what opens the device of a name, and why it does not.
 //! - `outlets`: `Outlet`, a writer that says at its end whether all that was put was sent.
 //! - `steady`: `Steady`, a writer whose calls are repeated if a signal interrupts them.
+//! - `refusals`: the calls that a wrapper of a device refuses itself.
 //! - `places`: `Named`, a file that is compared with what its name leads to, and whose bytes are set aside before they are cut off.
 //! - `asides`: why bytes that were to be cut off were not copied.
+//! - `file_systems`: `FileSystem`, the names of files, as the system's calls see them.
+//! - `cut_copies`: copies of what a start cuts off.
 //! - `ends`: `Files` and `Ends`, what contracts know of what a command works with.
 //! - `kinds`: what a file is that holds no ledger, by its first bytes.
 //! - `faults`: why a command ends with an exit status other than 0.
@@ -26,10 +30,13 @@
 //! - `copying`: `salvage` and `backup`, a file copied into a new one.
 //! - `following`: the entries of a file above a commit number, as it grows.
 //! - `keeping`: `run`, a ledger over a file served.
-//! - `commands`: each form, over what opens devices. tb_edge_log says how it ends.
+//! - `follower`: `follow`, a log followed with the ledger in memory.
+//! - `commands`: each form over a file, over what opens devices.
+//! - `executing`: `execute`, each command, and the exit status of each outcome.
+//! - `host`: `serve`, from a program's input and output to `execute`.
 //!
-//! specs/Forms says which arguments ask for what, specs/Outcomes and specs/Copies what each form does, specs/ExitStatuses the exit status and the
-//! line of each fault.
+//! specs/Forms says which arguments ask for what, specs/Outcomes, specs/Copies and specs/Follower what each form does, specs/Exits how a command ends,
+//! specs/ExitStatuses the exit status and the line of each fault, specs/Hosts what `serve` does.
 #![tactic(auto)]
 
 mod arguments;
@@ -37,11 +44,16 @@ mod asides;
 mod commands;
 mod copies;
 mod copying;
+mod cut_copies;
 mod ends;
+mod executing;
 mod faults;
+mod file_systems;
 mod files;
+mod follower;
 mod following;
 mod help;
+mod host;
 mod keeping;
 mod kinds;
 pub mod laws;
@@ -53,6 +65,7 @@ mod openers;
 mod outlets;
 mod places;
 mod printable;
+mod refusals;
 mod reports;
 mod rescues;
 mod steady;
@@ -60,28 +73,22 @@ mod summaries;
 
 pub use arguments::{Command, FORMS, Form, Options, read_command};
 pub use asides::{COPIES_MAX, Reason, Uncopied};
-pub use commands::{check_over, dump_over, made_by, print, run_over};
+pub use commands::{check_over, dump_over};
 pub use copies::Copied;
-pub use copying::{copy_over, print_mended};
-pub use ends::{Ends, Files};
-pub use faults::{
-    Damage, Failed, KeepCommandFault, Mismatch, Numbers, disk_fault, new_fault, opened_fault,
-    reason_fault, words_fault,
-};
+pub use cut_copies::copy_cut;
+pub use ends::{Ends, Files, Pipes};
+pub use executing::Terminals;
+pub use faults::{Damage, Failed, KeepCommandFault, Mismatch, Numbers, words_fault};
+pub use file_systems::{FileSystem, Found};
 pub use following::Part;
-pub use help::{CHECK, RUN, USAGE, VERSION, page};
-pub use keeping::{FileStart, failed_pipe};
+pub use host::serve;
 pub use kinds::FileKind;
-pub use lines::{
-    WrongEntry, print_cut, print_damage, print_fault, print_made, print_named, print_number,
-    print_place, print_text, print_wrong, refuse, refuse_words,
-};
+pub use lines::{print_named, refuse, refuse_words};
 pub use live::Live;
 pub use mending::Mended;
-pub use naming::{entry_at, kind_in};
 pub use openers::{Opener, OpeningFault, opening_fault, unread_fault};
 pub use outlets::{Outgoing, Outlet};
-pub use places::{Named, Place, Silent};
+pub use places::{Named, Place};
 pub use reports::Reported;
 pub use rescues::Rescued;
 pub use steady::Steady;

@@ -1,6 +1,6 @@
 //! The lines of standard error.
 ghost use Rattle.std.specs.Prelude.{◌≡◌, ◌++◌, Some, [], codes, map, string_bytes, take};
-ghost use Rattle.tb_edge_file.specs.ExitStatuses.{file_exit_status, damage_line, harm_text, unread_text, next_of, damaged_text, opening_text, making_text, wrong_text, failed_text, kind_text, numbers_text, both_text, mismatch_text, fault_text, file_fault_line, reading_line, shown_words, said_text, wrong_line, usage_lines, counted_text, line_of, named, numbered, place_line, read_line, rules_text, said_with, PassesOn, Says, PrintsMade, PrintsCut, PrintsReading, PrintsReady, PrintsFrames};
+ghost use Rattle.tb_edge_file.specs.ExitStatuses.{file_exit_status, harm_text, unread_text, next_of, damaged_text, opening_text, making_text, failed_text, kind_text, numbers_text, both_text, mismatch_text, fault_text, item_text, file_fault_line, reading_line, shown_words, said_text, wrong_line, usage_lines, counted_text, line_of, named, numbered, read_line, rules_text, said_with, PassesOn, Says, PrintsMade, PrintsCut, PrintsReading, PrintsReady, PrintsFrames};
 ghost use Rattle.tb_edge_file.specs.Asides.{uncopied_text};
 ghost use Rattle.tb_edge_file.specs.Printable.{printable};
 ghost use Rattle.tb_edge_file.specs.private.Changes.{PutsText};
@@ -13,6 +13,7 @@ use crate::openers::OpeningFault;
 use crate::printable::put_printable;
 use itoa::Buffer;
 use tb_edge_words::Wrong;
+use tb_log::LogFault;
 use tb_records::{FrameFault, Sink, put_all};
 
 /// Writes two texts, one after the other.
@@ -189,8 +190,7 @@ const READ_ONLY: &str =
 const TOO_MANY: &str = ": too many files are open; raise their number by ulimit -n";
 
 /// The same for one that has no bytes.
-const EMPTY: &str =
-    " is empty; without --existing tbd run makes a ledger in it, and tbd follow a log";
+const EMPTY: &str = " is empty; without --existing tbd run makes a ledger in it";
 
 /// The same for a new file that exists already.
 const EXISTS: &str = " exists; give the name of one that is not there";
@@ -316,12 +316,6 @@ fn put_kind<E: Sink>(faults: &mut E, kind: FileKind, path: &str) -> Result<(), F
             path,
             " is empty; tbd run makes a ledger in it",
         ),
-        FileKind::Former => put_named(
-            faults,
-            "NotAJournal: ",
-            path,
-            " has the former format TBJRNL01; tools/convert_journal.py makes a new file of it",
-        ),
         FileKind::Dump => put_named(
             faults,
             "NotAJournal: ",
@@ -332,7 +326,7 @@ fn put_kind<E: Sink>(faults: &mut E, kind: FileKind, path: &str) -> Result<(), F
             faults,
             "NotAJournal: ",
             path,
-            " has no record yet; tbd run makes a ledger in it, and tbd follow a log",
+            " has no record yet; tbd run makes a ledger in it",
         ),
         FileKind::Closed => put_named(
             faults,
@@ -351,12 +345,6 @@ fn put_kind<E: Sink>(faults: &mut E, kind: FileKind, path: &str) -> Result<(), F
             "NotAJournal: ",
             path,
             " is a ledger; tbd run serves it",
-        ),
-        FileKind::Log => put_named(
-            faults,
-            "NotAJournal: ",
-            path,
-            " is a log; tbd follow serves it",
         ),
         FileKind::Script => put_named(
             faults,
@@ -498,6 +486,33 @@ fn put_uncopied<E: Sink>(faults: &mut E, why: Uncopied, path: &str) -> Result<()
     put_named(faults, "NotCopied: ", path, uncopied_text(why))
 }
 
+/// What is reported of an item that ends before its last byte, after its fault's name.
+const CUT_ITEM: &str = ": standard input ends within an item; those before it were answered";
+
+/// What is reported of bytes that are no item, after the first of them.
+const NO_ITEM: &str = "standard input goes on with no item; those before it were answered";
+
+/// Writes what is wrong with an item of a log, and where.
+fn put_item<E: Sink>(faults: &mut E, fault: LogFault) -> Result<(), FrameFault>
+    ensures { PutsText E.Sink result (item_text fault) faults }
+{
+    match fault {
+        LogFault::UnknownKind(kind) => {
+            put_place(faults, "UnknownKind ", kind as u64, ": ", NO_ITEM)
+        }
+        LogFault::Short => put_both(faults, "Short", CUT_ITEM),
+        LogFault::Gap(at) => put_number(faults, "Gap at ", at),
+        LogFault::Repeat(at) => put_number(faults, "Repeat at ", at),
+        LogFault::TooLong(at) => put_number(faults, "TooLong at ", at),
+        LogFault::Damaged(at) => put_number(faults, "Damaged at ", at),
+        LogFault::TimeExhausted(at) => put_number(faults, "TimeExhausted at ", at),
+        LogFault::BadEntry(at, fault) => {
+            put_place(faults, "BadEntry at ", at, ": ", fault.name())
+        }
+        fault => put_all(faults, fault.name().as_bytes()),
+    }
+}
+
 /// Writes a fault's name, and what there is to say of it, over a file of this path.
 fn put_fault<E: Sink>(faults: &mut E, fault: KeepCommandFault, path: &str) -> Result<(), FrameFault>
     ensures { PutsText E.Sink result (fault_text fault path.now) faults }
@@ -509,6 +524,7 @@ fn put_fault<E: Sink>(faults: &mut E, fault: KeepCommandFault, path: &str) -> Re
         KeepCommandFault::Making(fault) => put_making(faults, fault, path),
         KeepCommandFault::NoMemory => put_all(faults, b"NoMemory"),
         KeepCommandFault::Request(fault) => put_both(faults, fault.name(), REFUSED),
+        KeepCommandFault::Item(fault) => put_item(faults, fault),
         KeepCommandFault::NotAJournal(kind) => put_kind(faults, kind, path),
         KeepCommandFault::NoHead => put_named(faults, "NotAJournal: ", path, NO_HEAD),
         KeepCommandFault::Damaged(damage) => {
@@ -557,7 +573,7 @@ fn put_line<E: Sink>(
 }
 
 /// Prints a fault over a file of this path, in one line. A failure to write it changes no exit status.
-pub fn print_fault<E: Sink>(fault: KeepCommandFault, path: &str, faults: &mut E)
+pub(crate) fn print_fault<E: Sink>(fault: KeepCommandFault, path: &str, faults: &mut E)
     ensures { Says E.Sink (file_fault_line fault path.now) faults.old faults.new }
 {
     pass(put_line(faults, "tbd: ", fault, path), faults);
@@ -599,103 +615,6 @@ fn put_path<E: Sink>(faults: &mut E, first: &str, path: &str, last: &str) -> Res
     }
 }
 
-/// Writes a text, a number and what is wrong there, and the end of the line.
-fn put_fault_at<E: Sink>(
-    faults: &mut E,
-    first: &str,
-    place: u64,
-    what: &str,
-) -> Result<(), FrameFault>
-    ensures { PutsText E.Sink result (place_line first.now place what.now) faults }
-{
-    match put_place(faults, first, place, ": ", what) {
-        Ok(()) => put_all(faults, b"\n"),
-        Err(fault) => Err(fault),
-    }
-}
-
-/// Writes what is damaged in a file of this path, what to do about it, and the end of the line.
-fn put_damage_line<E: Sink>(
-    faults: &mut E,
-    damage: Damage,
-    path: &str,
-    next: &str,
-) -> Result<(), FrameFault>
-    ensures { PutsText E.Sink result (damage_line damage path.now next.now) faults }
-{
-    match put_damaged(faults, "tbd: Damaged: ", damage, path, next) {
-        Ok(()) => put_all(faults, b"\n"),
-        Err(fault) => Err(fault),
-    }
-}
-
-/// Prints what is damaged in the file of a path, and what to do about it, in one line.
-pub fn print_damage<E: Sink>(damage: Damage, path: &str, next: &str, faults: &mut E)
-    ensures { Says E.Sink (damage_line damage path.now next.now) faults.old faults.new }
-{
-    pass(put_damage_line(faults, damage, path, next), faults);
-}
-
-/// What is wrong with an entry: a text, its number and another text, and a name after them.
-#[derive(Clone, Copy)]
-pub struct WrongEntry<'a> {
-    pub before: &'a str,
-    pub number: u64,
-    pub after: &'a str,
-    pub name: &'a str,
-}
-
-/// Writes a number, a text and a name, and what to do about it.
-fn put_wrong_number<E: Sink>(
-    faults: &mut E,
-    wrong: &WrongEntry,
-    next: &str,
-) -> Result<(), FrameFault>
-    ensures { PutsText E.Sink result (counted_text wrong.now.number wrong.now.after.now ++ (wrong.now.name.now ++ next.now)) faults }
-{
-    match put_counted(faults, wrong.number, wrong.after) {
-        Ok(()) => put_both(faults, wrong.name, next),
-        Err(fault) => Err(fault),
-    }
-}
-
-/// Writes what is wrong with an entry in a file of this path, and what to do about it.
-fn put_wrong_entry<E: Sink>(
-    faults: &mut E,
-    wrong: &WrongEntry,
-    path: &str,
-    next: &str,
-) -> Result<(), FrameFault>
-    ensures { PutsText E.Sink result (wrong_text wrong.now path.now next.now) faults }
-{
-    match put_named(faults, "tbd: Damaged: ", path, wrong.before) {
-        Ok(()) => put_wrong_number(faults, wrong, next),
-        Err(fault) => Err(fault),
-    }
-}
-
-/// The same, and the end of the line.
-fn put_wrong_line<E: Sink>(
-    faults: &mut E,
-    wrong: &WrongEntry,
-    path: &str,
-    next: &str,
-) -> Result<(), FrameFault>
-    ensures { PutsText E.Sink result (line_of (wrong_text wrong.now path.now next.now)) faults }
-{
-    match put_wrong_entry(faults, wrong, path, next) {
-        Ok(()) => put_all(faults, b"\n"),
-        Err(fault) => Err(fault),
-    }
-}
-
-/// Prints what is wrong with an entry in the file of a path, and what to do about it, in one line.
-pub fn print_wrong<E: Sink>(wrong: &WrongEntry, path: &str, next: &str, faults: &mut E)
-    ensures { Says E.Sink (line_of (wrong_text wrong.now path.now next.now)) faults.old faults.new }
-{
-    pass(put_wrong_line(faults, wrong, path, next), faults);
-}
-
 /// Prints a path between two texts, in one line.
 pub fn print_named<E: Sink>(first: &str, path: &str, last: &str, faults: &mut E)
     ensures { Says E.Sink (line_of (named first.now path.now last.now)) faults.old faults.new }
@@ -703,33 +622,12 @@ pub fn print_named<E: Sink>(first: &str, path: &str, last: &str, faults: &mut E)
     pass(put_path(faults, first, path, last), faults);
 }
 
-/// Prints a number after a text, in one line.
-pub fn print_number<E: Sink>(first: &str, number: u64, faults: &mut E)
-    ensures { Says E.Sink (line_of (numbered first.now number)) faults.old faults.new }
-{
-    pass(put_end(faults, first, number), faults);
-}
-
-/// Prints a number after a text and what is wrong there, in one line.
-pub fn print_place<E: Sink>(first: &str, place: u64, what: &str, faults: &mut E)
-    ensures { Says E.Sink (place_line first.now place what.now) faults.old faults.new }
-{
-    pass(put_fault_at(faults, first, place, what), faults);
-}
-
-/// Prints what is wrong after a text, in one line.
-pub fn print_text<E: Sink>(first: &str, what: &str, faults: &mut E)
-    ensures { Says E.Sink (first.now ++ line_of what.now) faults.old faults.new }
-{
-    pass(put_behind(faults, first, what), faults);
-}
-
 /// What is between the two numbers.
 const BEHIND: &str = " bytes of a batch that was not committed, after byte ";
 
 /// Prints how many bytes a start cut off after the records, which end at this place; nothing if it cut none off.
 #[tactic(auto, using(crate::proofs::Passing::said))]
-pub fn print_cut<E: Sink>(bytes: u64, at: u64, faults: &mut E)
+pub(crate) fn print_cut<E: Sink>(bytes: u64, at: u64, faults: &mut E)
     ensures { PrintsCut bytes at (E.output faults.old) (E.output faults.new) }
 {
     if bytes != 0 {
@@ -801,7 +699,7 @@ fn put_wrong<E: Sink>(
 }
 
 /// Reports that a file of this path was made, if it had no bytes; otherwise nothing.
-pub fn print_made<E: Sink>(len: usize, path: &str, faults: &mut E)
+pub(crate) fn print_made<E: Sink>(len: usize, path: &str, faults: &mut E)
     ensures { PrintsMade len path.now (E.output faults.old) (E.output faults.new) }
 {
     if len == 0 {

@@ -12,7 +12,7 @@ use tb_file::{Rules, StartFault, read_rules};
 use tb_file_journal::{Device, Extent, OpenFault, Scan};
 
 /// What a file is that holds no ledger. Its first bytes are read.
-pub fn kind_in<D: Device>(device: &mut D) -> FileKind
+fn kind_in<D: Device>(device: &mut D) -> FileKind
     ensures { IsOfKind D.Device result device.old device.new }
 {
     let mut first = [0; FIRST_BYTES];
@@ -47,7 +47,7 @@ fn readable<D: Device>(alloc: Global, device: &mut D) -> Result<Extent, OpenFaul
 
 /// The number of the record at this offset, which is that of its entry: how many records are before it. The file is read up to there; None if
 /// that fails, or if the file is no longer damaged there.
-pub fn entry_at<D: Device>(alloc: Global, device: &mut D, at: usize) -> Option<u64>
+fn entry_at<D: Device>(alloc: Global, device: &mut D, at: usize) -> Option<u64>
     ensures { IsEntryAt D.Device at result device.old device.new }
 {
     match readable(alloc, device) {
@@ -69,7 +69,6 @@ fn headless_fault(kind: FileKind) -> KeepCommandFault
     match kind {
         FileKind::NoRecord => KeepCommandFault::NotAJournal(FileKind::NoRecord),
         FileKind::Closed => KeepCommandFault::NotAJournal(FileKind::Closed),
-        FileKind::Log => KeepCommandFault::NotAJournal(FileKind::Log),
         _ => KeepCommandFault::NoHead,
     }
 }

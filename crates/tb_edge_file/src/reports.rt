@@ -4,7 +4,6 @@ ghost use Rattle.tb_file_journal.specs.Device.{IsOfCall, Looks, ReadsAt};
 ghost use Rattle.tb_edge_file.specs.ExitStatuses.{first_due, IfHeld, IsMadeLooking, ReportsProgress};
 
 use crate::lines::{MEGABYTE, print_read};
-use crate::places::Silent;
 use std::alloc::Global;
 use tb_file_journal::{Device, JournalFault};
 use tb_records::Sink;
@@ -64,10 +63,6 @@ impl<D: Device + Drop, E: Sink + Drop> Reported<D, E> {
             self.due = at.saturating_add(STEP_BYTES);
         }
     }
-}
-
-impl<D: Silent + Drop, E: Sink + Drop> Silent for Reported<D, E> {
-    ghost silent = { D.silent };
 }
 
 impl<D: Device + Drop, E: Sink + Drop> Device for Reported<D, E> {

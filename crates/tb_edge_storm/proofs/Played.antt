@@ -12,8 +12,8 @@ use Rattle.tb_service.specs.OfferedLaws.{HasOwner, GrowsByOffers}
 use Rattle.tb_service.specs.Finished.{Finish}
 use Rattle.tb_caller.specs.Endpoints.{IsAmong}
 use Rattle.tb_caller.proofs.Lists.{each_among}
-use Rattle.tb_caller_service.specs.PortCalls.{OffersSent}
-use Rattle.tb_caller_service.proofs.Offered.{none_invented, in_service}
+use Rattle.tb_caller_laws.specs.PortCalls.{OffersSent}
+use Rattle.tb_caller_laws.proofs.Offered.{none_invented, in_service}
 use Rattle.tb_edge_storm.specs.Calls.{sent_in_session, accounts_call, transfer_call, HasCalled, IsStormClient, IsPlayed}
 use Rattle.tb_edge_storm.specs.private.Playing.{HasRun, IsClientLeft, AreLeft, number_at, call_at, count_at}
 use Rattle.tb_edge_storm.proofs.Sessions.{are_of_one}

@@ -23,7 +23,7 @@ use Rattle.tb_caller.specs.Clients.{Client as Session}
 use Rattle.tb_caller.specs.Endpoints.{IsAmong}
 use Rattle.tb_caller.specs.Calls.{IsTaken}
 use Rattle.tb_caller.proofs.Own.{IsOwn, IsOf, own_called, open_of, Returns as ReturnsOf, returns_of}
-use Rattle.tb_caller_service.specs.SeatCalls.{IsFromSeat}
+use Rattle.tb_caller_laws.specs.SeatCalls.{IsFromSeat}
 use Rattle.tb_edge_storm.specs.declared.clients.Client.{Client}
 use Rattle.tb_edge_storm.specs.Calls.{sent_in_session, transfer_call}
 use Rattle.tb_edge_storm.specs.private.Clients.{port_of, more_by, offered_by, offers, repeats_at, repeat_count, Waits, Hears, Returns, Repeats, Stands, Plays, TransfersMore}

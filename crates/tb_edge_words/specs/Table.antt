@@ -14,29 +14,26 @@ form_word form.Follow = codes "follow"
 form_word form.Check = codes "check"
 form_word form.Salvage = codes "salvage"
 form_word form.Backup = codes "backup"
-form_word form.Memory = codes "follow-memory"
 form_word form.Help = codes "--help"
 form_word form.Version = codes "--version"
 
 abbrev pub operands_of : FormName → List Operand
 operands_of form.Run = File ∷ ClientsMax ∷ Profile ∷ []
 operands_of form.Dump = File ∷ []
-operands_of form.Follow = File ∷ ClientsMax ∷ Profile ∷ []
+operands_of form.Follow = ClientsMax ∷ Profile ∷ []
 operands_of form.Check = File ∷ []
 operands_of form.Salvage = File ∷ New ∷ []
 operands_of form.Backup = File ∷ New ∷ []
-operands_of form.Memory = ClientsMax ∷ Profile ∷ []
 operands_of form.Help = []
 operands_of form.Version = []
 
 abbrev pub options_of : FormName → List OptionName
 options_of form.Run = Existing ∷ Progress ∷ DropTorn ∷ []
 options_of form.Dump = After ∷ Follow ∷ []
-options_of form.Follow = Existing ∷ DropTorn ∷ []
+options_of form.Follow = []
 options_of form.Check = Quick ∷ []
 options_of form.Salvage = []
 options_of form.Backup = []
-options_of form.Memory = []
 options_of form.Help = []
 options_of form.Version = []
 

@@ -144,7 +144,6 @@ asked_of forms words =
 -- no FILE is given, and nothing after it
 abbrev pub file_text : FormName → List ℕ
 file_text form.Run = codes "FILE and CLIENTS_MAX are missing"
-file_text form.Follow = codes "FILE and CLIENTS_MAX are missing"
 file_text form.Salvage = codes "FILE and NEW are missing"
 file_text form.Backup = codes "FILE and NEW are missing"
 file_text name = codes "FILE is missing"
@@ -164,9 +163,8 @@ wrong_operand_text operand.Profile = codes "PROFILE is 1 or 2"
 abbrev pub option_text : FormName → List ℕ
 option_text form.Run = codes "unknown option; those of run are --existing, --progress and --drop-torn"
 option_text form.Dump = codes "unknown option; those of dump are --after COMMIT and --follow"
-option_text form.Follow = codes "unknown option; those of follow are --existing and --drop-torn"
 option_text form.Check = codes "unknown option; that of check is --quick"
-option_text form.Memory = codes "unknown option; follow-memory has none"
+option_text form.Follow = codes "unknown option; follow has none"
 option_text name = codes "unknown option; write ./NAME for a file of that name"
 
 abbrev pub word_fault_text : Fault → List ℕ
@@ -223,15 +221,15 @@ help_of_a_form = refl
 pub help_of_the_program : asked_of two_forms (codes "-h" ∷ []) ≡ Ok (Form form.Help nothing)
 help_of_the_program = refl
 
-pub a_log_is_followed_in_memory : asked_of (form.Memory ∷ []) (codes "follow-memory" ∷ codes "64" ∷ codes "2" ∷ [])
-    ≡ Ok (Form form.Memory (record nothing { clients_max = Some 64; profile = Two }))
-a_log_is_followed_in_memory = refl
+pub a_log_is_followed : asked_of (form.Follow ∷ []) (codes "follow" ∷ codes "64" ∷ codes "2" ∷ [])
+    ≡ Ok (Form form.Follow (record nothing { clients_max = Some 64; profile = Two }))
+a_log_is_followed = refl
 
-pub help_of_a_form_without_a_file : asked_of (form.Memory ∷ []) (codes "follow-memory" ∷ codes "64" ∷ codes "--help" ∷ []) ≡ Ok (Help form.Memory)
+pub help_of_a_form_without_a_file : asked_of (form.Follow ∷ []) (codes "follow" ∷ codes "64" ∷ codes "--help" ∷ []) ≡ Ok (Help form.Follow)
 help_of_a_form_without_a_file = refl
 
-pub a_form_without_options : asked_of (form.Memory ∷ []) (codes "follow-memory" ∷ codes "64" ∷ codes "--existing" ∷ [])
-    ≡ Err (record { shown = 3; fault = fault.NoOption form.Memory })
+pub a_form_without_options : asked_of (form.Follow ∷ []) (codes "follow" ∷ codes "64" ∷ codes "--existing" ∷ [])
+    ≡ Err (record { shown = 3; fault = fault.NoOption form.Follow })
 a_form_without_options = refl
 
 pub no_form_of_the_program : asked_of two_forms (codes "check" ∷ codes "ledger" ∷ []) ≡ Err (record { shown = 1; fault = fault.NoForm })

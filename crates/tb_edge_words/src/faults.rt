@@ -38,7 +38,7 @@ fn missing_file(form: FormName) -> &'static str
     ensures { result.now ≡ file_text form }
 {
     match form {
-        FormName::Run | FormName::Follow => "FILE and CLIENTS_MAX are missing",
+        FormName::Run => "FILE and CLIENTS_MAX are missing",
         FormName::Salvage | FormName::Backup => "FILE and NEW are missing",
         _ => "FILE is missing",
     }
@@ -57,11 +57,8 @@ impl Fault {
             Fault::NoOption(FormName::Dump) => {
                 "unknown option; those of dump are --after COMMIT and --follow"
             }
-            Fault::NoOption(FormName::Follow) => {
-                "unknown option; those of follow are --existing and --drop-torn"
-            }
             Fault::NoOption(FormName::Check) => "unknown option; that of check is --quick",
-            Fault::NoOption(FormName::Memory) => "unknown option; follow-memory has none",
+            Fault::NoOption(FormName::Follow) => "unknown option; follow has none",
             Fault::NoOption(_) => "unknown option; write ./NAME for a file of that name",
             Fault::Twice => "an option is given once",
             Fault::Wrong(Operand::File) => "FILE is a number; write ./FILE",

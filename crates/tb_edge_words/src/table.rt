@@ -9,7 +9,7 @@ pub enum FormName {
     Run,
     /// Write a history as a dump.
     Dump,
-    /// Follow a log over a file.
+    /// Follow a log, with the ledger in memory.
     Follow,
     /// Read a file, and report what is in it.
     Check,
@@ -17,8 +17,6 @@ pub enum FormName {
     Salvage,
     /// Copy a whole file into a new one.
     Backup,
-    /// Follow a log, with the ledger in memory.
-    Memory,
     /// Print the page of usage.
     Help,
     /// Print the program's version.
@@ -67,7 +65,6 @@ impl FormName {
             FormName::Check => "check",
             FormName::Salvage => "salvage",
             FormName::Backup => "backup",
-            FormName::Memory => "follow-memory",
             FormName::Help => "--help",
             FormName::Version => "--version",
         }
@@ -78,12 +75,10 @@ impl FormName {
         ensures { result.now ≡ operands_of self }
     {
         match self {
-            FormName::Run | FormName::Follow => {
-                &[Operand::File, Operand::ClientsMax, Operand::Profile]
-            }
+            FormName::Run => &[Operand::File, Operand::ClientsMax, Operand::Profile],
             FormName::Dump | FormName::Check => &[Operand::File],
             FormName::Salvage | FormName::Backup => &[Operand::File, Operand::New],
-            FormName::Memory => &[Operand::ClientsMax, Operand::Profile],
+            FormName::Follow => &[Operand::ClientsMax, Operand::Profile],
             FormName::Help | FormName::Version => &[],
         }
     }
@@ -98,7 +93,6 @@ impl FormName {
                 OptionName::Progress,
                 OptionName::DropTorn,
             ],
-            FormName::Follow => &[OptionName::Existing, OptionName::DropTorn],
             FormName::Dump => &[OptionName::After, OptionName::Follow],
             FormName::Check => &[OptionName::Quick],
             _ => &[],

@@ -12,8 +12,9 @@ use Rattle.tb_machine.specs.Scripts.{Pair}
 use Rattle.tb_file.specs.declared.faults.KeepFault.{KeepFault}
 use Rattle.tb_file.specs.declared.faults.KeepFault.TheVariants as keep
 use Rattle.tb_file.specs.Keeping.{History, history_state, records_of, IsKeepable, Keeping, Keeps}
-use Rattle.tb_file.specs.Rounds.{state_from, entries_from, records_from, AreServed, pairs_of, Standing, standing_of, Rounds, Quits, EndsServing, Served}
-use Rattle.tb_file.specs.Again.{all_pairs, HasFirst, AnyCrash, IsAmid, AfterKill}
+use Rattle.tb_file.specs.Rounds.{state_from, entries_from, records_from, reply_bytes_from, AreServed, pairs_of, Standing, standing_of, Rounds, Quits, EndsServing, Served}
+use Rattle.tb_file.specs.Moments.{AtAMoment, all_pairs}
+use Rattle.tb_file.specs.Again.{AnyCrash, IsAmid, AfterKill}
 use Rattle.tb_file.proofs.Pairs.{records_join}
 use Rattle.tb_file.proofs.Moments.{state_behind}
 use Rattle.tb_file.proofs.Lasting.{keepable_longer, records_longer, served_join, served_front, rounds_are_served}
@@ -22,20 +23,29 @@ abbrev pub Only : Disk → Type 0
 Only disk = (c : List ℕ) → disk.left_since disk.moment c → disk.may_leave c
 
 -- a file of these records and those of some first pairs
-record Front (base : List (List ℕ)) (S : State) (all : List Pair) (file : List ℕ) : Type 0 where
-  pairs : List Pair
-  others : List Pair
-  all_are : all ≡ pairs ++ others
-  reads : contents file ≡ Records (base ++ records_from S pairs)
+pub record Front (base : List (List ℕ)) (S : State) (all : List Pair) (file : List ℕ) : Type 0 where
+  pub pairs : List Pair
+  pub others : List Pair
+  pub all_are : all ≡ pairs ++ others
+  pub reads : contents file ≡ Records (base ++ records_from S pairs)
 
-none_of : (base : List (List ℕ)) (S : State) (all : List Pair) (file : List ℕ) → contents file ≡ Records base → Front base S all file
+-- and bytes that are a prefix of the replies to these pairs
+pub record Stands (base : List (List ℕ)) (S : State) (all : List Pair) (file bytes : List ℕ) : Type 0 where
+  pub front : Front base S all file
+  pub unsent : List ℕ
+  pub replies : reply_bytes_from S front.pairs ≡ bytes ++ unsent
+
+pub none_sent : (base : List (List ℕ)) (S : State) (all : List Pair) (file : List ℕ) → Front base S all file → Stands base S all file []
+none_sent base S all file front = record { front = front; unsent = reply_bytes_from S front.pairs; replies = refl }
+
+pub none_of : (base : List (List ℕ)) (S : State) (all : List Pair) (file : List ℕ) → contents file ≡ Records base → Front base S all file
 none_of base S all file is = record { pairs = []; others = all; all_are = refl; reads = is ∙ ap Records (sym (append-nil base)) }
 
-of_batch : (base : List (List ℕ)) (S : State) (ps qs : List Pair) (file : List ℕ) → IsBeforeOrAfter base (records_from S ps) file → Front base S (ps ++ qs) file
+pub of_batch : (base : List (List ℕ)) (S : State) (ps qs : List Pair) (file : List ℕ) → IsBeforeOrAfter base (records_from S ps) file → Front base S (ps ++ qs) file
 of_batch base S ps qs file (inl is) = none_of base S (ps ++ qs) file is
 of_batch base S ps qs file (inr is) = record { pairs = ps; others = qs; all_are = refl; reads = is }
 
-behind_batch : (base grown : List (List ℕ)) (S T : State) (ps qs : List Pair) (file : List ℕ)
+unfoldable pub behind_batch : (base grown : List (List ℕ)) (S T : State) (ps qs : List Pair) (file : List ℕ)
     → grown ≡ base ++ records_from S ps → T ≡ state_from S ps → Front grown T qs file → Front base S (ps ++ qs) file
 behind_batch base grown S T ps qs file grows to front = record {
   pairs = ps ++ front.pairs;
@@ -54,7 +64,7 @@ module _ (tells : Type 0) {D : Type 0} (disk : D → Disk) (only : (d : D) → O
   rest_leaves d S all rest = grind (arith, common_steps, started, none_of)
 
   -- what ends the serving after rounds
-  ends_leave : tells → (result : Result ℕ KeepFault) (count : ℕ) (more : List Pair) (standing : Standing D) (after : Keeping D) (input last : Input) (written : Output)
+  pub ends_leave : tells → (result : Result ℕ KeepFault) (count : ℕ) (more : List Pair) (standing : Standing D) (after : Keeping D) (input last : Input) (written : Output)
       → IsAtRest (disk standing.device) → EndsServing tells disk result count more standing after input last written
       → LeavesOnly (disk standing.device) (disk after.journal.device) (Front (recorded (disk standing.device).seen) standing.state more)
   ends_leave t result count more standing after input last written rest ended = by result ended
@@ -98,32 +108,39 @@ module _ (tells : Type 0) {D : Type 0} (disk : D → Disk) (only : (d : D) → O
       (all_leave t done more middle standing result count after input last written commits.at_rest kept.2 ended)) in
       subst (λ (all : List Pair). LeavesOnly (disk first.device) (disk after.journal.device) (Front base first.state all)) (sym (append_assoc ps (pairs_of done) more)) leaves
 
-  has_first : (h : History) (S : State) (base : List (List ℕ)) (all : List Pair) (file : List ℕ) → IsKeepable h → base ≡ records_of h → S ≡ history_state h → AreServed S all → Front base S all file → HasFirst h all file
-  has_first h S base all file keepable stands state served front = record {
-    pairs = front.pairs;
-    others = front.others;
-    all_are = front.all_are;
-    stands = record {
-      reads = front.reads
-          ∙ ap (λ records. Records (records ++ records_from S front.pairs)) stands
-          ∙ ap (λ (T : State). Records (records_of h ++ records_from T front.pairs)) state
-          ∙ ap Records (records_longer h (entries_from (history_state h) front.pairs));
-      keepable = keepable_longer h front.pairs keepable
-          (served_front (history_state h) front.pairs front.others (subst (λ ps. AreServed (history_state h) ps) front.all_are (subst (λ (T : State). AreServed T all) state served)));
+  pub at_a_moment : (h : History) (S : State) (base : List (List ℕ)) (all : List Pair) (file bytes : List ℕ) → IsKeepable h → base ≡ records_of h → S ≡ history_state h → AreServed S all
+      → Stands base S all file bytes → AtAMoment h all file bytes
+  at_a_moment h S base all file bytes keepable stands state served is = record {
+    pairs = is.front.pairs;
+    others = is.front.others;
+    all_are = is.front.all_are;
+    file_is = record {
+      reads = is.front.reads
+          ∙ ap (λ records. Records (records ++ records_from S is.front.pairs)) stands
+          ∙ ap (λ (T : State). Records (records_of h ++ records_from T is.front.pairs)) state
+          ∙ ap Records (records_longer h (entries_from (history_state h) is.front.pairs));
+      keepable = keepable_longer h is.front.pairs keepable
+          (served_front (history_state h) is.front.pairs is.front.others (subst (λ ps. AreServed (history_state h) ps) is.front.all_are (subst (λ (T : State). AreServed T all) state served)));
     };
+    unsent = is.unsent;
+    replies = ap (λ (T : State). reply_bytes_from T is.front.pairs) (sym state) ∙ is.replies;
   }
 
   module _ (h : History) (result : Result ℕ KeepFault) (before after : Keeping D) (first last : Input) (start written : Output) (t : tells) (keeps : Keeps disk h before) (served : Served tells disk result before after first last start written) where
     leaves : LeavesOnly (disk before.journal.device) (disk after.journal.device) (Front (recorded (disk before.journal.device).seen) before.state (all_pairs served))
     leaves = all_leave t served.rounds served.more (standing_of before first start) served.standing result (length (all_pairs served)) after served.input last written keeps.fresh.ready.at_rest served.kept served.ended
 
-    left_first : (file : List ℕ) → (disk after.journal.device).left_since (disk before.journal.device).moment file → HasFirst h (all_pairs served) file
-    left_first file left =
+    are : AreServed before.state (all_pairs served)
+    are =
         let begin = standing_of before first start in
-        let behind = state_behind tells disk served.rounds begin served.standing served.kept in
-        let are = served_join before.state (pairs_of served.rounds) served.more (rounds_are_served tells disk served.rounds begin served.standing served.kept)
-        (subst (λ (S : State). AreServed S served.more) behind served.served) in
-        has_first h before.state (recorded (disk before.journal.device).seen) (all_pairs served) file keeps.keepable keeps.file keeps.state are (leaves.each file left)
+        served_join before.state (pairs_of served.rounds) served.more (rounds_are_served tells disk served.rounds begin served.standing served.kept)
+        (subst (λ (S : State). AreServed S served.more) (state_behind tells disk served.rounds begin served.standing served.kept) served.served)
+
+    pub finish : (file bytes : List ℕ) → Stands (recorded (disk before.journal.device).seen) before.state (all_pairs served) file bytes → AtAMoment h (all_pairs served) file bytes
+    finish file bytes is = at_a_moment h before.state (recorded (disk before.journal.device).seen) (all_pairs served) file bytes keeps.keepable keeps.file keeps.state are is
+
+    left_first : (file : List ℕ) → (disk after.journal.device).left_since (disk before.journal.device).moment file → AtAMoment h (all_pairs served) file []
+    left_first file left = finish file [] (none_sent (recorded (disk before.journal.device).seen) before.state (all_pairs served) file (leaves.each file left))
 
   pub any_crash : AnyCrash tells disk
   any_crash h result before after first last start written file t keeps served left = left_first h result before after first last start written t keeps served file left

@@ -1,9 +1,8 @@
 -- The entries of pairs that are served make a longer history that a file can represent.
-use Rattle.std.proofs.Common.{arith, ◌≡◌, Bool, true, false, cond, List, [], ◌∷◌, ◌++◌, map, refl, sym, ap, ◌∙◌, subst, IsTrue}
+use Rattle.std.proofs.Common.{arith, ◌≡◌, Bool, true, false, cond, List, [], ◌∷◌, ◌++◌, map, refl, sym, ap, IsTrue}
 use Rattle.std.proofs.lemmas.Grind.{common_steps}
 use Rattle.std.proofs.lemmas.List.{map-append}
 use Rattle.tb_file_journal.specs.Device.{Disk}
-use Rattle.tb_file_journal.specs.Contents.{Records}
 use Rattle.tb_machine.specs.declared.entries.Entry.{Entry}
 use Rattle.tb_machine.specs.Dumps.{dumped}
 use Rattle.tb_machine.specs.Recording.{IsRecord}
@@ -11,8 +10,7 @@ use Rattle.tb_machine.specs.Histories.{State, start, fits, step, LegalFrom}
 use Rattle.tb_machine.specs.Scripts.{Pair, entry_of, is_entered, after_pair}
 use Rattle.tb_machine.proofs.Legal.{legal_join}
 use Rattle.tb_file.specs.Keeping.{History, history_state, longer, head_record, records_of, AreRecorded, IsKeepable}
-use Rattle.tb_file.specs.Rounds.{state_from, entries_from, records_from, AreServed}
-use Rattle.tb_file.specs.Moments.{Lasts, RoundsAreServed}
+use Rattle.tb_file.specs.Rounds.{state_from, entries_from, AreServed, pairs_of, Standing, Rounds}
 
 legal_pairs : (S : State) (ps : List Pair) → AreServed S ps → LegalFrom S (entries_from S ps)
 legal_pairs S [] served = tt
@@ -55,19 +53,7 @@ pub records_longer : (h : History) (es : List Entry) → records_of h ++ map dum
 records_longer h es = ap (λ records. head_record h.profile h.clients_max ∷ records) (sym (map-append dumped h.entries es))
 
 module _ (tells : Type 0) {D : Type 0} (disk : D → Disk) where
-  pub lasts : Lasts tells disk
-  lasts h first all file bytes keepable stands state served backs =
-      let front = served_front (history_state h) backs.pairs backs.others
-      (subst (λ ps. AreServed (history_state h) ps) backs.all_are (subst (λ (S : State). AreServed S all) state served)) in
-      record {
-        reads = backs.reads
-            ∙ ap (λ records. Records (records ++ records_from first.state backs.pairs)) stands
-            ∙ ap (λ (S : State). Records (records_of h ++ records_from S backs.pairs)) state
-            ∙ ap Records (records_longer h (entries_from (history_state h) backs.pairs));
-        keepable = keepable_longer h backs.pairs keepable front;
-      }
-
-  pub rounds_are_served : RoundsAreServed tells disk
+  pub rounds_are_served : (done : List (List Pair)) (first before : Standing D) → Rounds tells disk done first before → AreServed first.state (pairs_of done)
   rounds_are_served [] first before kept = tt
   rounds_are_served (ps ∷ done) first before kept =
       grind (arith, common_steps, served_join, rounds_are_served done kept.0 before kept.2)

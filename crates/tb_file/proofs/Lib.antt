@@ -19,6 +19,7 @@ pub mod TakenRecords
 pub mod Longest
 pub mod EntriesAbove
 pub mod Crashes
+pub mod AtMoments
 pub mod OneHistory
 pub mod Spelled
 pub mod Stopping

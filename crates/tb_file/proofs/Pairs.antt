@@ -12,14 +12,14 @@ pub state_snoc : (S : State) (ps : List Pair) (p : Pair) → state_from S (ps ++
 state_snoc S [] p = refl
 state_snoc S (q ∷ qs) p = state_snoc (after_pair S q) qs p
 
-entries_join : (S : State) (ps qs : List Pair) → entries_from S (ps ++ qs) ≡ entries_from S ps ++ entries_from (state_from S ps) qs
+pub entries_join : (S : State) (ps qs : List Pair) → entries_from S (ps ++ qs) ≡ entries_from S ps ++ entries_from (state_from S ps) qs
 entries_join S [] qs = refl
 entries_join S (p ∷ ps) qs = ap (λ es. entered S p ++ es) (entries_join (after_pair S p) ps qs) ∙ sym (append_assoc (entered S p) (entries_from (after_pair S p) ps) (entries_from (state_from (after_pair S p) ps) qs))
 
 pub records_join : (S : State) (ps qs : List Pair) → records_from S (ps ++ qs) ≡ records_from S ps ++ records_from (state_from S ps) qs
 records_join S ps qs = ap (map dumped) (entries_join S ps qs) ∙ map-append dumped (entries_from S ps) (entries_from (state_from S ps) qs)
 
-answers_join : (S : State) (ps qs : List Pair) → answers_from S (ps ++ qs) ≡ answers_from S ps ++ answers_from (state_from S ps) qs
+pub answers_join : (S : State) (ps qs : List Pair) → answers_from S (ps ++ qs) ≡ answers_from S ps ++ answers_from (state_from S ps) qs
 answers_join S [] qs = refl
 answers_join S (p ∷ ps) qs = ap (λ rest. answers_from S (p ∷ []) ++ rest) (answers_join (after_pair S p) ps qs)
 

@@ -1,11 +1,12 @@
 -- What is opened again after a crash goes on as if there had been no crash.
-use Rattle.std.specs.Prelude.{ℕ, ◌≡◌, ◌⊎◌, List, ◌++◌, Result}
+use Rattle.std.specs.Prelude.{ℕ, ◌≡◌, ◌⊎◌, List, [], ◌++◌, Result}
 use Rattle.tb_records.specs.Transport.{Input, Output}
 use Rattle.tb_file_journal.specs.Device.{Disk}
 use Rattle.tb_machine.specs.Scripts.{Pair}
 use Rattle.tb_file.specs.declared.faults.KeepFault.{KeepFault}
 use Rattle.tb_file.specs.Keeping.{History, history_state, longer, Keeping, Keeps, IsLedger}
-use Rattle.tb_file.specs.Rounds.{state_from, entries_from, reply_bytes_from, pairs_of, Served}
+use Rattle.tb_file.specs.Rounds.{state_from, entries_from, reply_bytes_from, Served}
+use Rattle.tb_file.specs.Moments.{AtAMoment, all_pairs}
 
 -- a file represents at most one history
 abbrev pub FileHasOneHistory : Type 0
@@ -20,25 +21,13 @@ abbrev pub GoesOnAfter : Type 0
 GoesOnAfter = (h : History) (ps qs : List Pair)
     → reply_bytes_from (history_state h) (ps ++ qs) ≡ reply_bytes_from (history_state h) ps ++ reply_bytes_from (history_state (longer h (entries_from (history_state h) ps))) qs
 
--- the pairs that were read; none of them is acknowledged without its entry
-abbrev pub all_pairs : {tells : Type 0} {D : Type 0} {disk : D → Disk} {result : Result ℕ KeepFault} {before after : Keeping D} {first last : Input} {start written : Output}
-    → Served tells disk result before after first last start written → List Pair
-all_pairs served = pairs_of served.rounds ++ served.more
-
--- the file represents the history with the entries of some first pairs
-pub record HasFirst (h : History) (all : List Pair) (file : List ℕ) : Type 0 where
-  pub pairs : List Pair
-  pub others : List Pair
-  pub all_are : all ≡ pairs ++ others
-  pub stands : IsLedger (longer h (entries_from (history_state h) pairs)) file
-
 module _ (tells : Type 0) {D : Type 0} (disk : D → Disk) where
-  -- a crash at any moment of serving
+  -- a crash at any moment of serving: the file has the entries of some first pairs
   abbrev pub AnyCrash : Type 0
   AnyCrash = (h : History) (result : Result ℕ KeepFault) (before after : Keeping D) (first last : Input) (start written : Output) (file : List ℕ)
       → tells → Keeps disk h before → (served : Served tells disk result before after first last start written)
       → (disk after.journal.device).left_since (disk before.journal.device).moment file
-      → HasFirst h (all_pairs served) file
+      → AtAMoment h (all_pairs served) file []
 
   -- a device at some moment of serving: what a crash may leave there, a crash since the beginning might have left
   abbrev pub IsAmid : Disk → Disk → Disk → Type 0
@@ -49,4 +38,4 @@ module _ (tells : Type 0) {D : Type 0} (disk : D → Disk) where
   AfterKill = (h : History) (result : Result ℕ KeepFault) (before after : Keeping D) (first last : Input) (start written : Output) (amid : D)
       → tells → Keeps disk h before → (served : Served tells disk result before after first last start written)
       → ((amid ≡ after.journal.device) ⊎ IsAmid (disk before.journal.device) (disk after.journal.device) (disk amid))
-      → HasFirst h (all_pairs served) (disk amid).seen
+      → AtAMoment h (all_pairs served) (disk amid).seen []

@@ -5,22 +5,18 @@ ghost use Rattle.tb_file.specs.Quick.{HistoriesAreInOrder, QuickRefusesNone};
 ghost use Rattle.tb_file.specs.Reading.{DumpIsOfHistory, WholeRules, WholeNoHead, WholeDumps};
 ghost use Rattle.tb_file.specs.Recovering.{OnlyMemory, FileOnlyMemory, WholeStops};
 ghost use Rattle.tb_file.specs.Salvaging.{IsLongest};
-ghost use Rattle.tb_file.specs.Moments.{WhileCommitting, WhileReplying, RepliesToTheDone, Lasts, RoundsAreServed};
+ghost use Rattle.tb_file.specs.Moments.{AtEachMoment, AtTheEnd, RepliesToTheDone, AllServed};
 
 use tb_file_journal::Device;
 
-/// What was acknowledged is in the file, at each moment of the rounds that `keep` serves. While entries are committed, only the replies to earlier
-/// ones were sent. While replies are sent, each file that a crash leaves has their entries.
-pub fn acknowledged_stands<D: Device>()
-    ensures committing { WhileCommitting D.tells D.disk }
-    ensures replying { WhileReplying D.tells D.disk }
+/// At each moment of `keep`, the file that a crash may leave then has the history from before with the entries of some first pairs of those that
+/// were read, and what was sent by then is a prefix of the replies to these pairs: so what was acknowledged is in the file. While entries are
+/// committed, only the replies to earlier ones were sent. The same holds at the end, of all bytes that were written.
+pub fn at_each_moment<D: Device>()
+    ensures moments { AtEachMoment D.tells D.disk }
+    ensures ended { AtTheEnd D.tells D.disk }
     ensures replied { RepliesToTheDone D.tells D.disk }
-{}
-
-/// Such a file represents a history that may be kept: `open` reads it, and the entries of the acknowledged pairs are in it.
-pub fn acknowledged_lasts<D: Device>()
-    ensures lasts { Lasts D.tells D.disk }
-    ensures served { RoundsAreServed D.tells D.disk }
+    ensures served { AllServed D.tells D.disk }
 {}
 
 /// A crash at any moment of `keep` leaves a file that represents the history from before it, with the entries of some first pairs of those that

@@ -7,7 +7,7 @@ use std::marker::Model;
 
 /// The hash of consecutive parts: for each part it is SHA-256 of the hash before it and its bytes. Its 32 bytes continue with the next part.
 #[derive(Drop)]
-pub struct Chain {
+pub(crate) struct Chain {
     hash: [u8; 32],
 }
 
@@ -21,21 +21,21 @@ impl Model for Chain {
 
 impl Chain {
     /// The hash before the first part: 32 zeros.
-    pub fn new() -> Chain
+    pub(crate) fn new() -> Chain
         ensures { result ≡ no_hash }
     {
         Chain { hash: [0; 32] }
     }
 
     /// The 32 bytes.
-    pub fn as_bytes(&self) -> &[u8; 32]
+    pub(crate) fn as_bytes(&self) -> &[u8; 32]
         ensures { result.now ≡ self.now }
     {
         &self.hash
     }
 
     /// Adds a part.
-    pub fn add(&mut self, bytes: &[u8])
+    pub(crate) fn add(&mut self, bytes: &[u8])
         ensures { self.new ≡ chained_hash self.old bytes.now }
     {
         let mut hasher = Sha256::new();

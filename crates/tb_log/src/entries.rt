@@ -78,7 +78,7 @@ fn pair_fault(position: u64, fault: FrameFault) -> LogFault
 }
 
 /// Checks that the content of the entry at a position consists of pairs, before the first of them is served.
-pub fn check_pairs(global: Global, position: u64, content: &[u8]) -> Result<(), LogFault>
+fn check_pairs(global: Global, position: u64, content: &[u8]) -> Result<(), LogFault>
     requires { length content.now ≤ content_max }
     ensures pairs { OnOk result (IsPairs content.now) }
     ensures bad { IfErr result (λ fault. IsNoPairs fault position content.now) }
@@ -95,7 +95,7 @@ pub fn check_pairs(global: Global, position: u64, content: &[u8]) -> Result<(), 
 }
 
 /// Reads the entry after the last position: its position and its content, which consists of pairs.
-pub fn entry_from<S: Source>(
+pub(crate) fn entry_from<S: Source>(
     alloc: Global,
     source: &mut S,
     last: u64,

@@ -13,7 +13,7 @@ use tb_records::{ClientsMax, Counting, Profile, Request, Sink, put_all};
 
 /// A machine, the position of the last entry, and the hashes of the log and of the replies.
 #[derive(Drop)]
-pub struct Follower<A: Allocator + Clone> {
+pub(crate) struct Follower<A: Allocator + Clone> {
     machine: Machine<A>,
     position: u64,
     log: Chain,
@@ -71,7 +71,7 @@ fn numbered(global: Global, position: u64, index: u32, frame: &[u8]) -> Result<V
 
 impl<A: Allocator + Clone> Follower<A> {
     /// A follower that has read nothing, with the records of its machine in memory of `alloc`.
-    pub fn new_in(
+    pub(crate) fn new_in(
         global: Global,
         alloc: A,
         profile: Profile,
@@ -88,21 +88,14 @@ impl<A: Allocator + Clone> Follower<A> {
     }
 
     /// The position of the last entry.
-    pub fn position(&self) -> u64
+    pub(crate) fn position(&self) -> u64
         ensures { result ≡ self.now.position }
     {
         self.position
     }
 
-    /// The machine after the pairs of all entries.
-    pub fn machine(&self) -> &Machine<A>
-        ensures { result.now ≡ self.now.state }
-    {
-        &self.machine
-    }
-
     /// Takes the entry at the next position, before its pairs.
-    pub fn begin(&mut self, position: u64, content: &[u8])
+    pub(crate) fn begin(&mut self, position: u64, content: &[u8])
         requires { position ≡ self.old.position + 1 }
         ensures { self.new ≡ with_content self.old content.now }
     {
@@ -129,7 +122,7 @@ impl<A: Allocator + Clone> Follower<A> {
 
     /// The bytes of the answer to a question.
     #[tactic(auto, using(crate::proofs::Numbers::eight_written))]
-    pub fn standing(&self, global: Global) -> Result<Vec<u8>, AllocError>
+    fn standing(&self, global: Global) -> Result<Vec<u8>, AllocError>
         ensures { IfOk result
             (λ line. line.items ≡ follower_standing self.now) }
     {
@@ -142,7 +135,11 @@ impl<A: Allocator + Clone> Follower<A> {
     }
 
     /// Writes the position and both hashes.
-    pub fn write_standing<W: Sink>(&self, global: Global, writer: &mut W) -> Result<(), LogFault>
+    pub(crate) fn write_standing<W: Sink>(
+        &self,
+        global: Global,
+        writer: &mut W,
+    ) -> Result<(), LogFault>
         ensures { WritesStanding result self.now (W.output writer.old) (W.output writer.new) }
     {
         write(writer, &self.standing(global)?)

@@ -15,7 +15,7 @@ use tb_records::streams::read_timed_from;
 use tb_records::{ClientsMax, Counting, Profile, Sink, Source};
 
 /// Serves the pairs of the last entry, one after another, each with its index.
-pub fn serve_content<A: Allocator + Clone, W: Sink>(
+fn serve_content<A: Allocator + Clone, W: Sink>(
     global: Global,
     follower: &mut Follower<A>,
     content: &[u8],

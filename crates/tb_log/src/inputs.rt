@@ -38,7 +38,7 @@ fn fill_all<S: Source>(source: &mut S, buffer: &mut [u8]) -> Result<(), LogFault
 
 /// The byte that begins the next item; `None` if the input ends before it.
 #[tactic(auto, using(crate::proofs::Taking::none_filled, crate::proofs::Taking::one_filled))]
-pub fn kind_from<S: Source>(source: &mut S) -> Result<Option<u8>, LogFault>
+pub(crate) fn kind_from<S: Source>(source: &mut S) -> Result<Option<u8>, LogFault>
     ensures { BeginsItem result (S.input source.old) (S.input source.new) }
 {
     let mut bytes = [0; 1];

@@ -22,9 +22,5 @@ mod following;
 mod inputs;
 pub mod laws;
 
-pub use chains::Chain;
-pub use entries::{check_pairs, entry_from};
 pub use faults::LogFault;
-pub use followers::Follower;
-pub use following::{follow, serve_content};
-pub use inputs::kind_from;
+pub use following::follow;

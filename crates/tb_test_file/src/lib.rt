@@ -1,4 +1,4 @@
-//! Tests of the libraries that keep a ledger in a file or follow a log, only by their public calls: so none of them is proved a second time for
+//! Tests of the libraries that keep a ledger in a file, only by their public calls: so none of them is proved a second time for
 //! its tests. What arguments and files do to `tbd` is tested over the program, by tests/files.
 //!
 //! Modules:
@@ -6,7 +6,6 @@
 //! - `steps`: what each test wants, and small files in memory.
 //! - `journal`: of tb_file_journal.
 //! - `keep`: of tb_file.
-//! - `keep_log`: of tb_log_file.
 //! - `keep_commands`: of tb_edge_file.
 #![tactic(auto)]
 
@@ -16,7 +15,5 @@ mod journal;
 mod keep;
 #[cfg(test)]
 mod keep_commands;
-#[cfg(test)]
-mod keep_log;
 #[cfg(test)]
 mod steps;

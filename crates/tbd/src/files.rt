@@ -7,7 +7,6 @@ use std::io::{BufWriter, Stderr};
 use std::thread;
 use std::time::Duration;
 use tb_edge_file::{Named, Opener, OpeningFault, Reason, Reported, opening_fault, unread_fault};
-use tb_edge_log::Looker;
 use tb_file_journal::{Device, FileFault, Real, Snapshot};
 use tb_records::Counting;
 
@@ -145,18 +144,6 @@ impl<'a> Opener for SystemFiles<'a> {
     fn pause(&self) -> bool {
         thread::sleep(self.rt, Duration::from_millis(PAUSE_MS));
         true
-    }
-}
-
-impl<'a> Looker for SystemFiles<'a> {
-    fn look(&mut self, name: &str, into: &mut [u8]) -> Result<usize, OpeningFault> {
-        match Real::look(&HighFiles::new(self.rt), name) {
-            Ok(real) => {
-                let mut real = real;
-                real.read_at(0, into).map_err(|fault| unread_fault(fault))
-            }
-            Err(fault) => Err(fault_of(&fault)),
-        }
     }
 }
 

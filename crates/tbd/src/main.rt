@@ -1,21 +1,20 @@
 //! `tbd`: a ledger server whose history is in a file. It serves requests from standard input to standard output, and sends
-//! each reply when the entry that it rests on is durable. It follows a log in the same way, writes the history of either
-//! file as a dump, and reports what is in a file. tb_edge_file and tb_edge_log have what it does, over any files,
-//! reader and writer.
+//! each reply when the entry that it rests on is durable. It writes the history of a file as a dump, reports what is in a
+//! file, copies one, and follows a log in memory. tb_edge_file has what it does, over any files, reader and writer.
 //!
 //! Modules:
 //!
 //! - `descriptors`: `HighFiles`, files that take none of the descriptors of the standard streams.
-//! - `copies`: copies of what a start cuts off.
 //! - `wholes`: the whole entries among them.
+//! - `host_names`: `HostNames`, the names of the system's files, for what copies files.
 //! - `names`: `Name`, what the name of an open file leads to.
 //! - `files`: the files of the system, by their paths.
 //! - `running`: what the words ask for, done over these.
 #![tactic(auto)]
 
-mod copies;
 mod descriptors;
 mod files;
+mod host_names;
 mod names;
 mod running;
 mod wholes;

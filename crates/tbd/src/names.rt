@@ -1,14 +1,14 @@
 //! What the name of an open file leads to, and the copies next to it.
 
-use crate::copies::copy;
 use crate::files::lines;
+use crate::host_names::HostNames;
 use crate::wholes::Wholes;
 use std::alloc::AllocError;
 use std::cell::Cell;
 use std::fs::{File, Metadata};
 use std::os::unix::fs::MetadataExt;
 use std::{format, fs};
-use tb_edge_file::{Place, Reason, print_named};
+use tb_edge_file::{Place, Reason, copy_cut, print_named};
 use tb_file_journal::JournalFault;
 use tb_records::Counting;
 
@@ -88,7 +88,8 @@ impl<'a> Place for Name<'a> {
         if self.drops {
             return Ok(());
         }
-        match copy(self.rt, self.path.as_str(), at, bytes) {
+        let mut names = HostNames::new(self.rt);
+        match copy_cut(self.rt.alloc(), &mut names, self.path.as_str(), at, bytes) {
             Ok(name) => {
                 self.report(at, bytes, name.as_str());
                 Ok(())

@@ -2,8 +2,7 @@
 use crate::files::SystemFiles;
 use std::cell::Cell;
 use std::io::{BufWriter, IsTerminal, Stderr};
-use tb_edge_file::{Command, Steady, read_command, refuse_words};
-use tb_edge_log::{Terminals, serve};
+use tb_edge_file::{Command, Pipes, Steady, Terminals, read_command, refuse_words, serve};
 use tb_records::Counting;
 
 /// Does what a command asks for, and returns the exit status.
@@ -20,16 +19,11 @@ fn run(rt: &HostRuntime, command: &Command, faults: &mut Counting<BufWriter<Stde
         drops: options.drops,
         reason: &reason,
     };
-    let output = Steady::new(rt.stdout());
-    serve(
-        rt.alloc(),
-        &mut files,
-        command,
-        ends,
-        rt.stdin(),
-        output,
-        faults,
-    )
+    let pipes = Pipes {
+        reader: rt.stdin(),
+        writer: Steady::new(rt.stdout()),
+    };
+    serve(rt.alloc(), &mut files, command, ends, pipes, faults)
 }
 
 /// Does what the words ask for, and returns the exit status.

@@ -32,12 +32,9 @@ fn block(bytes: &[u8]) -> Option<(&[u8], &[u8])> {
     }
 }
 
-/// The number of the entry of a record: in a log its position, after the mark, and in a ledger its commit number.
+/// The number of the entry of a record: its commit number.
 fn number(record: &[u8]) -> Option<u64> {
     match record {
-        [b'T', b'B', b'F', b'1', _, _, 2, a, b, c, d, e, f, g, h, ..] => Some(u64::from_le_bytes([
-            *a, *b, *c, *d, *e, *f, *g, *h,
-        ])),
         [a, b, c, d, e, f, g, h, ..] => {
             Some(u64::from_le_bytes([*a, *b, *c, *d, *e, *f, *g, *h]))
         }

@@ -4,15 +4,15 @@ use Rattle.tb_records.specs.Transport.{Output}
 use Rattle.tb_records.specs.declared.devices.Sink as sinks
 use Rattle.tb_file_journal.specs.declared.devices.Device as devices
 use Rattle.tb_file_journal.specs.Scans.{HasRead, ScanState}
-use Rattle.tb_file.specs.declared.faults.StartFault.{StartFault}
 use Rattle.tb_file.specs.declared.recovering.Rules.{Rules}
 use Rattle.tb_file.specs.declared.salvaging.Salvaged.{Salvaged}
 use Rattle.tb_file.specs.Keeping.{Keeping}
 use Rattle.tb_edge_commands.specs.Streams.{Change, Streams, new, old}
 use Rattle.tb_edge_file.specs.declared.faults.KeepCommandFault.{KeepCommandFault}
 use Rattle.tb_edge_file.specs.declared.following.Part.{Part}
+use Rattle.tb_edge_file.specs.declared.ends.Pipes.{Pipes}
 use Rattle.tb_edge_file.specs.declared.keeping.FileStart.{FileStart}
-use Rattle.tb_edge_file.specs.Copies.{CopiesHeaded, CopiesMended, CopiesRefused, EndsCopy, MakesCopy, NotesMended, copied_of, refused_by}
+use Rattle.tb_edge_file.specs.Copies.{CopiesHeaded, CopiesMended, EndsCopy, MakesCopy, NotesMended, copied_of, refused_by}
 use Rattle.tb_edge_file.specs.Ends.{FileOutput, KnownEnds, KnownFiles, KnownReading, OnDevice, OnEnds, OnOpener, OnWriter, made_by}
 use Rattle.tb_edge_file.specs.Following.{EndsRounds, WritesGrown, GrowsBy, HasPartCause, RoundCause, SendsRound, WritesPart}
 use Rattle.tb_edge_file.specs.Outcomes.{DumpsPart, DumpsFollowing, FileOutcome, ServesFile, ServesKept, ServesLong, ServesOpened, file_of}
@@ -22,11 +22,11 @@ module _ {D : Type 0} (its : devices.Ghosts D) (outcome : FileOutcome) where
   abbrev pub KeepsOver : Keeping D → FileStart → ℕ → Streams → Streams → Type 0
   KeepsOver keeper start len = ServesKept its outcome keeper start.path.now start.reports len
 
-  abbrev pub StartsOver : Rules → FileStart → ℕ → D → Streams → Streams → Type 0
-  StartsOver rules start len device = ServesLong its outcome (file_of rules start) start.reports len device
+  abbrev pub StartsOver : FileStart → ℕ → D → Streams → Streams → Type 0
+  StartsOver start len device = ServesLong its outcome (file_of start) start.reports len device
 
-  abbrev pub RunsFile : Rules → FileStart → D → Streams → Streams → Type 0
-  RunsFile rules start device = ServesFile its outcome (file_of rules start) start.reports device
+  abbrev pub RunsFile : FileStart → D → Streams → Streams → Type 0
+  RunsFile start device = ServesFile its outcome (file_of start) start.reports device
 
 -- what is written about a file of this many bytes that was copied, or why it is refused
 abbrev pub EndsSalvage : {E N : Type 0} → devices.Ghosts E → ℕ → Bool → Salvaged N → FileOutcome → FileOutput E → FileOutput E → Type 0
@@ -45,9 +45,6 @@ module _ {O D E W : Type 0} (its : KnownFiles O D E) (sink : sinks.Ghosts W) whe
   abbrev pub CopiesHeadedOn : List ℕ → Bool → FileOutcome → E → Change O → Change W → Type 0
   CopiesHeadedOn into whole outcome from opener writer = OnOpener sink (CopiesHeaded its into whole outcome from) opener writer
 
-  abbrev pub CopiesRefusedOn : List ℕ → StartFault → Bool → FileOutcome → E → Change O → Change W → Type 0
-  CopiesRefusedOn into fault whole outcome from opener writer = OnOpener sink (CopiesRefused its into fault whole outcome from) opener writer
-
   abbrev pub CopiesMendedOn : List ℕ → KeepCommandFault → FileOutcome → E → Change O → Change W → Type 0
   CopiesMendedOn into refused outcome from opener writer = OnOpener sink (CopiesMended its into refused outcome from) opener writer
 
@@ -60,10 +57,10 @@ abbrev pub NotesMendedOn : {W : Type 0} → sinks.Ghosts W → FileOutcome → F
 NotesMendedOn sink copied outcome writer = OnWriter sink (NotesMended copied outcome) writer
 
 -- a ledger was served over the ends of a command
-module _ {O D E R W L : Type 0} (its : KnownEnds O D E R W L) (rules : Rules) (start : FileStart) where
-  abbrev pub RunsOpened : FileOutcome → Change O → Change R → Change W → Change L → Type 0
+module _ {O D E R W L : Type 0} (its : KnownEnds O D E R W L) (start : FileStart) where
+  abbrev pub RunsOpened : FileOutcome → Change O → Change (Pipes R W) → Change L → Type 0
   RunsOpened outcome opener =
-      OnEnds its (ServesOpened its.files.file (made_by its.files start.existing (old opener) start.path.now) (new opener) outcome (file_of rules start) start.reports)
+      OnEnds its (ServesOpened its.files.file (made_by its.files start.existing (old opener) start.path.now) (new opener) outcome (file_of start) start.reports)
 
 -- the entries above a commit number, of any file that a device holds
 module _ {D W : Type 0} (holds : D → List ℕ → Type 0) (sink : sinks.Ghosts W) (outcome : FileOutcome) where

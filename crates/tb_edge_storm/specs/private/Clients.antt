@@ -16,7 +16,7 @@ use Rattle.tb_caller.specs.declared.callers.Phase.TheVariants.{Idle}
 use Rattle.tb_caller.specs.Clients.{fresh, client_with, open_request, made, call_fault, called, heard, received}
 use Rattle.tb_caller.specs.Endpoints.{IsAmong}
 use Rattle.tb_caller.specs.Calls.{IsTaken}
-use Rattle.tb_caller_service.specs.SeatCalls.{IsFromSeat}
+use Rattle.tb_caller_laws.specs.SeatCalls.{IsFromSeat}
 use Rattle.tb_edge_storm.specs.declared.clients.Client.{Client}
 use Rattle.tb_edge_storm.specs.declared.network.Line.{Line}
 use Rattle.tb_edge_storm.specs.declared.network.Line.TheVariants as line

@@ -14,7 +14,7 @@ use Rattle.tb_service.specs.Finished.{Finish, IsOffered}
 use Rattle.tb_service.specs.OfferedLaws.{GrowsByOffers}
 use Rattle.tb_caller.specs.Endpoints.{IsAmong}
 use Rattle.tb_caller.specs.Calls.{IsTaken}
-use Rattle.tb_caller_service.specs.SeatCalls.{IsFromSeat}
+use Rattle.tb_caller_laws.specs.SeatCalls.{IsFromSeat}
 use Rattle.tb_edge_storm.specs.declared.clients.Client.{Client}
 use Rattle.tb_edge_storm.specs.declared.playing.Clients.{Clients}
 use Rattle.tb_edge_storm.specs.declared.totals.Totals.{Totals}

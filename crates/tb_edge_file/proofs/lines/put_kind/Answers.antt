@@ -6,9 +6,6 @@ returns-in-Unread g c = rw c.in-Unread.is c.put_all.ensures
 pub returns-in-Empty : goal.returns-in-Empty
 returns-in-Empty g c = rw c.in-Empty.is c.put_named.ensures
 
-pub returns-in-Former : goal.returns-in-Former
-returns-in-Former g c = rw c.in-Former.is c.put_named-in-Former.ensures
-
 pub returns-in-Dump : goal.returns-in-Dump
 returns-in-Dump g c = rw c.in-Dump.is c.put_named-in-Dump.ensures
 
@@ -23,9 +20,6 @@ returns-in-Begun g c = rw c.in-Begun.is c.put_named-in-Begun.ensures
 
 pub returns-in-Ledger : goal.returns-in-Ledger
 returns-in-Ledger g c = rw c.in-Ledger.is c.put_named-in-Ledger.ensures
-
-pub returns-in-Log : goal.returns-in-Log
-returns-in-Log g c = rw c.in-Log.is c.put_named-in-Log.ensures
 
 pub returns-in-Script : goal.returns-in-Script
 returns-in-Script g c = rw c.in-Script.is c.put_named-in-Script.ensures

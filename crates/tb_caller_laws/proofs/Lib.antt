@@ -1,0 +1,10 @@
+pub mod Histories
+pub mod Crashes
+pub mod Seats
+pub mod Offered
+pub mod Replied
+pub mod Acknowledged
+pub mod Refused
+pub mod Worlds
+pub mod Worked
+pub mod Others

@@ -1,5 +1,0 @@
-use Rattle.tb_caller_service.proofs.Seats.{in_seats}
-use Rattle.tb_caller_service.proofs.laws.in_seats.Goals as goal
-
-pub returns : goal.returns
-returns c = in_seats

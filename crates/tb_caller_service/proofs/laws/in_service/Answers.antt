@@ -1,5 +1,0 @@
-use Rattle.tb_caller_service.proofs.Offered.{in_service}
-use Rattle.tb_caller_service.proofs.laws.in_service.Goals as goal
-
-pub returns : goal.returns
-returns c = in_service

@@ -1,2 +1,0 @@
-pub mod SeatCalls
-pub mod PortCalls

@@ -1,6 +1,0 @@
-use Rattle.std.proofs.Common.{refl}
-use Rattle.tb_edge_file.proofs.Passing.{said}
-use Rattle.tb_edge_file.proofs.lines.print_text.Goals as goal
-
-pub returns : goal.returns
-returns g c = said _ _ c.put_behind.result _ _ _ refl c.put_behind.ensures c.pass.ensures

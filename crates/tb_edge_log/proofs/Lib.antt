@@ -1,3 +1,0 @@
-pub mod CopiedLogs
-pub mod Lengths
-pub mod Rounds

@@ -1,9 +1,0 @@
-use Rattle.tb_edge_log.proofs.CopiedLogs.{printed, refused}
-use Rattle.tb_edge_log.proofs.copying.end_copy.Goals as goal
-
-pub returns-in-Some : goal.returns-in-Some
-returns-in-Some g c = refused g.D.Device _ c.in-Some.fault _ c.named.result c.args.from.now c.named.new.device _ c.in-Some.ensures c.named.ensures
-
-pub returns-in-None : goal.returns-in-None
-returns-in-None g c =
-    printed g.D.Device _ _ _ _ _ c.args.from.now _ _ c.in-None.ensures c.of-it.ensures c.report.ensures c.printed_outcome.ensures

@@ -1,5 +1,0 @@
--- what only private contracts cite
-pub mod Steps
-pub mod DumpSteps
-pub mod CopySteps
-pub mod BehindDamage
