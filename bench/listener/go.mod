@@ -1,0 +1,3 @@
+module telovamish.org/bench/listener
+
+go 1.19

@@ -1,0 +1,3 @@
+module telovamish.org/server
+
+go 1.19

@@ -1,0 +1,525 @@
+package backend
+
+import (
+	"errors"
+	"io"
+	"math"
+	"os"
+	"regexp"
+	"strconv"
+	"sync"
+	"time"
+
+	"telovamish.org/server/internal/config"
+	"telovamish.org/server/internal/moments"
+	"telovamish.org/server/internal/report"
+)
+
+const (
+	emptyMax = 13           // bytes below which a journal's file has no entry
+	progress = "--progress" // the option that has `tbd run` report when it serves
+	existing = "--existing" // the option that has it make no file
+	steady   = time.Minute  // after which a command that ends is one that was well until then
+)
+
+// pauses are before the command is started again; the last one from then on.
+var pauses = []time.Duration{100 * time.Millisecond, 500 * time.Millisecond, 2 * time.Second, 5 * time.Second}
+
+// news is what a server that keeps its ledger reports besides faults.
+var news = regexp.MustCompile(
+	`^[\w./-]+: (?:made |reading |copied |cut |(ready)(?:: commit [0-9]+, time [0-9]+)?$)`)
+
+// Child is a server as a child process. Pairs of a moment and a request go to it in one order, and its
+// replies come back in that order. One that keeps its ledger in a file takes requests once it has
+// reported that it is ready, and is started again if a signal ended it.
+type Child struct {
+	fileAt   int // which word is the file; 0 if the ledger is in memory
+	patience time.Duration
+	ahead    time.Duration
+	log      *report.Log
+	queue    *queue
+	commits  *commits
+	begun    chan struct{} // closed when it serves for the first time
+	stopping chan struct{} // closed when the host is to end
+
+	mu        sync.Mutex
+	words     []string
+	process   *process
+	hasBegun  bool
+	isClosed  bool
+	isGivenUp bool // it was killed before it took a request
+}
+
+// NewChild is a server of these words. patience is how long it is waited for at its end, and ahead how
+// far its ledger's last time may lie ahead of the clock.
+func NewChild(words []string, patience, ahead time.Duration, log *report.Log) *Child {
+	at := journalAt(words, "run")
+	file := ""
+	if at > 0 {
+		file = words[at]
+	}
+	words = append([]string(nil), words...)
+	if at > 0 && !isAmong(progress, words[len(words)-2:]) {
+		words = append(words, progress)
+	}
+	return &Child{
+		fileAt:   at,
+		patience: patience,
+		ahead:    ahead,
+		log:      log,
+		queue:    newQueue(at > 0),
+		commits:  newCommits(file),
+		begun:    make(chan struct{}),
+		stopping: make(chan struct{}),
+		words:    words,
+	}
+}
+
+// File is the ledger's file, or "".
+func (c *Child) File() string { return c.commits.file }
+
+func (c *Child) keeps() bool { return c.fileAt > 0 }
+
+// Run runs the command until its input is closed, and again if a signal ended it and it keeps its
+// ledger. It returns why it ended otherwise.
+func (c *Child) Run() error {
+	defer report.Guard()
+	err := c.run()
+	c.queue.over()
+	return err
+}
+
+func (c *Child) run() error {
+	moments, err := c.momentsOf()
+	if err != nil || moments == nil {
+		return err
+	}
+	c.queue.mu.Lock()
+	c.queue.moments = moments
+	c.queue.mu.Unlock()
+	if !c.keeps() {
+		c.mu.Lock()
+		c.serves()
+		c.mu.Unlock()
+	}
+	for lives, quick := 0, 0; ; quick++ {
+		began := time.Now()
+		ended, err := c.runOnce(lives)
+		if err != nil || ended == "" {
+			return err
+		}
+		lives++
+		if time.Since(began) > steady {
+			quick = 0
+		}
+		pause := pauses[len(pauses)-1]
+		if quick < len(pauses) {
+			pause = pauses[quick]
+		}
+		c.log.Say(report.Warning, "%s, and is started again in %g s", ended, pause.Seconds())
+		select {
+		case <-time.After(pause):
+		case <-c.stopping:
+			return report.End(1, "%s, and is not started again", ended)
+		}
+	}
+}
+
+// runOnce runs the command once, and returns how it ended if it is started again.
+func (c *Child) runOnce(lives int) (string, error) {
+	status, line, err := c.live()
+	var want *wanting
+	switch {
+	case errors.As(err, &want) && lives > 0:
+		return want.Line, nil
+	case errors.As(err, &want):
+		return "", want.Ended
+	case err != nil:
+		return "", err
+	}
+	c.mu.Lock()
+	isClosed, isGivenUp := c.isClosed, c.isGivenUp
+	c.mu.Unlock()
+	if isClosed && (status == 0 || isGivenUp) {
+		return "", nil
+	}
+	return c.endBySignal(status, line)
+}
+
+// endBySignal is how the command ended, if it may be started again.
+func (c *Child) endBySignal(status int, line string) (string, error) {
+	number := signalOf(status)
+	ended := status
+	switch {
+	case number != 0 || status == 0:
+		ended = 1
+	case line != "":
+		return "", report.End(status, "%s", line)
+	}
+	if line != "" && number == 0 {
+		return "", report.End(ended, "%s", line)
+	}
+	how := c.words[0] + " ended " + endOf(status)
+	if line != "" {
+		how += " (" + line + ")"
+	}
+	if number == 0 || !c.keeps() || c.isStopping() {
+		return "", report.End(ended, "%s", how)
+	}
+	return how, nil
+}
+
+func (c *Child) isStopping() bool {
+	select {
+	case <-c.stopping:
+		return true
+	default:
+		return false
+	}
+}
+
+// live runs the command from its start to its end. It returns its status and its last line.
+func (c *Child) live() (int, string, error) {
+	p, err := start(c.words, c.commits.end)
+	if err != nil {
+		return 0, "", err
+	}
+	pipe, err := newOutgoing(p.stdin)
+	if err != nil {
+		return 0, "", err
+	}
+	said := goes(func() string {
+		return tail(p.stderr, func(line string) bool { return c.isNews(p, pipe, line) })
+	})
+	c.begin(p, pipe)
+	read := goes(func() error { return c.readReplies(p) })
+	select {
+	case <-read.done:
+	case <-p.exited:
+	case <-pipe.broke: // it may live on
+	}
+	within(read.done, lastWords) // what it wrote before it ended is read to its end
+	c.leave(said)
+	if err := c.waitForEnd(p, said.done, read.done); err != nil {
+		return 0, "", err
+	}
+	return p.status, lastLine(said.result), read.result
+}
+
+// task is what a goroutine does, and its result once that is done.
+type task[T any] struct {
+	result T
+	done   chan struct{}
+}
+
+func goes[T any](do func() T) *task[T] {
+	it := &task[T]{done: make(chan struct{})}
+	go func() {
+		defer report.Guard()
+		it.result = do()
+		close(it.done)
+	}()
+	return it
+}
+
+// within reports whether a channel is closed within a time.
+func within(it <-chan struct{}, wait time.Duration) bool {
+	timer := time.NewTimer(wait)
+	defer timer.Stop()
+	select {
+	case <-it:
+		return true
+	case <-timer.C:
+		return false
+	}
+}
+
+// readReplies reads what the process writes, until there is no more. One that writes what is no reply
+// is killed.
+func (c *Child) readReplies(p *process) error {
+	if c.queue.readReplies(p.stdout) {
+		return nil
+	}
+	if err := p.kill(); err != nil {
+		return err
+	}
+	return report.End(1, "%s wrote what is no reply to a request that it was given", c.words[0])
+}
+
+// begin has pairs written to a process. One that keeps no ledger takes requests at once.
+func (c *Child) begin(p *process, pipe *outgoing) {
+	c.mu.Lock()
+	c.process = p
+	isClosed := c.isClosed
+	c.mu.Unlock()
+	c.queue.begin(pipe, !c.keeps(), isClosed)
+}
+
+// isNews takes a line of a start, or that the process serves. It reports that the line is no fault.
+func (c *Child) isNews(p *process, pipe *outgoing, line string) bool {
+	if !c.keeps() {
+		return false
+	}
+	found := news.FindStringSubmatch(line)
+	switch {
+	case found == nil:
+		return false
+	case found[1] == "":
+		c.log.Say(report.Info, "%s", line)
+	default:
+		go c.settle(p, pipe)
+	}
+	return true
+}
+
+// settle lets requests be taken, once all that the process wrote at its start is counted.
+func (c *Child) settle(p *process, pipe *outgoing) {
+	defer report.Guard()
+	for until := time.Now().Add(time.Second); !isAsleep(p.pid) && time.Now().Before(until); {
+		time.Sleep(time.Millisecond)
+	}
+	c.mu.Lock()
+	defer c.mu.Unlock()
+	if c.process != p {
+		return
+	}
+	c.commits.begin(p)
+	if !isAmong(existing, c.words[len(c.words)-2:]) { // its next start makes no file
+		c.words = append(c.words, existing)
+	}
+	if c.queue.ready(pipe) {
+		c.serves()
+	}
+}
+
+// serves reports that it serves, if it does so for the first time.
+func (c *Child) serves() {
+	if !c.hasBegun {
+		c.hasBegun = true
+		close(c.begun)
+	}
+}
+
+// leave has no more written to a process that ended, or is to end, and answers those that wait.
+func (c *Child) leave(said *task[string]) {
+	c.mu.Lock()
+	c.process = nil
+	c.mu.Unlock()
+	c.queue.leave()
+	endedAs := programEnded
+	if within(said.done, lastWords) {
+		endedAs = FaultName(lastLine(said.result))
+	}
+	c.queue.lost(endedAs)
+}
+
+// waitForEnd waits until a process that gets no more requests has ended, and what it started. It kills
+// them if they do not end.
+func (c *Child) waitForEnd(p *process, pipes ...<-chan struct{}) error {
+	defer p.close()
+	areDone := func(wait time.Duration) bool {
+		until := time.Now().Add(wait)
+		for _, it := range pipes {
+			if !within(it, time.Until(until)) {
+				return false
+			}
+		}
+		return true
+	}
+	if within(p.exited, c.patience) && areDone(lastWords) {
+		return nil
+	}
+	if err := p.kill(); err != nil { // with what it started, which may have the ledger's file open
+		return err
+	}
+	areDone(lastWords)
+	p.close()
+	areDone(time.Hour)
+	<-p.exited
+	return nil
+}
+
+// momentsOf are moments that go on where the ledger is. It is a fault if that is ahead of the clock, and
+// more than was allowed. It is nil if the host is to end meanwhile.
+func (c *Child) momentsOf() (*moments.Moments, error) {
+	last, err := c.lastTime()
+	if err != nil {
+		if c.isStopping() {
+			return nil, nil
+		}
+		return nil, err
+	}
+	if is := time.Duration(last - time.Now().UnixNano()); is > c.ahead {
+		return nil, report.End(1, "the ledger's last time is %.3f s ahead of this computer's clock: "+
+			"set the clock right, or allow it by --ahead SECONDS", is.Seconds())
+	}
+	return moments.New(last, c.log), nil
+}
+
+var lastTimeLine = regexp.MustCompile(`(?m)^last time ([0-9]{1,20})$`)
+
+// lastTime is the last time of a ledger, in nanoseconds, as `check FILE` reports it. 0 if there is no
+// entry.
+func (c *Child) lastTime() (int64, error) {
+	if !c.keeps() {
+		return 0, nil
+	}
+	name, file := c.words[0], c.words[c.fileAt]
+	found, err := os.Stat(file)
+	if err != nil || found.Size() < emptyMax { // `run` makes the file, or reports why it cannot
+		return 0, nil
+	}
+	words := append(append([]string(nil), c.words[:c.fileAt-1]...), "check", file)
+	output, said, status, err := c.finished(words)
+	if err != nil {
+		return 0, err
+	}
+	if status != 0 {
+		line := lastLine(said)
+		if line == "" {
+			line = name + " ended " + endOf(status)
+		}
+		if status < 0 {
+			status = 1
+		}
+		return 0, report.End(status, "%s", line)
+	}
+	time := lastTimeLine.FindStringSubmatch(output)
+	if time == nil {
+		return 0, report.End(1, "%s check %s prints no last time", name, file)
+	}
+	last, err := strconv.ParseUint(time[1], 10, 64)
+	if err != nil || last > math.MaxInt64 {
+		last = math.MaxInt64
+	}
+	return int64(last), nil
+}
+
+// finished is the output of a command that is written nothing, what it said last, and its status. It is
+// killed if the host is to end.
+func (c *Child) finished(words []string) (string, string, int, error) {
+	p, err := start(words, func(*process) {})
+	if err != nil {
+		var want *wanting
+		if errors.As(err, &want) {
+			err = want.Ended
+		}
+		return "", "", 0, err
+	}
+	defer p.close()
+	p.stdin.Close()
+	said := goes(func() string { return tail(p.stderr, func(string) bool { return false }) })
+	output := goes(func() string {
+		text, _ := io.ReadAll(p.stdout)
+		return string(text)
+	})
+	for _, it := range []<-chan struct{}{output.done, said.done, p.exited} {
+		select {
+		case <-it:
+		case <-c.stopping:
+			p.kill()
+			<-p.exited
+			return "", "", 0, errors.New("the host is to end")
+		}
+	}
+	return output.result, said.result, p.status, nil
+}
+
+// Begun is closed once requests are served for the first time.
+func (c *Child) Begun() <-chan struct{} { return c.begun }
+
+// IsServing reports whether requests are served now.
+func (c *Child) IsServing() bool { return c.queue.isServing() }
+
+// Submit passes a request on, now or when it has its turn.
+func (c *Child) Submit(request *Request) { c.queue.submit(request) }
+
+// Cancel has a request no longer wait for its turn.
+func (c *Child) Cancel(request *Request) bool { return c.queue.cancel(request) }
+
+// Commits is how many commits the ledger's file has had.
+func (c *Child) Commits() (int64, bool) { return c.commits.count() }
+
+// Lag is how long the moments are behind the clock.
+func (c *Child) Lag() time.Duration {
+	c.queue.mu.Lock()
+	it := c.queue.moments
+	c.queue.mu.Unlock()
+	if it == nil {
+		return 0
+	}
+	return it.Lag()
+}
+
+// Renew does nothing: the command has no files of TLS.
+func (c *Child) Renew() error { return nil }
+
+// Stop has the command not start again.
+func (c *Child) Stop() {
+	c.mu.Lock()
+	defer c.mu.Unlock()
+	if !c.isStopping() {
+		close(c.stopping)
+	}
+}
+
+// Close ends the server's input. The command then replies to what it has, and ends. One that takes no
+// requests yet is killed.
+func (c *Child) Close() {
+	c.Stop()
+	c.mu.Lock()
+	defer c.mu.Unlock()
+	c.isClosed = true
+	switch {
+	case c.process == nil:
+	case c.queue.isServing():
+		c.queue.close()
+	default:
+		c.isGivenUp = true
+		c.process.kill()
+	}
+}
+
+// Kill ends the command at once.
+func (c *Child) Kill() {
+	c.mu.Lock()
+	defer c.mu.Unlock()
+	if c.process != nil {
+		c.process.kill()
+	}
+}
+
+// journalAt is which word of a command is the file that it keeps its ledger in: FILE of `run FILE
+// CLIENTS_MAX [PROFILE] [--existing] [--progress]` at its end, or of another form. It is 0 if there is
+// no such word, as in `tbs run CLIENTS_MAX [PROFILE]`.
+func journalAt(words []string, form string) int {
+	for i := 0; i < 2 && len(words) > 0; i++ {
+		if last := words[len(words)-1]; last == progress || last == existing {
+			words = words[:len(words)-1]
+		}
+	}
+	for _, at := range []int{len(words) - 2, len(words) - 3} {
+		if at > 1 && words[at-1] == form && !config.IsNumber(words[at]) && areNumbers(words[at+1:]) {
+			return at
+		}
+	}
+	return 0
+}
+
+func areNumbers(words []string) bool {
+	for _, it := range words {
+		if !config.IsNumber(it) {
+			return false
+		}
+	}
+	return true
+}
+
+func isAmong(word string, words []string) bool {
+	for _, it := range words {
+		if it == word {
+			return true
+		}
+	}
+	return false
+}

@@ -1,0 +1,1 @@
+// This file lets verify.go declare a function without a body.
