@@ -51,9 +51,7 @@ class Listening:
     def start(self):
         """Starts them. The server before may still hold the file for a moment: then again."""
         listener = [
-            sys.executable,
-            "-B",
-            f"{TOP}/apps/host/tb-listen",
+            f"{TOP}/server/out/tb-listen",
             "--ahead",
             "60",
             "--unix",

@@ -52,7 +52,8 @@ func WithClientRange(upper uint64) ClientOption {
 	}
 }
 
-// Client is a client that goroutines share, with the calls of TigerBeetle's own. Lists of calls that
+// Client is a client that goroutines share, with the calls of TigerBeetle's own: over sockets by
+// [NewClient], over a file by [Open]. Lists of calls that
 // wait while a request is in flight go out as the next request, and each call gets its own results.
 //
 // A call waits until its reply is there, whatever is lost and whoever ends meanwhile, or until its
@@ -65,7 +66,7 @@ type Client struct {
 	sessions  int
 	socket    []SocketOption
 	newID     func() Uint128
-	connect   func() (*Socket, error)
+	connect   func() (carrier, error)
 	queue     *queue
 }
 
@@ -84,7 +85,7 @@ func NewClient(clusterID Uint128, addresses []string, options ...ClientOption) (
 			return nil, err
 		}
 	}
-	c.connect = func() (*Socket, error) { return NewSocket(places, c.socket...) }
+	c.connect = func() (carrier, error) { return NewSocket(places, c.socket...) }
 	if _, err := c.connect(); err != nil {
 		return nil, err // here, and not at the first call
 	}

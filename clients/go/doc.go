@@ -4,6 +4,9 @@
 // and sends the same bytes again until it has the reply: so a retry moves no money twice. It works
 // over a [Transport]; a [Socket] is one, over Unix sockets, TCP or TLS.
 //
+// [Open] opens the ledger in a file, which tbd serves as a child of this process, and [NewClient]
+// connects to one that listens: both return a [Client], which goroutines share.
+//
 // # The way that survives a crash
 //
 // Prepare a request, save the session, and only then send it:

@@ -33,6 +33,16 @@ var (
 	// on. Nothing was sent.
 	ErrCannotConnect error = &kind{"cannot connect", ErrNotSent}
 
+	// ErrCannotStart says that tbd is not found, or does not start. Nothing was sent.
+	ErrCannotStart error = &kind{"the program cannot start", ErrNotSent}
+	// ErrClockJumped says that the ledger's last time is far ahead of this computer's clock. Nothing
+	// was sent.
+	ErrClockJumped error = &kind{"the clock has jumped", ErrNotSent}
+
+	// ErrProgramEnded says that tbd ended by a fault. See [ProgramError].
+	ErrProgramEnded error = &kind{text: "the program ended"}
+	// ErrLocked is an ErrProgramEnded: the file is open in another process.
+	ErrLocked error = &kind{"the file is locked", ErrProgramEnded}
 	// ErrCancelled says that the caller's context ended the call. See [CancelledError].
 	ErrCancelled error = &kind{text: "cancelled"}
 	// ErrReplyLost says that no reply came: the request may have been executed or not. See
@@ -141,6 +151,38 @@ type connectError struct {
 func (c *connectError) Error() string { return fmt.Sprintf("%v: %v", ErrCannotConnect, c.cause) }
 
 func (c *connectError) Unwrap() error { return ErrCannotConnect }
+
+// ProgramError is the fault by which tbd ended. It is an ErrProgramEnded, and an ErrLocked if the file
+// is open in another process. A request that was in flight may have been executed.
+type ProgramError struct {
+	Fault  string // its line, as "Full: .."
+	Status int    // its exit status
+	Owner  int    // the process that has the file open, or 0 if it is not known
+}
+
+func (p *ProgramError) Error() string {
+	fault := p.Fault
+	if fault == "" {
+		fault = ErrProgramEnded.Error()
+	}
+	if p.Owner != 0 {
+		return fmt.Sprintf("%s (status %d): process %d", fault, p.Status, p.Owner)
+	}
+	return fmt.Sprintf("%s (status %d)", fault, p.Status)
+}
+
+// Name is the fault's name, as Full, or "".
+func (p *ProgramError) Name() string {
+	name, _, _ := strings.Cut(p.Fault, ":")
+	return name
+}
+
+func (p *ProgramError) Unwrap() error {
+	if p.Name() == "Locked" {
+		return ErrLocked
+	}
+	return ErrProgramEnded
+}
 
 // FailedEvent is an event of a batch that was not accepted.
 type FailedEvent struct {

@@ -40,21 +40,65 @@ func TestFaultsOfRequests(t *testing.T) {
 	}
 }
 
+// questions are requests of client 7 in session 1, of each operation.
+func questions(t testing.TB) [][]byte {
+	var frames [][]byte
+	for number, it := range []Request{
+		Registration{},
+		CreateAccounts{{ID: ToUint128(5)}, {ID: ToUint128(6)}},
+		CreateTransfers{{ID: ToUint128(5)}, {ID: ToUint128(6)}},
+		LookupAccounts{ToUint128(5), ToUint128(6)},
+		LookupTransfers{ToUint128(5), ToUint128(6)},
+	} {
+		session := uint64(1)
+		if number == 0 {
+			session = 0
+		}
+		frame, err := encodeRequest(ToUint128(7), session, uint32(number), it)
+		if err != nil {
+			t.Fatal(err)
+		}
+		frames = append(frames, frame)
+	}
+	return frames
+}
+
+// answerTo is a reply with a body to the request of a frame.
+func answerTo(frame, body []byte) []byte {
+	reply := append(append([]byte(nil), frame[:headerSize]...), body...)
+	reply[16], reply[32], reply[33], reply[36] = 1, byte(len(body)), 0, 9
+	if frame[28] == byte(OperationRegister) {
+		reply[36] = 1
+	}
+	return reply
+}
+
+// A reply is refused, or what it says has each byte of its body.
 func FuzzReply(f *testing.F) {
-	found := append([]byte(nil), asked[:headerSize]...)
-	found[32], found[36] = 128, 9
+	frames := questions(f)
 	record := make([]byte, recordSize)
 	record[0] = 5
-	f.Add(append(found, record...))
-	f.Add(found)
-	f.Add([]byte("tb_listen: Busy\n"))
-	f.Fuzz(func(t *testing.T, reply []byte) {
-		header, answer, err := decodeReply(reply, asked)
-		switch {
-		case err != nil && !errors.Is(err, ErrBadReply):
-			t.Fatal(err)
-		case err == nil && header.status == StatusReply && len(answer.Accounts)*recordSize != len(reply)-headerSize:
-			t.Fatalf("%d accounts of %d bytes", len(answer.Accounts), len(reply))
+	bodies := [][]byte{nil, {1, 0, 0, 0, 21, 0, 0, 0}, {0, 0, 0, 0, 1, 0, 0, 0}, record, record}
+	for at, frame := range frames {
+		f.Add(answerTo(frame, bodies[at]), byte(at))
+		f.Add(answerTo(frame, nil), byte(at))
+	}
+	f.Add([]byte("tb_listen: Busy\n"), byte(3))
+	f.Fuzz(func(t *testing.T, reply []byte, which byte) {
+		header, answer, err := decodeReply(reply, frames[int(which)%len(frames)])
+		if err != nil {
+			if !errors.Is(err, ErrBadReply) {
+				t.Fatal(err)
+			}
+			return
+		}
+		results := len(answer.AccountResults) + len(answer.TransferResults)
+		records := len(answer.Accounts) + len(answer.Transfers)
+		if results*resultSize+records*recordSize != len(reply)-headerSize {
+			t.Fatalf("%d results and %d records of %d bytes", results, records, len(reply))
+		}
+		if header.operation == OperationRegister && header.status == StatusReply && answer.Session == 0 {
+			t.Fatal("a register without a session")
 		}
 	})
 }
@@ -69,6 +113,49 @@ func FuzzRequest(f *testing.F) {
 		again, err := encodeRequest(found.Client, found.Session, found.Number, found.Request)
 		if err != nil || !bytes.Equal(again, frame) {
 			t.Fatalf("%x comes back as %x, %v", frame, again, err)
+		}
+	})
+}
+
+// An address is refused, or comes back from its own text.
+func FuzzAddress(f *testing.F) {
+	for _, text := range []string{"3000", "10.0.0.1:3000", "[::1]:3000", "host", "/run/it.sock", ":1", "a:b:1", ""} {
+		f.Add(text)
+	}
+	f.Fuzz(func(t *testing.T, text string) {
+		place, err := parseAddress(text)
+		if err != nil {
+			if !errors.Is(err, ErrInvalid) {
+				t.Fatal(err)
+			}
+			return
+		}
+		if place.test("address") != nil {
+			return // which a transport refuses
+		}
+		again, err := parseAddress(place.String())
+		if err != nil || again != place {
+			t.Fatalf("%q is %v, which is %v, %v", text, place, again, err)
+		}
+	})
+}
+
+// What a server says before it closes a connection has no character that a terminal obeys.
+func FuzzTold(f *testing.F) {
+	f.Add([]byte("tb_listen: Busy\n"))
+	f.Add([]byte("tb_listen: \x1b[2J"))
+	f.Add([]byte("Busy"))
+	f.Fuzz(func(t *testing.T, said []byte) {
+		err := told(said, ErrBadReply)
+		var lost *LostError
+		if !errors.As(err, &lost) {
+			if err != ErrBadReply || bytes.HasPrefix(said, toldMark) {
+				t.Fatalf("%q: %v", said, err)
+			}
+			return
+		}
+		if strings.IndexFunc(lost.Told, func(r rune) bool { return r < ' ' || r > '~' }) >= 0 {
+			t.Fatalf("%q is told as %q", said, lost.Told)
 		}
 	})
 }

@@ -66,6 +66,14 @@ func waitUntil(t *testing.T, holds func() bool) {
 	}
 }
 
+// TestOpenOfTheREADME compiles the lines on a file.
+func TestOpenOfTheREADME(t *testing.T) {
+	module(t, "package main\n\nimport (\n\t\"context\"\n\n\ttb \"telovamish.org/tbclient\"\n)\n\n"+
+		"func main() {\n\tctx := context.Background()\n\t"+
+		strings.ReplaceAll(strings.TrimSpace(shown(t, "ledger, err := ")), "\n", "\n\t")+
+		"\n\t_, _ = accounts, err\n}\n")
+}
+
 // TestSharedClientOfTheREADME compiles the lines on a shared client.
 func TestSharedClientOfTheREADME(t *testing.T) {
 	module(t, "package main\n\nimport (\n\t\"context\"\n\n\ttb \"telovamish.org/tbclient\"\n)\n\n"+

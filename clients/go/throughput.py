@@ -20,7 +20,7 @@ import time
 
 HERE = os.path.dirname(os.path.abspath(__file__))
 PYTHON = os.path.join(os.path.dirname(HERE), "python")
-LISTENER = os.path.join(HERE, "..", "..", "apps", "host", "tb-listen")
+LISTENER = os.path.join(HERE, "..", "..", "server", "out", "tb-listen")
 STAND_IN = f"{sys.executable} -SE {PYTHON}/tests/stand_in_tbd.py"
 FOLDER = "$FOLDER"  # in a server's words: that of one measuring
 SHAPES = ((1, 1), (24, 1), (1, 8190))  # connections, transfers in a request
@@ -79,7 +79,7 @@ def in_go(path, connections, items, seconds):
 
 
 def servers(server):
-    listener = [sys.executable, "-B", LISTENER, "--ahead", "60"]
+    listener = [LISTENER, "--ahead", "60"]
     listener += ["--unix", f"{FOLDER}/ledger.sock", "--", *shlex.split(server)]
     listener += ["run", f"{FOLDER}/ledger.journal", "64"]
     return {

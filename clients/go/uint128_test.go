@@ -141,3 +141,26 @@ func TestRecordsInJSON(t *testing.T) {
 		t.Errorf("an amount of -1 is answered %v", err)
 	}
 }
+
+// A number is refused, or comes back from its digits.
+func FuzzParseUint128(f *testing.F) {
+	for _, text := range []string{"0", "007", most, most + "0", "340282366920938463463374607431768211456", "-1", "1e3", ""} {
+		f.Add(text)
+	}
+	f.Fuzz(func(t *testing.T, text string) {
+		value, err := tb.ParseUint128(text)
+		if err != nil {
+			if !errors.Is(err, tb.ErrInvalid) {
+				t.Fatal(err)
+			}
+			return
+		}
+		digits := strings.TrimLeft(text, "0")
+		if digits == "" {
+			digits = "0"
+		}
+		if back, err := tb.HexStringToUint128(fmt.Sprintf("%x", value)); value.String() != digits || err != nil || back != value {
+			t.Fatalf("%q is %v, in hex %v, %v", text, value, back, err)
+		}
+	})
+}

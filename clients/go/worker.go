@@ -10,12 +10,19 @@ import (
 // worker serves calls over a session of its own, which it registers when it needs one.
 type worker struct {
 	queue   *queue
-	socket  *Socket
+	socket  carrier
 	newID   func() Uint128
 	session *Session
 	absence patience // with a server that is not there
 
 	trouble error // why no reply came of late. The queue's lock is needed for it
+}
+
+// carrier is the transport of a worker.
+type carrier interface {
+	Transport
+	// connectNoMore makes each later connecting an ErrClosed.
+	connectNoMore()
 }
 
 // patience is the time before each next sending. A first lost reply is followed at once.

@@ -16,7 +16,7 @@ import tempfile
 
 HERE = os.path.dirname(os.path.abspath(__file__))
 STAND_IN = os.path.join(os.path.dirname(HERE), "python", "tests", "stand_in_tbd.py")
-LISTENER = os.path.join(HERE, "..", "..", "apps", "host", "tb-listen")
+LISTENER = os.path.join(HERE, "..", "..", "server", "out", "tb-listen")
 TBD = os.path.join(HERE, "..", "..", "crates", "tbd", "out", "tbd")
 SINK = os.path.join(os.path.dirname(HERE), "go", "out", "throughput")
 ROWS = ((1, 1000, 1), (24, 100, 1), (1, 100, 8190))  # connections, requests of each, transfers
@@ -53,7 +53,7 @@ def measured(face, row, words):
 def servers():
     stand_in = [sys.executable, "-SE", STAND_IN]
     server = sys.argv[1:] or ([TBD] if os.access(TBD, os.X_OK) else stand_in)
-    listener = [sys.executable, "-B", LISTENER, "--unix", "{path}", "--", *server]
+    listener = [LISTENER, "--unix", "{path}", "--", *server]
     yield os.path.basename(server[-1]), [*listener, "run", "{folder}/ledger.journal", "64"]
     if os.access(SINK, os.X_OK):
         yield "keeps nothing", [SINK, "serve", "{path}"]

@@ -318,6 +318,11 @@ export interface Client {
   lookupAccounts(ids: readonly bigint[], options?: CallOptions): Promise<AccountRecord[]>;
   /** The transfers that are there, in the order of the ids. */
   lookupTransfers(ids: readonly bigint[], options?: CallOptions): Promise<TransferRecord[]>;
+  /** TigerBeetle's queries, which the server does not answer: each is NotSupported. */
+  queryAccounts(...given: unknown[]): Promise<never>;
+  queryTransfers(...given: unknown[]): Promise<never>;
+  getAccountTransfers(...given: unknown[]): Promise<never>;
+  getAccountBalances(...given: unknown[]): Promise<never>;
   /**
    * Closes the client. A request in flight is waited for, as long as one sending may take; calls
    * of which nothing was sent are Closed.
@@ -358,6 +363,10 @@ export declare class InDoubt extends NotSent {}
 export declare class NothingInDoubt extends NotSent {}
 /** The transport was closed. */
 export declare class Closed extends NotSent {}
+/** The server has no such call. */
+export declare class NotSupported extends NotSent {
+  readonly instead: string;
+}
 /** No connection to the server can be made. */
 export declare class CannotConnect extends NotSent {
   /** One side does not trust the other, at each address. */

@@ -23,7 +23,7 @@ const tb = require("./index.js");
 const { HEADER_SIZE, LAYOUTS } = require("./names.js");
 
 const TOP = path.join(__dirname, "..", "..");
-const LISTENER = path.join(TOP, "apps", "host", "tb-listen");
+const LISTENER = path.join(TOP, "server", "out", "tb-listen");
 const SINGLES = 4800; // requests of one transfer each
 const CONNECTIONS = 24;
 const BATCHES = 60;
@@ -142,9 +142,9 @@ function answer(place) {
 }
 
 async function listening(folder, place, server) {
-  const listener = ["-B", LISTENER, "--unix", place, "--", ...server];
+  const listener = [LISTENER, "--unix", place, "--", ...server];
   const words = server.length
-    ? ["python3", ...listener, "run", path.join(folder, "ledger.journal"), "64"]
+    ? [...listener, "run", path.join(folder, "ledger.journal"), "64"]
     : [process.execPath, __filename, ANSWER, place];
   const it = spawn(words[0], words.slice(1), { stdio: ["ignore", "ignore", "pipe"] });
   await new Promise((resolve, reject) => {

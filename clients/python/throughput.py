@@ -98,7 +98,7 @@ def main() -> int:
     parser.add_argument("--seconds", metavar="N", type=int, default=5, help="for each row (5)")
     stand_in = f"{sys.executable} -SE {HERE}/tests/stand_in_tbd.py"
     parser.add_argument("--server", metavar="COMMAND", default=stand_in, help="tbd, for example")
-    listener = f"{sys.executable} -B {HERE}/../../apps/host/tb-listen"
+    listener = f"{HERE}/../../server/out/tb-listen"
     parser.add_argument("--listener", metavar="COMMAND", default=listener, help="of another clone")
     given = parser.parse_args()
     heads = ("connections", "transfers a request", "requests a second")

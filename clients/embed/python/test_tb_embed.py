@@ -25,7 +25,7 @@ sys.path += [str(PYTHON / "src"), str(PYTHON / "tests")]
 
 import tb_client  # noqa: E402
 import tb_embed  # noqa: E402
-from children import status_in_a_child  # noqa: E402
+from helpers.threads import status_in_a_child  # noqa: E402
 from tb_client import Direct, Session  # noqa: E402
 from tb_embed import Server  # noqa: E402
 

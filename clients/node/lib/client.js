@@ -4,11 +4,15 @@
 
 const { CLIENTS_MAX, Operation } = require("../names.js");
 const { addressesOf } = require("./addresses.js");
+const { NotSupported } = require("./errors.js");
 const { id } = require("./ids.js");
 const { limited } = require("./limits.js");
 const { Pool } = require("./pool.js");
 const { Socket } = require("./socket.js");
 const { U64, U128, narrow, optionsOf, wide } = require("./values.js");
+
+const LOOKUP_ACCOUNTS = "lookupAccounts by ids, or tb-sql over the ledger's history";
+const LOOKUP_TRANSFERS = "lookupTransfers by ids, or tb-sql over the ledger's history";
 
 /** Makes ids whose upper 64 bits are this number. */
 function idsOf(range) {
@@ -62,6 +66,23 @@ class Client {
   /** The transfers that are there, in the order of the ids. */
   lookupTransfers(ids, options) {
     return this.#ask(Operation.lookup_transfers, ids, options);
+  }
+
+  /** TigerBeetle's queries, which the server does not answer: each is NotSupported. */
+  async queryAccounts() {
+    throw new NotSupported("queryAccounts", LOOKUP_ACCOUNTS);
+  }
+
+  async queryTransfers() {
+    throw new NotSupported("queryTransfers", LOOKUP_TRANSFERS);
+  }
+
+  async getAccountTransfers() {
+    throw new NotSupported("getAccountTransfers", LOOKUP_TRANSFERS);
+  }
+
+  async getAccountBalances() {
+    throw new NotSupported("getAccountBalances", LOOKUP_ACCOUNTS);
   }
 
   /**

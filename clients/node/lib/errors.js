@@ -50,6 +50,14 @@ class InDoubt extends NotSent {}
 /** There is no request to be sent again. */
 class NothingInDoubt extends NotSent {}
 
+/** The server has no such call. `instead` is what to use. */
+class NotSupported extends NotSent {
+  constructor(call, instead) {
+    super(`the server has no ${call}: use ${instead}`);
+    this.instead = instead;
+  }
+}
+
 /** The transport was closed. */
 class Closed extends NotSent {}
 
@@ -178,6 +186,7 @@ module.exports = {
   CannotConnect,
   ClientError,
   Closed,
+  NotSupported,
   Collision,
   EventsFailed,
   Evicted,

@@ -137,3 +137,20 @@ test("an idle client does not keep the program from its end", async (t) => {
   });
   assert.deepEqual(said, [null, "0\n"]);
 });
+
+for (const name of [
+  "queryAccounts",
+  "queryTransfers",
+  "getAccountTransfers",
+  "getAccountBalances",
+]) {
+  test(`TigerBeetle's ${name} says what to use`, async () => {
+    const client = tb.createClient({ cluster_id: 0n, replica_addresses: ["1"] });
+    await assert.rejects(client[name]({ account_id: 1n }), (why) => {
+      assert.ok(why instanceof tb.NotSupported && !why.sent);
+      assert.match(why.message, new RegExp(`the server has no ${name}: use lookup.*tb-sql`));
+      return true;
+    });
+    await client.close();
+  });
+}

@@ -16,7 +16,7 @@ const tb = require("../index.js");
 const TOP = path.dirname(__dirname);
 const SESSIONS = 64; // that the server keeps
 const STAND_IN = path.join(TOP, "..", "python", "tests", "stand_in_tbd.py");
-const LISTENER = path.join(TOP, "..", "..", "apps", "host", "tb-listen");
+const LISTENER = path.join(TOP, "..", "..", "server", "out", "tb-listen");
 
 const folder = mkdtempSync(path.join(tmpdir(), "tb-client-"));
 after(() => rmSync(folder, { recursive: true }));
@@ -63,9 +63,9 @@ test("the types, by tsc", { skip: isThere("tsc") ? false : "tsc is not there" },
 /** A listener with a server behind it, that keeps its ledger in a file. */
 async function listener() {
   const server = ["python3", "-SE", STAND_IN];
-  const words = ["-B", LISTENER, "--unix", "real.sock", "--", ...server];
+  const words = ["--unix", "real.sock", "--", ...server];
   words.push("run", "ledger.journal", String(SESSIONS));
-  const it = spawn("python3", words, { cwd: folder });
+  const it = spawn(LISTENER, words, { cwd: folder });
   await new Promise((resolve, reject) => {
     it.stderr.on("data", (said) => String(said).includes("listens on") && resolve());
     it.on("exit", () => reject(new Error("the listener ended")));
@@ -139,24 +139,26 @@ test("the README's program, a kill amid a sale, and one in doubt that is refused
   const [, money] = /```js\n(import { existsSync[^]*?)```/.exec(readme);
   writeFileSync(path.join(folder, "money.mjs"), money);
   const process = await listener();
-  const hooks = {};
+  const hooks = { kills: true };
   const server = await between(path.join(folder, "ledger.sock"), hooks);
+  const moved = (said) => ({ said: `${said}\n`, status: 0, signal: null });
   try {
-    assert.deepEqual(await once(hooks), { said: "100n\n", status: 0, signal: null });
-    hooks.kills = true;
     assert.deepEqual(await once(hooks), { said: "", status: null, signal: "SIGKILL" });
     hooks.kill = hooks.kills = undefined;
-    assert.deepEqual(await once(hooks), { said: "300n\n", status: 0, signal: null });
+    assert.deepEqual(await once(hooks), moved("100n"));
+    assert.deepEqual(await once(hooks), moved("100n")); // and not the money again
     await leaveInDoubt({ id: tb.id(), debit_account_id: 1n, credit_account_id: 9n, amount: 5n });
     const { said, status } = await once(hooks);
     assert.equal(status, 1);
     assert.match(said, /EventsFailed: event 0: credit_account_not_found/);
-    assert.deepEqual(await once(hooks), { said: "400n\n", status: 0, signal: null });
+    assert.deepEqual(await once(hooks), moved("100n"));
+    await leaveInDoubt({ id: tb.id(), debit_account_id: 1n, credit_account_id: 2n, amount: 5n });
     hooks.kills = true;
     assert.deepEqual(await once(hooks), { said: "", status: null, signal: "SIGKILL" });
     hooks.kill = hooks.kills = undefined;
     await evict();
-    assert.deepEqual(await once(hooks), { said: "600n\n", status: 0, signal: null });
+    assert.deepEqual(await once(hooks), moved("105n"));
+    assert.deepEqual(await once(hooks), moved("105n"));
   } finally {
     server.close();
     await ended(process);
@@ -166,11 +168,10 @@ test("the README's program, a kill amid a sale, and one in doubt that is refused
 test("the README's lines on a client that callers share", { skip: needs }, async () => {
   const readme = readFileSync(path.join(TOP, "README.md"), "utf8");
   const [, shared] = /```js\n(import { createClient[^]*?)```/.exec(readme);
-  const text = `${shared}console.log(Array.isArray(errors));\n`;
-  writeFileSync(path.join(folder, "shared.mjs"), text.replace('"3001"', '"./real.sock"'));
+  writeFileSync(path.join(folder, "shared.mjs"), shared.replace('"3001"', '"./real.sock"'));
   const process = await listener();
   try {
-    assert.equal(run("node", ["shared.mjs"], folder), "true\n");
+    for (let at = 0; at < 2; at++) assert.equal(run("node", ["shared.mjs"], folder), "[]\n");
   } finally {
     await ended(process);
   }

@@ -86,8 +86,7 @@ class Listening:
             *command,
         ]
         self.words = [
-            sys.executable,
-            os.path.join(top, "apps", "host", "tb-listen"),
+            os.path.join(top, "server", "out", "tb-listen"),
             *place,
             "--",
             *named,

@@ -1,7 +1,7 @@
 #!/usr/bin/env python3
 """A stand-in for `tbd`, for the tests of the listener where that program is not built.
 
-    stand_in_tbd.py run FILE CLIENTS_MAX [PROFILE] [--existing] [--progress]
+    stand_in_tbd.py run FILE CLIENTS_MAX [PROFILE] [--existing] [--progress] [--drop-torn]
     stand_in_tbd.py dump FILE
     stand_in_tbd.py check FILE
 
@@ -322,7 +322,7 @@ def run(path, clients_max, profile, options):
 
 
 def main(words):
-    options = [it for it in words[3:] if it in ("--progress", "--existing")]
+    options = [it for it in words[3:] if it in ("--progress", "--existing", "--drop-torn")]
     words = words[: len(words) - len(options)]
     if "--existing" in options and not os.path.exists(words[1]):
         raise Fault(f"Device: cannot find {words[1]}; look at its name and at its folder", 1)

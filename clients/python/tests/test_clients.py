@@ -16,11 +16,12 @@ import unittest.mock
 import stand_in_tbd
 import tb_client as tb
 from paths import CLIENT, PYTHONPATH
+from helpers.listeners import Running
+from helpers.programs import PROGRAM, has_program
+from helpers.records import account, transfer
+from helpers.threads import in_threads
 from tb_client import ClientAsync, ClientSync, Program, Session
 from tb_client.clients import addresses_of
-from test_listen import Running
-from test_sharing import in_threads
-from test_tb_client import PROGRAM, account, has_program, transfer
 
 # as the pages of TigerBeetle's client in Python show it
 SAMPLE = """

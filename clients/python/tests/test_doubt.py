@@ -14,8 +14,9 @@ from unittest import mock
 
 import tb_client as tb
 from paths import PYTHONPATH
+from helpers.programs import PROGRAM, has_program
+from helpers.records import account, at_ten, reply, results, transfer
 from tb_client import Account, Direct, Program, Session
-from test_tb_client import PROGRAM, account, at_ten, has_program, reply, results, transfer
 
 SECOND = 10**9
 # A client that makes 30 transfers, and speaks frames over its pipes as `tbs` does.
@@ -315,7 +316,7 @@ class Doubt(unittest.TestCase):
     def test_time_that_goes_by_is_no_jump(self):
         at = [0]
         session = self.session(lambda frame: reply(frame, commit=2), now=lambda: 10**18 + at[0])
-        with mock.patch("tb_client.sessions._running_ns", lambda: at[0]):
+        with mock.patch("tb_client.moments.running_ns", lambda: at[0]):
             for at[0] in (0, 3600 * SECOND, 10**6 * SECOND):
                 session.lookup_accounts([1])
 

@@ -16,8 +16,8 @@ import unittest
 from unittest import mock
 
 import tb_client as tb
+from helpers.records import account, reply
 from tb_client import Direct, Session
-from test_tb_client import account, reply
 
 SERVE = Direct(lambda moment, frame: reply(frame))
 SAVED = {"client": 7, "session": 1, "number": 0, "pending": ""}
@@ -163,7 +163,7 @@ class Damaged(InAFolder):
             self.refused("path", Session.load, SERVE, path, kind=tb.InvalidValue)
             self.refused("path", Session(SERVE, 7).save, path, kind=tb.InvalidValue)
 
-    @unittest.skipUnless(os.geteuid() == 0, "to be another user takes root")
+    @unittest.skipUnless(os.geteuid() == 0, "needs root, to be another user")
     def test_no_permission(self):
         self.write(json.dumps(SAVED).encode())
         os.chmod(self.folder, 0o755)

@@ -11,10 +11,11 @@ import textwrap
 import unittest
 
 from paths import CLIENT, EXAMPLES, PYTHONPATH, STAND_IN
-from test_listen import Running
-from test_tb_client import PROGRAM, has_program
+from helpers.listeners import KEEPER, Running
+from helpers.programs import PROGRAM, has_program
 
 SECONDS = 120  # that a program may take on a busy computer
+MADE = "tbd: made {}/books.tbk\n"
 # what the programs of a session that survives a crash begin with
 BEGIN = f"""
 from tb_client import *
@@ -53,35 +54,53 @@ def blocks():
 
 
 class Readme(unittest.TestCase):
-    def ran(self, *words):
-        """What a program prints, in a folder of its own."""
+    def ran(self, *words, said=""):
+        """What a program prints, in a folder of its own. It says this on standard error."""
         with tempfile.TemporaryDirectory() as folder:
+            keeper = os.path.join(folder, "keeper")
+            with open(keeper, "w", encoding="utf-8") as file:
+                file.write(f'#!/bin/sh\nexec {shlex.join(KEEPER)} "$@"\n')
+            os.chmod(keeper, 0o755)
             ran = subprocess.run(
                 [sys.executable, "-B", *words],
                 cwd=folder,
-                env={**os.environ, "PYTHONPATH": PYTHONPATH},
+                env={**os.environ, "PYTHONPATH": PYTHONPATH, "TBD": keeper},
                 capture_output=True,
                 text=True,
                 timeout=SECONDS,
             )
-        self.assertEqual((ran.returncode, ran.stderr), (0, ""))
+        self.assertEqual((ran.returncode, ran.stderr), (0, said.format(folder)))
         return ran.stdout
+
+    def test_a_ledger_is_opened(self):
+        """In a file, over a listener, and over several addresses: one call changes."""
+        block = blocks()[0] + "    print(ledger.lookup_accounts([2])[0].credits_posted)\n"
+        self.assertEqual(self.ran("-c", block, said=MADE), "10\n")
+        with Running() as listener:
+            for place in (listener.path, f"./nothing,{listener.path}"):
+                there = block.replace('open("books.tbk")', f"connect({place!r})")
+                self.assertEqual(self.ran("-c", there), "10\n")
+
+    def test_a_ledger_is_opened_by_asyncio(self):
+        inner = textwrap.indent(blocks()[1], "    ")
+        program = f"import asyncio, tb_client as tb\nasync def main():\n{inner}asyncio.run(main())"
+        self.assertEqual(self.ran("-c", program, said=MADE), "[]\n")
 
     def test_the_client_that_callers_share(self):
         with Running() as listener:
-            said = self.ran("-c", blocks()[0].replace("3001", listener.path))
+            said = self.ran("-c", blocks()[2].replace("3001", listener.path))
         self.assertEqual(said, "[10]\n")
 
     @has_program
     def test_the_program_of_a_session(self):
-        said = self.ran("-c", blocks()[1].replace("../../crates/tbs/out/tbs", PROGRAM))
+        said = self.ran("-c", blocks()[3].replace("../../crates/tbs/out/tbs", PROGRAM))
         self.assertEqual(said, "100\n")
 
     @has_program
     def test_a_crash_and_an_eviction(self):
         """A sale, a crash before its reply came, a lookup in each of two lives, and an eviction
         while a sale is in doubt."""
-        program, crash, eviction = blocks()[1:4]
+        program, crash, eviction = blocks()[3:6]
         sale, lookup = map(textwrap.dedent, program.split("\n\n")[2:])
         lives = [crash, lookup, MEANWHILE, crash, lookup, IN_DOUBT, EVICT, eviction]
         said = self.ran("-c", "".join([BEGIN, sale, IN_DOUBT, *lives, END]))

@@ -15,31 +15,11 @@ import unittest.mock
 
 import conformance_runner
 import tb_client as tb
-from children import status_in_a_child
+from helpers.programs import PROGRAM, has_program
+from helpers.records import account, at_ten, register, registered, reply, transfer
+from helpers.servers import Server
+from helpers.threads import closed_in_a_child, in_threads, status_in_a_child
 from tb_client import Direct, Program, Session
-from test_sockets import Server, register, registered
-from test_tb_client import PROGRAM, account, at_ten, has_program, reply, transfer
-
-
-def in_threads(count, work):
-    """Calls `work` with 0, 1 and so on in threads that start together. Raises what one of them
-    raised."""
-    faults, start = [], threading.Barrier(count)
-
-    def run(number):
-        try:
-            start.wait()
-            work(number)
-        except BaseException as fault:
-            faults.append(fault)
-
-    threads = [threading.Thread(target=run, args=(number,)) for number in range(count)]
-    for it in threads:
-        it.start()
-    for it in threads:
-        it.join()
-    if faults:
-        raise faults[0]
 
 
 class Ids(unittest.TestCase):
@@ -515,10 +495,6 @@ class Forks(unittest.TestCase):
                 self.assertRaises(tb.Closed, it.exchange, 0, register(7))
 
         self.assertEqual(status_in_a_child(exchange, threading.Lock()), 0)
-
-
-def closed_in_a_child(transport, lock):
-    return status_in_a_child(transport.close, lock)
 
 
 class TheKitsRunner(unittest.TestCase):

@@ -6,7 +6,6 @@ import os
 import shutil
 import socket
 import ssl
-import struct
 import sys
 import tempfile
 import threading
@@ -16,48 +15,14 @@ from unittest import mock
 
 import tb_client as tb
 from paths import CONFORMANCE
+from helpers.records import register, registered
+from helpers.servers import Server
+from helpers.threads import faults_at_close
 from tb_client import Socket
 from tb_client.ids import Ids
-from test_tb_client import faults_at_close
 
 sys.path.append(CONFORMANCE)
 import certificates  # noqa: E402
-
-
-def register(client):
-    return client.to_bytes(16, "little") + struct.pack("<QIB3xI12x", 0, 0, 2, 0)
-
-
-def registered(client, session=1):
-    return tb.Reply(client, session, 0, 2, 0, session, b"").to_bytes()
-
-
-class Server:
-    """Listens at a path, and gives each connection the next of some answers: bytes after a request,
-    or None to close at once."""
-
-    def __init__(self, path, *answers):
-        self.path, self.answers, self.requests, self.left = path, answers, [], []
-        self.socket = socket.socket(socket.AF_UNIX)
-        self.socket.bind(path)
-        self.socket.listen()
-        self.thread = threading.Thread(target=self.serve)
-        self.thread.start()
-
-    def serve(self):
-        for answer in self.answers:
-            it, _ = self.socket.accept()
-            with it:
-                it.settimeout(10)
-                self.requests.append(it.recv(48, socket.MSG_WAITALL))
-                if answer is not None:
-                    it.sendall(answer)
-                    if not answer.startswith(b"tb_listen"):
-                        self.left.append(it.recv(1))  # nothing, once the client has closed it
-
-    def end(self):
-        self.thread.join()
-        self.socket.close()
 
 
 def bound_at_one_port(hosts):
@@ -267,8 +232,12 @@ class Addresses(unittest.TestCase):
         with socket.socket(socket.AF_UNIX) as listening:
             listening.bind(self.path("a"))
             listening.listen()  # and nobody answers
-            it = Socket(self.path("a"), timeout=2)
-            found = faults_at_close(it, lambda number: it.exchange(0, register(number)))
+            it = Socket(self.path("a"), timeout=300)
+            found = faults_at_close(
+                it,
+                lambda number: it.exchange(0, register(number)),
+                lambda: listening.accept()[0].close(),
+            )
         self.assertEqual(found, [tb.Closed] * 7 + [tb.ReplyLost])
 
     def test_a_signal_s_handler_that_closes_it(self):

@@ -2,7 +2,7 @@
 """Tests of the client: its frames, its retries over transports that fail on purpose, and worked
 rows on the program itself.
 
-    python3 -m unittest        (in this folder; PROGRAM names another tbs than crates/tbs/out/tbs)
+    python3 -m unittest        (in this folder; TBS names another tbs than crates/tbs/out/tbs)
 """
 import dataclasses
 import json
@@ -10,12 +10,12 @@ import os
 import signal
 import struct
 import tempfile
-import threading
 import time
 import unittest
 
 import tb_client as tb
-from paths import CRATES
+from helpers.programs import PROGRAM, has_program
+from helpers.records import account, at_ten, reply, results, transfer, wrong_replies
 from tb_client import (
     Account,
     AccountFlags,
@@ -26,75 +26,6 @@ from tb_client import (
     Transfer,
     TransferFlags,
 )
-
-PROGRAM = os.environ.get("PROGRAM", os.path.join(CRATES, "tbs", "out", "tbs"))
-has_program = unittest.skipUnless(os.access(PROGRAM, os.X_OK), f"{PROGRAM} is not built")
-
-
-def reply(frame, status=0, session=1, commit=None, body=b""):
-    """A reply to the request of a frame, with a commit number that goes with status and session
-    if no number is given."""
-    if commit is None:
-        commit = 0 if status else session + (frame[28] != tb.Operation.register)
-    header = frame[:16] + struct.pack(
-        "<QIBB2xIQ4x", session, *struct.unpack_from("<IB", frame, 24), status, len(body), commit
-    )
-    return header + body
-
-
-def faults_at_close(transport, exchange):
-    """What eight threads meet that exchange over a transport, each by its number, when it is closed
-    amid the first exchange."""
-    faults = []
-
-    def run(number):
-        try:
-            exchange(number)
-        except tb.ClientError as fault:
-            faults.append(type(fault))
-
-    threads = [threading.Thread(target=run, args=(it,)) for it in range(1, 9)]
-    for thread in threads:
-        thread.start()
-    time.sleep(0.7)
-    transport.close()
-    for thread in threads:
-        thread.join()
-    return sorted(faults, key=str)
-
-
-def wrong_replies():
-    """A reply with each fault that a header can have, to the request 1 of client 7 in session 1."""
-
-    def it(client=7, session=1, number=1, operation=129, status=0, commit=2, body=b""):
-        return tb.Reply(client, session, number, operation, status, commit, body).to_bytes()
-
-    return {
-        "ClientZero": it(client=0),
-        "UnknownOperation": it(operation=133),
-        "Reserved": it()[:47] + b"\1",
-        "RegisterNumbers": it(operation=2, commit=1),
-        "RequestZero": it(number=0),
-        "ReplyNumbers": it(commit=1),
-        "BadLength": it(body=b"1234567"),
-        "TooMany": it(body=bytes(8191 * 8)),
-    }
-
-
-def at_ten():
-    return 10
-
-
-def account(id, **more):
-    return Account(id, ledger=700, code=10, **more)
-
-
-def transfer(id, debit, credit, amount, **more):
-    return Transfer(id, debit, credit, amount, ledger=700, code=10, **more)
-
-
-def results(answers):
-    return [(it.index, it.result.name) for it in answers]
 
 
 class Frames(unittest.TestCase):
@@ -321,13 +252,13 @@ class Programs(unittest.TestCase):
     def test_a_program_that_is_no_server(self):
         for name, wrong in wrong_replies().items():
             fault = (tb.BadReply, f"what came is no frame of a reply ({name})")
-            told, took = self.asked(wrong, "exec sleep 5", timeout=3)
+            told, took = self.asked(wrong, "exec cat", timeout=60)
             self.assertEqual(told, [fault, fault], name)
             self.assertLess(
-                took, 6, "a wrong header is told at once, and its body is not waited for"
+                took, 60, "a wrong header is told at once, and its body is not waited for"
             )
         told, _ = self.asked(
-            b"Usage: it is a program, and no server. It writes a text.\n", "exec sleep 5", timeout=3
+            b"Usage: it is a program, and no server. It writes a text.\n", "exec cat", timeout=60
         )
         self.assertEqual(
             told[0],
@@ -338,20 +269,20 @@ class Programs(unittest.TestCase):
             ),
         )
         right = tb.Reply(7, 1, 1, 129, 0, 2, b"").to_bytes()
-        told, _ = self.asked(right[:32] + b"\xff" * 4 + right[36:], "exec sleep 5", timeout=3)
+        told, _ = self.asked(right[:32] + b"\xff" * 4 + right[36:], "exec cat", timeout=60)
         self.assertEqual(told[0], (tb.BadReply, f"a reply with a body of {2**32 - 1} bytes"))
 
     def test_a_program_that_holds_its_pipes(self):
         """One that writes no more and does not end is killed; what one started and left does not
         hold up its end."""
         for then, said in (
-            ("exec >&-; exec sleep 15", "killed by SIGKILL (status -9)"),
-            ("exec >&- 2>&-; exec sleep 15", "killed by SIGKILL (status -9)"),
-            ("sleep 15 >&- & exit 3", "the program ended (status 3)"),
+            ("exec >&-; exec sleep 600", "killed by SIGKILL (status -9)"),
+            ("exec >&- 2>&-; exec sleep 600", "killed by SIGKILL (status -9)"),
+            ("sleep 60 >&- & exit 3", "the program ended (status 3)"),
         ):
             told, took = self.asked(b"", then, timeout=1.5)
             self.assertEqual(told, [(tb.ProgramEnded, said)] * 2)
-            self.assertLess(took, 12)
+            self.assertLess(took, 60)
 
     def test_the_longest_timeout(self):
         for timeout in (2147484, 2**32 - 1):

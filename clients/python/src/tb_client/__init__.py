@@ -1,15 +1,17 @@
 """A client of the ledger server, over only the standard library.
 
+`open` opens the ledger in a file, `connect` one that listens: both return a `ClientSync`, which has
+the face of TigerBeetle's own client, over a pool of sessions. `open_async` and `connect_async` give
+a `ClientAsync`.
+
 A `Session` is a client that is registered: it numbers its requests, sends one at a time, and sends
 the same bytes again until it has the reply. It works over any transport, an object with a call
 `exchange(moment, frame)` that gives back the frame of the reply or raises `ReplyLost`:
 
-    Program    `tbs run` as a process, over two pipes
+    Program    `tbs run` as a process, over two pipes; with a file `tbd run`
     Socket     a server that listens, as tb_listen.py does
     Direct     a function that serves one frame, as that of clients/embed/python/tb_embed.py
     Faulty     another transport; it loses those of its requests and replies that it is told to lose
-
-`ClientSync` and `ClientAsync` have the face of TigerBeetle's own client, over a pool of sessions.
 
 docs/use/CLIENTS.md says how to use it, docs/use/FORMATS.md has the frames, docs/use/RULES.md the
 result codes.
@@ -36,6 +38,7 @@ from .errors import (
     Invalid,
     InvalidType,
     InvalidValue,
+    Locked,
     NativeError,
     NewerRequest,
     NewerSession,
@@ -66,6 +69,7 @@ from .names import (
     Status,
     TransferFlags,
 )
+from .opening import connect, connect_async, open, open_async
 from .program import Program
 from .records import Account, CreateAccountsResult, CreateTransfersResult, EventResult, Transfer
 from .sessions import Saved, Session, require_ok
@@ -110,6 +114,7 @@ __all__ = [
     "Invalid",
     "InvalidType",
     "InvalidValue",
+    "Locked",
     "MAX",
     "NUMBER_MAX",
     "NativeError",
@@ -143,7 +148,11 @@ __all__ = [
     "TransferFlags",
     "Transport",
     "amount_max",
+    "connect",
+    "connect_async",
     "id",
+    "open",
+    "open_async",
     "reply_length",
     "request_fault",
     "request_frame",

@@ -17,7 +17,7 @@ from .pools import Call, Pool
 from .records import Account, CreateAccountsResult, CreateTransfersResult, Transfer
 from .sessions import JUMP_MAX
 from .sockets import Address, Socket
-from .transports import Closing, Transport
+from .transports import Closing, Transport, to_standard_error
 from .values import U16, U128, callable_of, kind_of, seconds, whole
 
 HOST = "127.0.0.1"  # if only a port is given
@@ -46,8 +46,10 @@ class _Client:
     Up to `sessions` requests go out at once, and the server has places for 64 sessions in all. With
     one session, which is the default, requests are executed in the order of the calls. A call waits
     until its answer is there, whatever is lost and whatever process ends meanwhile; with `timeout`
-    it waits that many seconds. `connect` makes a transport in place of a Socket to the addresses.
-    With `client_range` the clients' ids are those whose upper 64 bits are that number."""
+    it waits that many seconds. That no reply came for 5 seconds is said once, on standard error or
+    to `report`. `connect` makes a transport in place of a Socket to the addresses; `jump_max` is
+    that of `Session`, if such a transport takes moments. With `client_range` the clients' ids are
+    those whose upper 64 bits are that number."""
 
     def __init__(
         self,
@@ -59,19 +61,25 @@ class _Client:
         tls: Optional[ssl.SSLContext] = None,
         connect: Optional[Callable[[], Transport]] = None,
         client_range: Optional[int] = None,
+        report: Callable[[str], object] = to_standard_error,
+        jump_max: Optional[float] = JUMP_MAX,
     ) -> None:
         self.cluster_id = whole("cluster_id", cluster_id, U128)
         self.replica_addresses = replica_addresses
         self.timeout = None if timeout is None else seconds("timeout", timeout, 0.001)
         self._sessions = whole("sessions", sessions, SESSIONS_MAX, 1)
+        jump_max = None if jump_max is None else seconds("jump_max", jump_max, 0)
         new_client(client_range)  # which refuses what is no range
+        callable_of("report", report)
         if connect is None:
             places = addresses_of(replica_addresses)
             Socket(places, tls=tls).close()  # which refuses what it can't take
-            self._pool = Pool(lambda: Socket(places, tls=tls), self._sessions, None, client_range)
+            self._pool = Pool(
+                lambda: Socket(places, tls=tls), self._sessions, None, client_range, report
+            )
         else:
             made = callable_of("connect", connect)
-            self._pool = Pool(made, self._sessions, JUMP_MAX, client_range)
+            self._pool = Pool(made, self._sessions, jump_max, client_range, report)
 
     def __repr__(self) -> str:
         many = "1 session" if self._sessions == 1 else f"{self._sessions} sessions"
@@ -195,6 +203,11 @@ class ClientAsync(_Client):
         trace: Optional[TracebackType],
     ) -> None:
         await self.close()
+
+
+def begin(client: _Client) -> None:
+    """Makes the client's first transport now, and not with its first call."""
+    client._pool.begin()
 
 
 def addresses_of(addresses: Addresses) -> Addresses:

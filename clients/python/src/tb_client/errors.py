@@ -2,11 +2,12 @@
 clients/embed/python/tb_embed.py are below it too."""
 from __future__ import annotations
 
-from typing import TYPE_CHECKING, Sequence
+from typing import TYPE_CHECKING, Optional, Sequence
 
 from .names import Status
 
 if TYPE_CHECKING:
+    from .locks import Owner
     from .records import EventResult
 
 
@@ -117,8 +118,28 @@ class ProgramEnded(ClientError):
         super().__init__(fault, status)
         self.fault, self.status = fault, status
 
+    @property
+    def name(self) -> str:
+        """The name of the fault, as Full, or nothing."""
+        return self.fault.split(":")[0] if self.status > 0 else ""
+
     def __str__(self) -> str:
         return f"{self.fault or 'the program ended'} (status {self.status})"
+
+
+class Locked(ProgramEnded):
+    """The file is open in another program: in the process `owner`, or None if the system does not
+    say which."""
+
+    STATUS = 4
+
+    def __init__(self, fault: str, status: int = STATUS, owner: Optional[Owner] = None) -> None:
+        super().__init__(fault, status)
+        self.owner = None if owner is None else owner.process
+        self._shown = "" if owner is None else f": {owner}"
+
+    def __str__(self) -> str:
+        return f"{super().__str__()}{self._shown}"
 
 
 class BadReply(ClientError):

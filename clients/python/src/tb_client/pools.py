@@ -6,8 +6,10 @@ import collections
 import concurrent.futures
 import contextlib
 import logging
+import math
 import os
 import threading
+import time
 from typing import Any, Callable, Deque, Iterable, List, Optional, Tuple
 
 from .errors import Busy, CannotConnect, Closed, Evicted, NoMemory, NotSent, NotYet, ReplyLost
@@ -20,6 +22,7 @@ from .sessions import PAUSE, Session, pauses_from
 from .transports import Transport, close_transport
 
 FORBIDDEN = ("NotAllowed", "ClientNotAllowed")  # what a client gets that may not come
+SILENCE_MAX = 5.0  # seconds without a reply, after which it is said that calls wait
 CLOSED = "this client was closed before the reply came"
 log = logging.getLogger("tb_client")
 
@@ -58,8 +61,11 @@ class Pool:
         sessions: int,
         jump_max: Optional[float],
         client_range: Optional[int],
+        report: Optional[Callable[[str], object]] = None,
     ) -> None:
         self._connect, self._sessions = connect, sessions
+        self._report = report  # says that the server has not replied for long
+        self._waits_since: Optional[float] = None
         self._jump_max, self._client_range = jump_max, client_range
         self._calls: Deque[Call] = collections.deque()
         self._changed = threading.Condition()
@@ -67,6 +73,12 @@ class Pool:
         self._idle = 0
         self._stopped = threading.Event()
         self._owner = os.getpid()
+
+    def begin(self) -> None:
+        """Makes the first worker now, which closes its transport at the end."""
+        with self._changed:
+            if not self._workers:
+                self._grow()
 
     def ask(self, operation: Operation, items: Iterable[Any]) -> Call:
         """Takes what a caller asks for. Its values are checked here, so that a wrong one is nobody
@@ -156,8 +168,24 @@ class Pool:
         if isinstance(why, ReplyLost) and why.told in FORBIDDEN:
             raise why
         log.warning("sent again in %.2f s: %s", seconds, why)
+        self.note_wait(why)
         if self.rest(seconds):
             raise why
+
+    def note_wait(self, why: BaseException) -> None:
+        """Says once that calls wait for a server that does not reply."""
+        now, since = time.monotonic(), self._waits_since
+        if since is None:
+            self._waits_since = now
+        elif now - since > SILENCE_MAX and self._report is not None:
+            self._waits_since = math.inf  # until there is a reply
+            self._report(
+                f"tb_client: no reply for {now - since:.0f} seconds: {why}. Calls wait until the "
+                "server is back, or for timeout= of the client"
+            )
+
+    def note_reply(self) -> None:
+        self._waits_since = None
 
     def rest(self, seconds: float) -> bool:
         """Waits. Says whether the client ended meanwhile."""
@@ -245,6 +273,7 @@ class Worker(threading.Thread):
                 self._tell_all(batch, why)
         else:
             self._patience = _Patience()
+            self._pool.note_reply()
             for call, answer in zip(batch, found):
                 call.tell(answer)
 
@@ -252,6 +281,7 @@ class Worker(threading.Thread):
         """Waits before a server is called again that was not there: a transport may report that at
         once. Says whether the client ended meanwhile."""
         log.warning("%s", why)
+        self._pool.note_wait(why)
         return self._pool.rest(self._patience.next(why))
 
     @staticmethod

@@ -11,12 +11,14 @@ import struct
 import subprocess
 import threading
 import time
-from typing import IO, Optional, Union, cast
+from typing import IO, Callable, Optional, Union, cast
 
 from .errors import (
     CannotStart,
+    ClockJumped,
     Closed,
     InvalidValue,
+    Locked,
     NoMemory,
     ProgramEnded,
     ReplyLost,
@@ -24,15 +26,19 @@ from .errors import (
 )
 from .forks import left_by_children
 from .frames import header_of, reply_length, test_reply
-from .layout import CLIENTS_MAX, HEADER
-from .transports import Closing
-from .values import MOMENT_MAX, U64, path_of, seconds, truth, whole
+from .layout import CLIENTS_MAX, HEADER, SECOND
+from .locks import owner_of
+from .transports import Closing, to_standard_error
+from .values import MOMENT_MAX, U64, callable_of, path_of, seconds, truth, whole
 
 CHUNK = 1 << 20  # bytes that are read at once, and the most that are kept of standard error
 SCRIPT_MAX = 256 << 20
 # what `tbd run --progress` says besides faults, the last of it when it serves
 READY = r"(ready)(?:: commit [0-9]+, time [0-9]+)?$"
 NEWS = re.compile(rf"^tbd: (?:made |reading |copied |cut |{READY})")
+# what a start did to the file: that it is a new one, or that it had torn bytes
+DONE = re.compile(r"^tbd: (?:made|copied|cut) ")
+AHEAD_MAX = 60.0  # seconds that a moment may be ahead of this computer's clock
 log = logging.getLogger("tb_client")
 LONGEST = 3600.0  # seconds of one wait for the pipes: the system takes no number of them
 
@@ -63,16 +69,27 @@ class Program(Closing):
         restarts: bool = False,
         script_max: Optional[int] = SCRIPT_MAX,
         file: Union[str, os.PathLike[str], None] = None,
+        existing: bool = False,
+        ahead_max: Optional[float] = AHEAD_MAX,
+        report: Callable[[str], object] = to_standard_error,
+        drop_torn: bool = False,
     ) -> None:
         places = whole("clients_max", clients_max, CLIENTS_MAX, 1)
         profile = whole("profile", profile, 2, 1)
         words = [] if file is None else [_file_word(path_of("file", file))]
         self.command = [path_of("path", path), "run", *words, str(places), str(profile)]
         self.command += [] if file is None else ["--progress"]
+        for name, given in (("existing", existing), ("drop_torn", drop_torn)):
+            if truth(name, given) and file is None:
+                raise InvalidValue(name, "needs file=: tbs keeps its ledger in memory")
+            self.command += [f"--{name.replace('_', '-')}"] if given else []
         if file is None and os.path.basename(self.command[0]) == "tbd":
             raise InvalidValue("path", "is tbd, which keeps its ledger in a file: give file=")
         self.timeout = seconds("timeout", timeout, 0.001)
         self.restarts = truth("restarts", restarts)
+        self.ahead_max = None if ahead_max is None else seconds("ahead_max", ahead_max, 0)
+        self.report = callable_of("report", report)
+        self.keeps_file = file is not None
         # what a program that keeps nothing is started again on
         self.keeps_script = self.restarts and file is None
         self.script_max = None if script_max is None else whole("script_max", script_max, U64)
@@ -108,7 +125,7 @@ class Program(Closing):
         self.out, self.out_at = b"".join(self.script), 0
         self.data, self.data_at = b"", 0
         self.sent, self.seen = len(self.script), 0
-        self.last = self.said = b""
+        self.last = self.said = self._line = b""
         self.is_ready = "--progress" not in self.command
         self._is_amid = False
 
@@ -120,8 +137,8 @@ class Program(Closing):
     def exchange(self, moment: int, frame: bytes) -> bytes:
         header_of(frame)  # a wrong one would end the program for all
         pair = struct.pack("<Q", whole("moment", moment, MOMENT_MAX)) + frame
-        if self._owner != os.getpid():
-            raise Closed("this Program belongs to the process that made it")
+        self._test_ahead(moment)
+        self._test_owner()
         with self._lock:
             self._be_ready()
             deadline = time.monotonic() + seconds("timeout", self.timeout, 0)
@@ -135,6 +152,20 @@ class Program(Closing):
                 raise ReplyLost(
                     f"the pipes of the program failed: {error.strerror or error}"
                 ) from None
+
+    def _test_owner(self) -> None:
+        if self._owner != os.getpid():
+            raise Closed("this Program belongs to the process that made it")
+
+    def _test_ahead(self, moment: int) -> None:
+        """Refuses a moment that a kept ledger would keep for ever."""
+        if self.keeps_file and self.ahead_max is not None:
+            ahead = moment - time.time_ns()
+            if ahead > self.ahead_max * SECOND:
+                raise ClockJumped(
+                    f"the moment is {ahead / SECOND:.3f} s ahead of this computer's clock, and "
+                    f"ahead_max is {self.ahead_max:g} s: nothing was sent"
+                )
 
     def _be_ready(self) -> None:
         """Starts the program again if that was asked for, otherwise raises why it takes no more."""
@@ -151,6 +182,7 @@ class Program(Closing):
     def wait(self, patience: float) -> bool:
         """Whether the program serves within a number of seconds. What it says meanwhile is in
         `told`. Raises ProgramEnded with its fault if it ends before."""
+        self._test_owner()
         with self._lock:
             self._be_ready()
             with contextlib.suppress(CannotStart):
@@ -178,11 +210,27 @@ class Program(Closing):
                     continue
             self._is_amid = True
             more = os.read(stderr.fileno(), CHUNK)
-            self.said = (self.said + more)[-CHUNK:]
+            done = self._hear(more)
             self.is_ready = any(it and it[1] for it in map(NEWS.match, self._lines()))
+            if self.is_ready and "--existing" not in self.command:
+                self.command.append("--existing")  # a restart never makes another ledger
             self._is_amid = False
+            for line in done:
+                self.pass_on(line)
             if not more:
                 raise self._ended()
+
+    def _hear(self, more: bytes) -> list[str]:
+        """Keeps what came on standard error. Gives the lines that ended."""
+        self.said = (self.said + more)[-CHUNK:]
+        *ended, self._line = (self._line + more).split(b"\n")
+        self._line = self._line[-CHUNK:]
+        return [line.decode(errors="replace") for line in ended]
+
+    def pass_on(self, line: str) -> None:
+        """Reports a line that says what was done to the file."""
+        if DONE.match(line):
+            self.report(line)
 
     def _lines(self) -> list[str]:
         """The whole lines, and the one that is not, which it wrote to standard error."""
@@ -269,7 +317,7 @@ class Program(Closing):
         """What to raise if the program is gone: it was killed, or ended by itself and says
         why."""
         process = cast("subprocess.Popen[bytes]", self.process)
-        self.said += self._last_words(self._pipes()[2])
+        done = self._hear(self._last_words(self._pipes()[2]))
         faults = [it for it in self._lines() if it.strip() and not NEWS.match(it)]
         fault = re.sub("^tb[sd]: ", "", faults[-1]) if faults else ""
         log.warning("%s ended: %s", self.command[0], how or fault or "without a word")
@@ -283,8 +331,10 @@ class Program(Closing):
             fault = how or f"killed by {_signal_name(-status)}"
         if not self.restarts:
             # before it is released: an empty ledger never takes its place
-            self._end = ProgramEnded(fault, status)
+            self._end = self._end_by(fault, status)
         self._let_go()
+        for line in done:
+            self.pass_on(line)
         if self._end is not None:
             return self._end
         if status < 0 or how:
@@ -292,8 +342,14 @@ class Program(Closing):
         return (
             NoMemory("the program had no memory, and ended")
             if fault == "NoMemory"
-            else ProgramEnded(fault, status)
+            else self._end_by(fault, status)
         )
+
+    def _end_by(self, fault: str, status: int) -> ProgramEnded:
+        """The end by a fault. Of a file that is open elsewhere, with its owner."""
+        if self.keeps_file and status == Locked.STATUS and fault.startswith("Locked"):
+            return Locked(fault, status, owner_of(self.command[2]))
+        return ProgramEnded(fault, status)
 
     def _last_words(self, stderr: IO[bytes]) -> bytes:
         """What the program says at its end. What it started may hold the pipe open beyond that:

@@ -25,7 +25,6 @@ from .errors import (
     REFUSALS,
     BadReply,
     Busy,
-    ClockJumped,
     Closed,
     EventsFailed,
     Evicted,
@@ -53,12 +52,12 @@ from .frames import (
     test_said,
 )
 from .ids import new_client
-from .layout import NUMBER_MAX, SECOND
+from .layout import NUMBER_MAX
+from .moments import Moments
 from .names import Operation, Status
 from .records import Account, EventResult, Transfer
 from .transports import Closing, Transport, close_transport, transport_of
 from .values import (
-    MOMENT_MAX,
     U32,
     U64,
     U128,
@@ -90,41 +89,12 @@ class Saved(TypedDict):
     pending: str
 
 
-def _running_ns() -> int:
-    """A clock that nobody sets: it counts while the computer sleeps too, if the system has such a
-    clock."""
-    return time.clock_gettime_ns(getattr(time, "CLOCK_BOOTTIME", time.CLOCK_MONOTONIC))
-
-
 def pauses_from(first: float) -> Iterator[float]:
     """The seconds that go by before each attempt if the server said to come later."""
     pause, greatest = first, max(first, PAUSE_MAX)
     while True:
         yield pause
         pause = min(2 * pause, greatest)
-
-
-class _Moments:
-    """Reads a clock, and refuses a moment that is too far ahead of where the clock should be by
-    now: at first this computer's clock, then the furthest moment so far and the time that has gone
-    by after it."""
-
-    def __init__(self) -> None:
-        self.ahead = time.time_ns() - _running_ns()
-        self.is_first = True
-
-    def take(self, now: Callable[[], int], jump_max: Optional[float]) -> int:
-        moment = whole("moment", now(), MOMENT_MAX)
-        ahead = moment - _running_ns()
-        jump = ahead - self.ahead
-        if jump_max is not None and jump > jump_max * SECOND:
-            raise ClockJumped(
-                f"the clock is {jump / SECOND:.3f} s ahead of where it should be, and jump_max is "
-                f"{jump_max:g} s"
-            )
-        self.ahead = ahead if self.is_first else max(self.ahead, ahead)
-        self.is_first = False
-        return moment
 
 
 def _names_a_fault(why: Exception) -> bool:
@@ -170,7 +140,7 @@ class Session(Closing):
         self._refused: Optional[Type[Exception]] = None
         self._may_be_sent = pending is not None
         self._is_abandoned = False
-        self._moments = _Moments()
+        self._moments = Moments()
         self._lock = threading.RLock()
         left_by_children(self)
 

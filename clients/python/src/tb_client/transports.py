@@ -1,6 +1,8 @@
 """What carries frames: the protocol, a function, and another transport with losses."""
 from __future__ import annotations
 
+import contextlib
+import sys
 import threading
 from types import TracebackType
 from typing import Any, Callable, Iterable, Optional, Protocol, Set, Type, TypeVar
@@ -10,6 +12,12 @@ from .forks import left_by_children
 from .values import U64, callable_of, kind_of, listed, whole
 
 Self = TypeVar("Self", bound="Closing")
+
+
+def to_standard_error(line: str) -> None:
+    """Prints what an operator has to know, unless the caller takes it by `report`."""
+    with contextlib.suppress(OSError, AttributeError):  # it is full, or closed
+        print(line, file=sys.stderr, flush=True)
 
 
 class Transport(Protocol):

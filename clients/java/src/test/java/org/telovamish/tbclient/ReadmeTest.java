@@ -59,9 +59,9 @@ public class ReadmeTest {
     }
 
     private Process listener() throws IOException {
-        List<String> words = List.of("python3", "-B", TOP + "/apps/host/tb-listen", "--unix",
-                "ledger.sock", "--", "python3", "-B", TOP + "/clients/python/tests/stand_in_tbd.py",
-                "run", "ledger.journal", String.valueOf(SESSIONS));
+        List<String> words = List.of(TOP + "/server/out/tb-listen", "--unix", "ledger.sock", "--",
+                "python3", "-B", TOP + "/clients/python/tests/stand_in_tbd.py", "run",
+                "ledger.journal", String.valueOf(SESSIONS));
         Process it = new ProcessBuilder(words)
                              .directory(folder.getRoot())
                              .redirectErrorStream(true)
