@@ -7,14 +7,26 @@ import subprocess
 from typing import TYPE_CHECKING, Iterator, Optional
 
 import pytest
+from hypothesis import settings
 
 from telovamish.programs import found
 
 if TYPE_CHECKING:
     from terminals import Terminal
 
+pytest_plugins = ["marks"]
+# the same examples in each run, and no limit of time on a busy machine
+settings.register_profile("telovamish", max_examples=100, deadline=None, derandomize=True)
+settings.load_profile("telovamish")
+
 APP = pathlib.Path(__file__).resolve().parent.parent
 COMMAND = APP / "telovamish"
+
+
+@pytest.fixture(autouse=True)
+def state_of_its_own(tmp_path_factory, monkeypatch):
+    """Each test has its own stored sessions and history."""
+    monkeypatch.setenv("XDG_STATE_HOME", str(tmp_path_factory.mktemp("state")))
 
 
 def ran(*words: str, given: bytes = b"", env: Optional[dict[str, str]] = None):
@@ -32,7 +44,7 @@ def ran(*words: str, given: bytes = b"", env: Optional[dict[str, str]] = None):
 def needed(name: str) -> str:
     path = found(name)
     if not path:
-        pytest.skip(f"{name} is not there: set {name.upper()}")
+        pytest.fail(f"no program {name}: build it in crates/{name}, or set {name.upper()}")
     return path
 
 

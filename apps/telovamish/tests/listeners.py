@@ -10,7 +10,7 @@ from typing import Iterator
 from conftest import APP
 
 UPPER = 1 << 64  # a client id's upper half
-LISTENER = APP.parent / "host" / "tb-listen"
+LISTENER = APP.parent.parent / "server" / "out" / "tb-listen"
 sys.path.append(str(APP.parent.parent / "clients" / "conformance"))
 
 import certificates  # noqa: E402
@@ -21,8 +21,7 @@ def listening(tbd: str, folder, *options: str) -> Iterator[str]:
     """A listener on a port of this machine: the port's number."""
     words = [str(LISTENER), "--tcp", "127.0.0.1:0", *options]
     words += ["--", tbd, "run", str(folder / "ledger.tbk"), "4"]
-    command = ["/usr/bin/python3", "-B", *words]
-    with subprocess.Popen(command, stderr=subprocess.PIPE, text=True) as it:
+    with subprocess.Popen(words, stderr=subprocess.PIPE, text=True) as it:
         try:
             said = it.stderr.readline()
             while not (port := re.search(r"listens on .*:([0-9]+)\n", said)):

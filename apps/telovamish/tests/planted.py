@@ -1,7 +1,7 @@
 #!/usr/bin/python3
 """Plants one bug at a time in a copy of the command, and says which tests find it.
 
-    planted.py [FILE..]    only the bugs of these files; SAMPLE=5 tries a fifth of the oracle's rows
+    planted.py [FILE..]    only the bugs of these files
 
 Prints a line for each bug, and how many were found. It ends with exit status 1 unless all were, or
 if a test fails without a bug. Some of the tests need `tbs`.
@@ -23,30 +23,30 @@ sys.dont_write_bytecode = True
 
 HERE = pathlib.Path(__file__).resolve().parent
 APP = HERE.parent
-STORED, READER = "test_recorded_texts.py::test_texts[stored]", "test_reader.py -k meant"
-WRONG, RUN = "test_recorded_texts.py::test_texts[wrong]", "test_run.py -k frames"
-WORDS, AUDITS = "test_recorded_dumps.py::test_forms_in_words", "test_recorded_dumps.py -k results"
-STOPS, SENDS = "test_recorded_dumps.py -k stops", "test_sending.py"
+READER, MEANT = "test_messages.py test_written.py test_reader.py", "test_reader.py -k meant"
+WRONG, RUN = "test_messages.py", "test_run.py -k frames"
+WORDS, AUDITS = "test_printing.py", "test_model.py -k new_seed"
+STOPS, SENDS = "test_explain.py", "test_sending.py"
 TABLES, LINES = "test_run.py -k tables", "test_audit.py"
 MODEL = "test_model.py -k hand"
 # file, what is there, the bug instead, and the tests that are to find it
 BUGS = [
-    ("reader", "self.client.to_bytes(16", "(self.client >> 1).to_bytes(16", STORED),
-    ("reader", "return self.at.to_bytes(8", "return (self.at | 1).to_bytes(8", STORED),
-    ("reader", "given[field] = given.get(field, 0) | number", "given[field] = number", STORED),
-    ("reader", "self.given.get(self.field, 0) | number", "number", STORED),
-    ("reader", "and (number or field not in POSITIVE)", "", STORED),
+    ("reader", "self.client.to_bytes(16", "(self.client >> 1).to_bytes(16", READER),
+    ("reader", "return self.at.to_bytes(8", "return (self.at | 1).to_bytes(8", READER),
+    ("reader", "given[field] = given.get(field, 0) | number", "given[field] = number", READER),
+    ("reader", "self.given.get(self.field, 0) | number", "number", READER),
+    ("reader", "and (number or field not in POSITIVE)", "", WRONG),
     ("reader", "len(self.events) < ITEMS_MAX - 1:", "len(self.events) < ITEMS_MAX:", "test_reader.py -k 8190"),
-    ("reader", "int(digits[2:], 16)", "int(digits[2:], 16) // 2", STORED),
-    ("reader", "number = AMOUNT_MAX", "number = AMOUNT_MAX - 1", STORED),
-    ("reader", "            if part == GIVEN:\n                self._push()\n", "", STORED),
+    ("reader", "int(digits[2:], 16)", "int(digits[2:], 16) // 2", READER),
+    ("reader", "number = AMOUNT_MAX", "number = AMOUNT_MAX - 1", READER),
+    ("reader", "            if part == GIVEN and not self._push():\n                return False\n", "", READER),
     ("reader", "            return place\n        number =", "            return place + 1\n        number =", WRONG),
-    ("reader", "default=0)", "default=0) + 1", STORED),
-    ("reader", "found += FLAGS[operation]", "found += [*FLAGS[operation]][1:]", STORED),
-    ("texts", 'count("\\n", self.start, place)', 'count("\\n", self.start, place) + 1', STORED),
-    ("filling", "pair.request + 1", "pair.request", STORED),
-    ("filling", "self.last = pair.client\n", "self.last = self.last or pair.client\n", STORED),
-    ("messages", "(begun or difflib", "(difflib", READER),
+    ("reader", "default=0)", "default=0) + 1", READER),
+    ("reader", "found += FLAGS[operation]", "found += [*FLAGS[operation]][1:]", READER),
+    ("texts", 'count("\\n", self.start, place)', 'count("\\n", self.start, place) + 1', READER),
+    ("filling", "pair.request + 1", "pair.request", READER),
+    ("filling", "self.last = pair.client\n", "self.last = self.last or pair.client\n", READER),
+    ("messages", "(begun or difflib", "(difflib", MEANT),
     ("messages", "start = max(0, len(before) - SHOWN_BEFORE)", "start = max(0, len(before) - 1)", WRONG),
     ("printing", 'if number or name == "id":', "if number:", WORDS),
     ("printing", "'|'.join(flags)", "'|'.join(flags[:1])", WORDS),
@@ -55,8 +55,8 @@ BUGS = [
     ("objects", "+ ([str(rest)] if rest else [])", "", WORDS),
     ("objects", "else str(number)", "else str(number // 2)", WORDS),
     ("objects", 'STATUSES[it.status],\n        "commit": str(it.commit)', 'STATUSES[it.status],\n        "commit": str(it.commit + 1)', WORDS),
-    ("words", 'TABLE["transfer_fields"]', '{**TABLE["transfer_fields"], "debit_account_id": (32, 16)}', STORED),
-    ("words", 'TABLE["transfer_flags"]', '{**TABLE["transfer_flags"], "pending": 512}', STORED),
+    ("words", 'TABLE["transfer_fields"]', '{**TABLE["transfer_fields"], "debit_account_id": (32, 16)}', READER),
+    ("words", 'TABLE["transfer_flags"]', '{**TABLE["transfer_flags"], "pending": 512}', READER),
     ("streams", "RESULT_FORMAT.iter_unpack(reply.body)}", "[*RESULT_FORMAT.iter_unpack(reply.body)][1:]}", WORDS),
     ("streams", "        may_be_marked = False\n", "", RUN),
     ("repeats", "reply.commit <= self.seen", "reply.commit < self.seen", SENDS),
@@ -65,7 +65,7 @@ BUGS = [
     ("sending", 'raise Late("TimeExhausted")', "pass", SENDS),
     ("sending", 'status == "no_session" or', "", SENDS),
     ("tables", "{count - len(results)} of {count} {name}", "{count} of {count} {name}", TABLES),
-    ("tables", "pair.body[128 * it : 128 * it + 16]", "pair.body[128 * it + 16 : 128 * it + 32]", TABLES),
+    ("reader", "self.body[size * place : size * place + 16]", "self.body[size * place + 16 : size * place + 32]", TABLES),
     ("explain", "number, at = number + 1, source.tell()", "number, at = number + 1, source.tell() - 8", STOPS),
     ("explain", 'stop_line("pair", number, at, SAYS', 'stop_line("pair", number - 1, at, SAYS', STOPS),
     ("explain", "                entries.append(item)\n            at =", "                entries.append(item)\n                at =", STOPS),
@@ -102,10 +102,8 @@ BUGS = [
 def copied(folder: str) -> pathlib.Path:
     """The command and its tests in a folder as deep as theirs, so that they find the client."""
     app = pathlib.Path(folder) / "apps" / APP.name
-    ignored = shutil.ignore_patterns("__pycache__", ".*", "recorded")
-    shutil.copytree(APP, app, ignore=ignored)
-    (app / "tests" / "recorded").symlink_to(HERE / "recorded")
-    for name in ("clients", "examples", "crates", "docs"):
+    shutil.copytree(APP, app, ignore=shutil.ignore_patterns("__pycache__", ".*"))
+    for name in ("clients", "examples", "crates", "docs", "tools", "apps/books", "apps/host"):
         (pathlib.Path(folder) / name).symlink_to(APP.parents[1] / name)
     return app
 

@@ -134,3 +134,9 @@ def test_a_record_that_differs(found: bytes) -> None:
     compare_records(Account, known, bytes([7, *bytes(15)]), known[7].to_bytes())
     with pytest.raises(Differs, match="^account "):
         compare_records(Account, known, bytes([7, *bytes(15)]), found)
+
+
+def test_a_range_that_ends_before_it_begins():
+    status, out, errors = ran("audit", "--from", "2026-11-02", "--to", "2026-11-01")
+    said = "telovamish: --from is after --to: there are no entries between them\n"
+    assert (status, out, errors) == (2, b"", said)

@@ -191,7 +191,7 @@ def test_what_was_just_written_is_read(env, tmp_path):
         follow.wait()
     assert (status, errors) == (0, "")
     lines = [it for it in out.decode().splitlines() if "row" in it or "created" in it]
-    assert lines == ["0 rows, at commit 2", "1 of 1 transfer created", "1 row, at commit 4"]
+    assert lines == ["0 rows, at commit 2", "1 of 1 transfer created", "1 row, at commit 3"]
 
 
 def test_without_tb_sql(names):

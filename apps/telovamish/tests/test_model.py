@@ -80,6 +80,7 @@ def count_statuses(pairs: list[Pair], replies: bytes, counts: Counts) -> None:
         seen = max(seen, reply.commit)
 
 
+@pytest.mark.slow(reason="10,000 events of random histories, each compared with tbs", seconds=50)
 def test_the_model_is_the_proved_program(tbs: str) -> None:
     number = int(os.environ.get("SEED", 1))
     seed, counts = random.Random(number), Counts()

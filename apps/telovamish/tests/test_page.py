@@ -29,7 +29,7 @@ def test_the_first_statements(tbs):
     text = blocks("text", "at=10 client=7 register;").encode()
     _, out, _ = ran("run", "--clients-max", "2", given=text, env={"TBS": tbs})
     assert b"2 of 2 accounts created\n1 of 1 transfer created\n" in out
-    assert out.endswith(b"1 of 3 not found\n")
+    assert out.endswith(b"1 of 3 not found: 9\n")
 
 
 def test_the_conversation(tbs):

@@ -112,14 +112,14 @@ def test_what_was_right_before_is_written():
     assert errors.startswith("telovamish: line 2, column 1: unknown word 'wrong'")
 
 
-def test_output_that_is_lost(tbs):
-    for words, given in ((["script"], HEAD), (["run"], b"register;")):
-        with open("/dev/full", "wb") as full:
-            it = subprocess.run(
-                [COMMAND, *words], input=given, stdout=full, stderr=subprocess.PIPE, env=BUFFERED
-            )
-        assert it.returncode == 1
-        assert it.stderr == b"telovamish: Device: standard output: No space left on device\n"
+@pytest.mark.parametrize("form, given", [("script", HEAD), ("run", b"register;")])
+def test_output_that_is_lost(tbs, form, given):
+    with open("/dev/full", "wb") as full:
+        it = subprocess.run(
+            [COMMAND, form], input=given, stdout=full, stderr=subprocess.PIPE, env=BUFFERED
+        )
+    assert it.returncode == 1
+    assert it.stderr == b"telovamish: Device: standard output: No space left on device\n"
 
 
 @pytest.mark.parametrize("words", [["runn"], ["audit", "--to", "x"], ["script"]])
@@ -163,11 +163,11 @@ def test_a_program_that_fails_is_no_wrong_input(form, program, said, tmp_path):
     assert errors.count("\n") == 1
 
 
-def test_files_that_are_closed():
-    for closed in ("<&-", ">&-"):
-        it = subprocess.run(f"{COMMAND} script {closed}", shell=True, stderr=subprocess.PIPE)
-        assert it.stderr == b"telovamish: Device: standard input or output is closed\n"
-        assert it.returncode == 1
+@pytest.mark.parametrize("closed", ["<&-", ">&-"])
+def test_files_that_are_closed(closed):
+    it = subprocess.run(f"{COMMAND} script {closed}", shell=True, stderr=subprocess.PIPE)
+    assert it.stderr == b"telovamish: Device: standard input or output is closed\n"
+    assert it.returncode == 1
 
 
 # run
@@ -194,7 +194,7 @@ def test_run_fills_in_and_shows_tables(tbs):
         "0 of 1 transfer created",
     ]
     assert out.splitlines()[8].split()[-1] == "1970-01-01T00:00:00.000000007Z"
-    assert out.splitlines()[9] == "1 of 2 not found"
+    assert out.splitlines()[9] == "1 of 2 not found: 5"
 
 
 def test_run_quietly_shows_what_failed(tbs):
@@ -248,49 +248,52 @@ def test_no_session_was_written(tbs):
     assert errors.startswith("telovamish: no session was written, and 0 was sent")
 
 
-def test_a_command_and_the_bare_command(tbs):
-    for words in (["run"], []):
-        status, out, _ = ran(*words, "--command", "register", env={"TBS": tbs})
-        assert (status, out) == (2, b"")
-        status, out, _ = ran(*words, "--command", "register;", env={"TBS": tbs})
-        assert (status, out) == (0, b"client 1 has session 1\n")
+@pytest.mark.parametrize("words", [["run"], []], ids=["run", "bare"])
+@pytest.mark.parametrize(
+    "text, status, out",
+    [("register", 2, b""), ("register;", 0, b"client 1 has session 1\n")],
+    ids=["cut", "whole"],
+)
+def test_a_command(tbs, words, text, status, out):
+    assert ran(*words, "--command", text, env={"TBS": tbs})[:2] == (status, out)
+
+
+def test_the_bare_command_reads_standard_input(tbs):
     assert ran(given=b"register;", env={"TBS": tbs})[1] == b"client 1 has session 1\n"
 
 
-def test_version_and_wrong_words(tbs, tmp_path):
+SHOWS = "telovamish --help shows the forms"
+CLIENTS = "65: No such file or directory; --clients-max 65 sets the number of clients"
+
+
+@pytest.mark.parametrize(
+    "words, status, fault",
+    [
+        (["runn"], 2, f"runn: unknown; did you mean run? {SHOWS}"),
+        (["run", "65"], 1, CLIENTS),
+        (["--clients-max", "65"], 2, "Invalid value for '--clients-max': 65 is not in the range 1<=x<=64."),
+        (["--profile", "0"], 2, "Invalid value for '--profile': 0 is not in the range 1<=x<=2."),
+        (["--client", "x"], 2, "Invalid value for '--client': 'x' is not a valid integer range."),
+        (["--file", ""], 2, "--file is empty"),
+        (["--file", "a", "--connect", "b"], 2, "--file and --connect are two ledgers: give one of them"),
+        (["--ca", "a"], 2, "--ca needs --connect"),
+        (["--connect", "1", "--key", "a"], 2, "--key needs --certificate"),
+        (["--connect", "1", "--program", "a"], 2, "--program needs a server that telovamish starts"),
+        (["--connect", "1", "--profile", "2"], 2, "--profile needs a server that telovamish starts"),
+        (["--books", "a", "--clients-max", "2"], 2, "--clients-max needs a server that telovamish starts"),
+    ],
+    ids=lambda it: " ".join(it) if isinstance(it, list) else "",
+)  # fmt: skip
+def test_a_wrong_word(words, status, fault):
+    assert ran(*words) == (status, b"", f"telovamish: {fault}\n")
+
+
+def test_the_version():
     assert ran("--version") == (0, b"telovamish 0.1.0\n", "")
-    assert (
-        ran("runn")[2]
-        == "telovamish: runn: unknown; did you mean run? telovamish --help shows the forms\n"
-    )
-    assert (
-        ran("run", "65")[2]
-        == "telovamish: 65: No such file or directory; --clients-max 65 sets the number of clients\n"
-    )
-    for words, fault in (
-        (
-            ["--clients-max", "65"],
-            "Invalid value for '--clients-max': 65 is not in the range 1<=x<=64.",
-        ),
-        (["--profile", "0"], "Invalid value for '--profile': 0 is not in the range 1<=x<=2."),
-        (["--client", "x"], "Invalid value for '--client': 'x' is not a valid integer range."),
-        (["--file", ""], "--file is empty"),
-        (
-            ["--file", "a", "--connect", "b"],
-            "--file and --connect are two ledgers: give one of them",
-        ),
-        (["--ca", "a"], "--ca needs --connect"),
-        (["--connect", "1", "--key", "a"], "--key needs --certificate"),
-        (["--connect", "1", "--program", "a"], "--program needs a server that telovamish starts"),
-        (["--connect", "1", "--profile", "2"], "--profile needs a server that telovamish starts"),
-        (
-            ["--books", "a", "--clients-max", "2"],
-            "--clients-max needs a server that telovamish starts",
-        ),
-    ):
-        assert ran(*words) == (2, b"", f"telovamish: {fault}\n"), words
-    nothing = {"TBS": str(tmp_path / "none")}
-    status, _, errors = ran("run", env=nothing)
+
+
+def test_a_program_that_is_none(tmp_path):
+    status, _, errors = ran("run", env={"TBS": str(tmp_path / "none")})
     assert (status, errors.split(":")[1]) == (1, f" {tmp_path}/none is no program")
 
 
@@ -325,49 +328,19 @@ def test_a_word_too_many_and_a_wrong_address(words, advice):
     assert errors.endswith(advice)
 
 
-# what people met
-
-
 @pytest.mark.parametrize(
-    "text, said",
-    [
-        ('{"id":1}', "line 1, column 1: found '{\"id\":1}'"),
-        ("register;\n\nclient=0 register;", "line 3, column 9: client cannot be 0"),
-        ("get_account_transfers id=1;", "line 1, column 1: get_account_transfers is no operation here: the books answer it: telovamish --books TABLES"),
-        ("query_transfers id=1;", "line 1, column 1: query_transfers is no operation here: the books answer it: telovamish --books TABLES"),
-        ("create_transfers id=1 flags=linked,pending amount=1;", "line 1, column 43: flags are joined by '|': flags=..|pending"),
-        ("create_accounts id=1 id=2;", "line 1, column 22: id was given before in this event; ',' comes between events"),
-        ("client=1 client=2 register;", "line 1, column 11: client was given before in this statement"),
-        ("create_transfers id=1 flags=history;", "line 1, column 29: history is a flag of accounts only"),
-        ("create_accounts id=1 flags=pending;", "line 1, column 28: pending is a flag of transfers only"),
-        ("at=2026-02-30 register;", "line 1, column 12: '2026-02-30' is no date from 1970-01-01 to 2262-04-11"),
-        ("lookup_accounts id=1", "line 1, column 21: the text ends within a statement"),
-    ],
-)  # fmt: skip
-def test_a_fault_in_words(tbs, text, said):
-    _, errors = served(text, tbs=tbs, status=2)
-    assert errors.startswith(f"telovamish: {said}"), errors
-    assert "\n  expected " in errors
-
-
-def test_8191_events(tbs):
+    "operation, items", [("lookup_accounts", "ids"), ("create_accounts", "events")]
+)
+def test_8191_events(tbs, operation, items):
     events = ", ".join(f"id={it}" for it in range(1, 8192))
-    _, errors = served(f"lookup_accounts {events};", tbs=tbs, status=2)
-    assert "a statement has at most 8190 ids" in errors
-    _, errors = served(f"create_accounts {events};", tbs=tbs, status=2)
-    assert "a statement has at most 8190 events" in errors
+    _, errors = served(f"{operation} {events};", tbs=tbs, status=2)
+    assert f"a statement has at most 8190 {items}" in errors
 
 
 def test_json_lists_the_operations(tbs):
     _, errors = served('{"id":1}', tbs=tbs, status=2)
-    for name in (
-        "register",
-        "create_accounts",
-        "create_transfers",
-        "lookup_accounts",
-        "lookup_transfers",
-    ):
-        assert name in errors.splitlines()[-1]
+    wanted = "create_accounts, create_transfers, lookup_accounts or lookup_transfers"
+    assert "register, " in errors and errors.endswith(f"{wanted}\n")
 
 
 @pytest.mark.parametrize(

@@ -2,15 +2,16 @@
 from __future__ import annotations
 
 import struct
+import time
 from unittest import mock
 
 import pytest
-from tb_client import CannotConnect, Direct, ProgramEnded, Reply, ReplyLost, Request
+from tb_client import Busy, CannotConnect, Direct, ProgramEnded, Reply, ReplyLost, Request
 
 from telovamish import sending
 from telovamish.ledgers import Ledger
 from telovamish.repeats import History
-from telovamish.sending import Desk, Late, NotServed
+from telovamish.sending import Ahead, Desk, Late, NotServed
 from telovamish.texts import Text, Wrong
 
 
@@ -283,6 +284,129 @@ def test_a_repeat_of_before_is_not_claimed_unless_its_commit_was_seen():
         desk = desk_of(server, history)
         served = serve(desk, "client=5 session=1 request=1 lookup_accounts id=1;")
         assert [it.is_repeat for it in served] == [is_known]
+
+
+# what became of it
+
+DOUBT = [
+    pytest.param(None, False, True, id="amid-the-exchange"),
+    pytest.param(ReplyLost("lost"), False, True, id="lost"),
+    pytest.param(CannotConnect("refused"), True, False, id="no-connection"),
+    pytest.param(Busy("later"), True, False, id="busy"),
+]
+
+
+@pytest.mark.parametrize("is_typed, words", [(True, "Typed"), (False, "same ids")])
+@pytest.mark.parametrize("fault, is_sure, may_be_sent", DOUBT)
+def test_what_ctrl_c_leaves(fault, is_sure, may_be_sent, is_typed, words):
+    """Ctrl-C in a pause after a fault, or amid an exchange."""
+    desk = desk_of(Server())
+    serve(desk, "lookup_accounts;")
+    desk.is_typed = is_typed
+    faults = [fault or KeyboardInterrupt()]
+    pause = mock.Mock(side_effect=KeyboardInterrupt)
+    with mock.patch.object(desk.ledger.transport, "exchange", mock.Mock(side_effect=faults)):
+        with mock.patch.object(sending.time, "sleep", pause):
+            with pytest.raises(KeyboardInterrupt):
+                serve(desk, "lookup_accounts;")
+    assert ("may have been executed" in desk.doubt()) == may_be_sent
+    assert ("nothing was sent" in desk.doubt()) == (not may_be_sent)
+    assert (words in desk.doubt()) == may_be_sent
+
+
+# the days of a batch
+
+MIDNIGHT = 20727 * 86400 * 10**9  # 2026-10-01
+BOTH_DAYS = """events are of the day before: from 2026-09-30T23:59:59.999999999Z to \
+2026-10-01T00:00:00.000000000Z"""
+
+
+@pytest.mark.parametrize(
+    "at, count, said",
+    [
+        pytest.param(0, 2, f"the first 1 of its 2 {BOTH_DAYS}", id="at-midnight"),
+        pytest.param(1, 2, None, id="as-many-later"),
+        pytest.param(1, 3, "the first 1 of its 3 events", id="too-few-later"),
+        pytest.param(0, 1, None, id="one-event"),
+        pytest.param(-1, 9, None, id="before"),
+        pytest.param(5, 9, "the first 3 of its 9 events", id="amid"),
+    ],
+)  # fmt: skip
+def test_a_batch_of_two_days_is_named(errors, at, count, said):
+    desk = desk_of(Server())
+    events = ", ".join(f"id={it} ledger=1 code=1" for it in range(1, count + 1))
+    serve(desk, f"at=5 register; at={MIDNIGHT + at} create_accounts {events};")
+    assert [it.startswith(said) for it in errors] == [True] if said else errors == []
+
+
+def test_a_repeat_and_a_refusal_name_no_days(errors):
+    desk = desk_of(Server(statuses=[0, 0, 0, 6]))
+    text = f"request=1 at={MIDNIGHT} create_accounts id=1 ledger=1 code=1, id=2 ledger=1 code=1;"
+    serve(desk, f"at=5 register; {text} {text} {text.replace('=1', '=9', 1)}")
+    assert len(errors) == 1
+
+
+# moments
+
+SECOND = 10**9
+NO_LOOK_BACK = "at= does not look back: this is the ledger as it is now, at"
+LAST = 1_000_000 * SECOND  # the time of the ledger's last entry, in 1970
+
+
+def kept(server, time=LAST):
+    desk = desk_of(server, History(seen=3, time=time))
+    desk.ledger = desk.ledger._replace(ahead_max=60.0)
+    return desk
+
+
+@pytest.mark.parametrize("operation", ["lookup_accounts id=1", "create_accounts", "register"])
+@pytest.mark.parametrize("ahead, is_sent", [(70, False), (50, True), (-50, True)])
+def test_a_moment_far_ahead_is_not_sent_to_a_kept_ledger(operation, ahead, is_sent):
+    server = Server()
+    text = f"at={time.time_ns() + ahead * SECOND} {operation};"
+    if is_sent:
+        serve(kept(server), text)
+    else:
+        with pytest.raises(Ahead, match="^at= is (70|69) seconds ahead of this computer's clock"):
+            serve(kept(server), text)
+    assert bool(server.frames) == is_sent
+
+
+def test_a_moment_far_ahead_is_sent_to_a_ledger_in_memory():
+    server = Server()
+    serve(desk_of(server), f"at={2**62} lookup_accounts id=1;")
+    assert server.moments == [2**62, 2**62]
+
+
+@pytest.mark.parametrize(
+    "at, said",
+    [
+        pytest.param(5 * SECOND, "at= moves the ledger's time to 1970-01-12T13:46:45.", id="later"),
+        pytest.param(1, None, id="now"),
+        pytest.param(-5 * SECOND, f"{NO_LOOK_BACK} 1970-01-12T13:46:40.", id="earlier"),
+    ],
+)
+def test_a_lookup_says_what_its_moment_does(errors, at, said):
+    serve(kept(Server()), f"at={LAST + at} lookup_accounts id=1;")
+    assert [it.startswith(said) for it in errors] == [True] if said else errors == []
+
+
+def test_a_ledger_in_memory_says_it_once(errors):
+    desk = desk_of(Server(), History(seen=3, time=LAST))
+    desk.ledger = desk.ledger._replace(is_memory=True)
+    for seconds in (5, 10, 15):
+        serve(desk, f"at={LAST + seconds * SECOND} lookup_accounts id=1;")
+    assert len(errors) == 1
+
+
+def test_a_clock_that_jumps_ahead_moves_no_kept_ledger():
+    server, now = Server(), time.time_ns()
+    desk = kept(server)
+    serve(desk, "lookup_accounts id=1;")
+    with mock.patch.object(sending.time, "time_ns", lambda: now + 3600 * SECOND):
+        with pytest.raises(Ahead, match="clock jumped ahead"):
+            serve(desk, "lookup_accounts id=1;")
+    assert len(server.frames) == 2
 
 
 def test_a_moment_that_cannot_be_entered_is_refused_before_it_is_sent():

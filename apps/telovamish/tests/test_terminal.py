@@ -25,15 +25,6 @@ def test_leaving_an_empty_ledger_does_not_ask(terminal):
     assert terminal.ended() == 0
 
 
-def test_help_of_a_word(terminal):
-    terminal.enter("help pending", "pending: flag of create_transfers: the amount is held until")
-    terminal.enter(
-        "help exists", "exists: result 21 of create_accounts: the same account exists already"
-    )
-    terminal.enter("help newer_request", "newer_request: status: the request skips a number")
-    terminal.enter("help pendin", "pendin: not known; did you mean pending?")
-
-
 def test_completion_by_the_tab_key(terminal):
     terminal.type("create_acc\t id=1 led\t7 code=1 fl\thist\t;\r")
     terminal.wait("1 of 1 account created")

@@ -9,14 +9,19 @@ import click
 from tb_client.ids import new_client
 
 from . import ledgers
+from .faults import Fault
 from .forms import ONCE
 from .programs import books as books_of
 from .running import Printer, run_files, run_text
 from .sending import Desk
-from .words import CLIENTS_MAX, U64, U128
+from .stored import key_of, taken
+from .tally import Tally
+from .written import Written
+from .words import CLIENTS_MAX, SECOND, TIME_MAX, U64, U128
 
 F = TypeVar("F", bound=Callable[..., Any])
 CLIENTS, PROFILES = click.IntRange(1, CLIENTS_MAX), click.IntRange(1, 2)
+SECONDS = click.IntRange(0, TIME_MAX // SECOND)
 IDS, RANGES = click.IntRange(1, U128), click.IntRange(0, U64)
 # each option with what it takes, which is nothing or a text or a number
 OPTIONS: tuple[tuple[str, str, Any, str], ...] = (
@@ -25,13 +30,17 @@ OPTIONS: tuple[tuple[str, str, Any, str], ...] = (
     ("--ca", "FILE", str, "Over TLS: who signs the server's certificate."),
     ("--certificate", "FILE", str, "Over TLS: this client's certificate."),
     ("--key", "FILE", str, "Over TLS: its key."),
+    ("--existing", "", None, "Makes no file: LEDGER has to be there."),
+    ("--ahead", "SECONDS", SECONDS, "How far ahead of the clock at= may be in a file (60)."),
     ("--program", "FILE", str, "The server to run (tbs; tbd of a file)."),
     ("--clients-max", "N", CLIENTS, f"Clients with a session, 1 to {CLIENTS_MAX} ({CLIENTS_MAX})."),
     ("--profile", "N", PROFILES, "The profile of rules, 1 or 2 (1)."),
     ("--client", "ID", IDS, "The client's id (1 in memory, else drawn)."),
     ("--client-range", "N", RANGES, "The upper 64 bits of a drawn client's id."),
+    ("--new-client", "", None, "A new client, in place of the one that is stored."),
     ("--json", "", None, "Replies as JSON, a line each."),
     ("--quiet", "", None, "Shows only refusals and events that failed."),
+    ("--strict", "", None, "Ends with the first refusal or failed event, by status 3."),
     ("--command", "TEXT", str, "Serves these statements, and ends."),
     ("--books", "TABLES", str, "Tables of tb-sql, which answer questions about the history."),
     ("--names", "TOML", str, "Names and decimal places of ledgers, codes and accounts."),
@@ -53,6 +62,12 @@ def check_options(given: Given) -> None:
             raise click.UsageError(f"--{name} needs --connect")
     if given["key"] and not given["certificate"]:
         raise click.UsageError("--key needs --certificate")
+    if given["new_client"] and (given["client"] or not (given["file"] or given["connect"])):
+        raise click.UsageError("--new-client needs --file or --connect, and no --client")
+    for name in ("existing", "ahead"):
+        is_given = given[name] is not None and given[name] is not False
+        if is_given and not given["file"]:
+            raise click.UsageError(f"--{name} needs --file")
     if given["file"] and given["connect"]:
         raise click.UsageError("--file and --connect are two ledgers: give one of them")
     if given["connect"] or given["books"] and not given["file"]:
@@ -69,21 +84,55 @@ def client_of(given: Given) -> int:
 
 
 @contextlib.contextmanager
+def desk_over(ledger: ledgers.Ledger, given: Given) -> Iterator[Desk]:
+    """A desk over a ledger. If it stays, and no client is given, by the session that is stored for
+    it: each new client takes a place, and in the end another one's."""
+    stays = (given["connect"] or given["file"]) and not given["client"]
+    key = key_of(given["file"], given["connect"], given["client_range"], given["certificate"])
+    stored = taken(key) if stays and not given["new_client"] else None
+    desk = Desk(ledger, client_of(given))
+    desk.renew = lambda: client_of(given)
+    if stored and stored.session:
+        desk.resume(stored.client, stored.session)
+    try:
+        yield desk
+    finally:
+        if stored:
+            stored.end(desk.client, desk.settled())
+
+
+def start_of(given: Given, numbers: ledgers.Numbers) -> ledgers.Start:
+    ahead = ledgers.AHEAD_MAX if given["ahead"] is None else given["ahead"]
+    return ledgers.Start(numbers, given["existing"], ahead)
+
+
+def confirm_new(given: Given) -> None:
+    """Asks at a terminal before a ledger is made: a mistyped name would be a new one, in which
+    every transfer could be made again."""
+    file = given["file"]
+    if file and not given["existing"] and ledgers.is_missing(file):
+        if not click.confirm(f"{file} has no ledger. Make a new and empty one?", err=True):
+            raise Fault(f"{file} was not made")
+
+
+@contextlib.contextmanager
 def desk_of(given: Given) -> Iterator[tuple[Desk, Printer]]:
     """A desk and a printer over the ledger that the options name."""
-    check_options(given)
     program, numbers = given["program"], (given["clients_max"], given["profile"])
     books = books_of(given["names"], given["books"])
     if given["connect"]:
         context = ledgers.context_of(given["ca"], given["certificate"], given["key"])
         ledger = ledgers.over(given["connect"], context)
+        ledgers.reach(ledger.addresses)
     elif given["file"]:
         with progress(given["file"]) as show:
-            ledger = ledgers.of_file(given["file"], program, numbers, show)
+            ledger = ledgers.of_file(given["file"], program, start_of(given, numbers), show)
     else:
         ledger = books.ledger() if given["books"] else ledgers.in_memory(program, numbers)
     try:
-        yield Desk(ledger, client_of(given)), Printer(given["json"], given["quiet"], books)
+        with desk_over(ledger, given) as desk:
+            desk.live.written = Written(books.names.rows) if books else None
+            yield desk, Printer(given["json"], given["quiet"], books)
     except KeyboardInterrupt:
         ledger.interrupt()
         raise
@@ -107,15 +156,20 @@ def progress(file: str) -> Iterator[Callable[[str], None]]:
 
 def run_given(given: Given, files: tuple[str, ...]) -> None:
     """Serves the statements of files, of standard input or of --command."""
+    check_options(given)
+    tally = Tally(given["strict"])
     with desk_of(given) as (desk, printer):
-        if given["command"]:
-            text = given["command"].encode("utf-8", "surrogateescape")
-            run_text(desk, printer, iter([text + b"\n"]))
-        else:
-            run_files(desk, printer, files)
+        try:
+            if given["command"]:
+                text = given["command"].encode("utf-8", "surrogateescape")
+                run_text(desk, printer, iter([text + b"\n"]), tally)
+            else:
+                run_files(desk, printer, files, tally)
+        finally:
+            tally.report()
 
 
-@click.command()
+@click.command(short_help="Serves statements of files or of standard input.")
 @click.argument("files", nargs=-1, metavar="[FILE]...")
 @with_options
 def run(files: tuple[str, ...], **given: Any) -> None:
@@ -127,7 +181,7 @@ def run(files: tuple[str, ...], **given: Any) -> None:
     run_given(given, files)
 
 
-@click.command()
+@click.command(short_help="A terminal: statements with history and completion.")
 @with_options
 def repl(**given: Any) -> None:
     """A terminal: statements with history and completion, replies as tables.
@@ -136,6 +190,10 @@ def repl(**given: Any) -> None:
     if given["command"] or not (sys.stdin.isatty() and sys.stdout.isatty()):
         run_given(given, ())
         return
+    if given["strict"]:
+        raise click.UsageError("--strict needs --command, or statements that are not typed")
+    check_options(given)
+    confirm_new(given)
     with desk_of(given) as (desk, printer):
         from .repl import Repl
 

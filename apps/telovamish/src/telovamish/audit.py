@@ -8,9 +8,9 @@ from typing import Any, Iterator, NamedTuple, Optional
 import click
 
 from .checking import Check
-from .dates import date_of, moment_of
+from .dates import date_of
 from .faults import Fault, report
-from .forms import ONCE, read, written
+from .forms import ONCE, read, time_of, written
 from .live import Replay, facts
 from .model import RESOLVES, Event, Evicted, Expired, Fact, Ledger
 from .objects import item_shown, line, record_shown
@@ -114,14 +114,6 @@ def request_shown(entry: Entry) -> Shown:
     return shown
 
 
-def time_of(word: str, is_last: bool = False) -> int:
-    moment = moment_of(word, is_last)
-    if moment is None and not re.fullmatch("[0-9]{1,19}", word):
-        forms = "2026-11-26T10:00:00Z, 2026-11-26, or nanoseconds since 1970"
-        raise click.BadParameter(f"{word[:60]!r} is no time: write {forms}")
-    return int(word) if moment is None else moment
-
-
 def last_time_of(word: str) -> int:
     return time_of(word, is_last=True)
 
@@ -137,7 +129,7 @@ def audited(wanted: Wanted, replay: Replay, check: Optional[Check], books: Any) 
         raise Fault(f"audit --account {wanted.account}: the dump has no account of this id")
 
 
-@click.command()
+@click.command(short_help="A dump in, what became of each event out.")
 @click.option("--account", type=IDS, metavar="ID", help="Only its lines.", **ONCE)
 @click.option("--after", type=COMMITS, metavar="COMMIT", help="Entries after this one.", **ONCE)
 @click.option("--from", "first", type=time_of, metavar="TIME", help="Entries from then on.", **ONCE)
@@ -154,6 +146,9 @@ def command(tbs: Optional[str], is_check: bool, follow: bool, **wanted: Any) -> 
 
     Expiries come before the entry that found them, by time and id. A record is shown as the ledger
     keeps it, with its timestamp and its amount, and what was refused as it was sent."""
+    first, last = wanted["first"], wanted["last"]
+    if first is not None and last is not None and first > last:
+        raise click.UsageError("--from is after --to: there are no entries between them")
     path, books = program("tbs", tbs, "--tbs"), books_of(wanted.pop("names"))
     with Replay(path) as replay:
         check = Check(path, replay) if is_check else None

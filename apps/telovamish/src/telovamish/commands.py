@@ -3,6 +3,7 @@ from __future__ import annotations
 
 import difflib
 import importlib
+import io
 import os
 import sys
 from typing import Optional, cast
@@ -11,7 +12,7 @@ import click
 
 from . import __version__
 from .early import INTERRUPTED
-from .faults import Fault, leave, report
+from .faults import Fault, Left, leave, report
 
 # the forms, of which only the one that is named is loaded: a module and a command in it
 FORMS = {it: f"forms:{it}" for it in ("script", "requests", "replies", "dump", "pairs")}
@@ -19,7 +20,8 @@ FORMS = {"repl": "asking:repl", "run": "asking:run", **FORMS}
 FORMS |= {"audit": "audit:command", "explain": "explain:command"}
 OWN_OPTIONS = {"--help", "-h", "--version"}
 EPILOG = """Exit statuses: 0 all is done; 1 reading, writing, a program or memory failed, or a
-statement got no reply; 2 the input or the arguments are wrong."""
+statement got no reply; 2 the input or the arguments are wrong; 3 with --strict, a statement or an
+event was refused."""
 
 
 class Forms(click.Group):
@@ -74,9 +76,14 @@ def ran() -> int:
     except click.ClickException as why:
         report(why.format_message() + words_too_many(why))
         return 2
+    except Left:
+        leave(sys.stdout)
+        return Left.status
     except Fault as why:
         report(str(why))
         return why.status
+    except BrokenPipeError:  # of a page of usage
+        return Left.status
     except MemoryError:
         report("NoMemory")
         return 1
@@ -93,9 +100,13 @@ def main() -> None:
     if sys.stdin is None or sys.stdout is None:
         report("Device: standard input or output is closed")
         sys.exit(1)
+    if isinstance(sys.stdout, io.TextIOWrapper):  # a name that its encoding has not is no fault
+        sys.stdout.reconfigure(errors="backslashreplace")
     status = ran()
     try:
         sys.stdout.flush()
+    except BrokenPipeError:
+        status = status or Left.status
     except OSError as why:
         if not status:
             report(f"Device: standard output: {why.strerror or why}")

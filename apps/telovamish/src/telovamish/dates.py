@@ -43,6 +43,15 @@ def date_of(nanoseconds: int) -> str:
     return f"{(EPOCH + datetime.timedelta(seconds=seconds)).isoformat()}.{rest:09}Z"
 
 
+def spoken(nanoseconds: int) -> str:
+    """A length of time in words, in its largest unit."""
+    seconds = nanoseconds // SECOND
+    for name, length in (("year", 365 * DAY), ("day", DAY), ("hour", 3600), ("minute", 60)):
+        if seconds >= 2 * length:
+            return f"{seconds // length} {name}s"
+    return f"{seconds} seconds"
+
+
 def may_go_on(begun: str) -> bool:
     """Some date begins so: one of the earliest that do, with each digit that may come next."""
     starts = [begun, *(begun + digit for digit in "0123456789")]

@@ -12,7 +12,7 @@ from typing import Optional
 import click
 
 from .faults import Device, Fault, devices
-from .forms import ONCE, written
+from .forms import ONCE, name_terminal, written
 from .kinds import DUMP, LEDGER, WORDS, is_text
 from .live import WRONG_INPUT, end_of, replies_of
 from .programs import program
@@ -121,11 +121,12 @@ def stop_line(unit: str, number: int, at: int, why: str, fault: str) -> str:
     return f"{unit} {number}, at byte {at}: {why} ({fault})\n"
 
 
-@click.command()
+@click.command(short_help="Where and why tbs stops in a script or a dump.")
 @click.option("--tbs", metavar="FILE", help="The program tbs.", **ONCE)
 def command(tbs: Optional[str]) -> None:
     """A script or a dump in; the place at which `tbs` stops in it, and why, out."""
     path = program("tbs", tbs, "--tbs")
+    name_terminal()
     with devices("standard input"):
         data = sys.stdin.buffer.read()
     written([explained(data, path).encode()])

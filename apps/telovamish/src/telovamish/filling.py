@@ -6,6 +6,7 @@ from typing import NamedTuple, Optional
 
 from .reader import Numbers, Pair
 from .words import OPERATIONS, U32
+from .written import Written
 
 
 class Session(NamedTuple):
@@ -20,6 +21,7 @@ class Known:
 
     def __init__(self, last: Optional[int] = None) -> None:
         self.last = last  # the client named last
+        self.written: Optional[Written] = None  # names and decimal places, if some are known
         self.sessions: dict[int, Session] = {}
 
     def note(self, pair: Pair) -> None:

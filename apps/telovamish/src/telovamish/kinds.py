@@ -7,6 +7,7 @@ DUMP, LEDGER = b"TBSDUMP1", b"TBJRNL0"  # the number of its format follows in a 
 FIRST_BYTES = 56  # a moment and the header of a request
 # what the header of a request to register has after its client
 REGISTER = bytes(12) + OPERATIONS["register"].to_bytes(4, "little") + bytes(16)
+BINARY = ("ledger", "dump", "script", "replies")
 WORDS = {
     "ledger": "a ledger's file of tbd: tbd check FILE finds where it ends, "
     "tbd dump FILE makes a dump of it",

@@ -3,27 +3,34 @@ from __future__ import annotations
 
 import contextlib
 import os
-import pathlib
 import re
 import signal
+import socket
 import ssl
+import stat
 import time
-from typing import Any, Callable, Iterator, NamedTuple, Optional, Union
+from typing import Any, Callable, Iterable, Iterator, NamedTuple, Optional, Union
 
-from tb_client import ClientError, Direct, Program, ProgramEnded, Socket
+from tb_client import ClientError, Direct, Locked, Program, ProgramEnded, Socket
 from tb_client.clients import addresses_of
+from tb_client.locks import owner_of
 from tb_client.program import NEWS
 
-from .faults import Device, Fault
+from .dates import date_of, spoken
+from .faults import Device, Fault, report
+from .kinds import FIRST_BYTES, kind_of
 from .programs import found, program
 from .repeats import History
-from .words import CLIENTS_MAX
+from .words import CLIENTS_MAX, SECOND
 
 READY = re.compile(r"tbd: ready: commit (\d+), time (\d+)")
 # of a ledger's file: its first record, after which its profile and its clients are
 HEAD, HEAD_END = b"TBK1", 32
+SOON = 0.5  # seconds for a first connection
 PATIENCE = 0.2  # seconds between two looks at a program that reads its ledger
+DROP_TORN = ", or start with --drop-torn"  # an option of tbd, which this command has not
 QUIET = 300.0  # seconds without news of it after which it is not waited for
+AHEAD_MAX = 60.0  # seconds that a moment over a file may be ahead of the clock
 Numbers = tuple[Optional[int], Optional[int]]  # CLIENTS_MAX and PROFILE, as far as they are given
 
 
@@ -34,6 +41,8 @@ class Ledger(NamedTuple):
     history: History
     is_memory: bool = False
     places: tuple[Any, ...] = ()  # to which plain connections go
+    addresses: tuple[Any, ...] = ()
+    ahead_max: Optional[float] = None  # seconds that a moment may be ahead of the clock, if bounded
 
     @property
     def has_moments(self) -> bool:
@@ -88,25 +97,66 @@ def started(what: str) -> Iterator[None]:
     try:
         yield
     except ProgramEnded as why:
-        fault = why.fault or str(why)
+        fault = (why.fault or str(why)).replace(DROP_TORN, "")
         file = "" if what in fault else f"{what}: "
-        raise Device(f"{file}{fault}{held_by(what, fault)}") from None
+        raise Device(f"{file}{fault}{held_by(why, what)}") from None
     except (ClientError, OSError) as why:
         raise Device(str(why)) from None
 
 
-def of_file(
-    file: str, option: Optional[str], numbers: Numbers, show: Callable[[str], None]
-) -> Ledger:
+class Start(NamedTuple):
+    """How a ledger's file is served: its rules, whether it has to exist, and how far ahead of the
+    clock a moment may be."""
+
+    numbers: Numbers = (None, None)
+    existing: bool = False
+    ahead_max: float = AHEAD_MAX
+
+
+def of_file(file: str, option: Optional[str], start: Start, show: Callable[[str], None]) -> Ledger:
     """A ledger in a file, which a `tbd` of its own serves. While it is read, how far is shown."""
     path, head = program("tbd", option), head_of(file)
-    clients_max, profile = numbers[0] or head[0], numbers[1] or head[1]
+    clients_max, profile = start.numbers[0] or head[0], start.numbers[1] or head[1]
     with started(file):
-        it = Program(path, clients_max, profile, file=file, restarts=True)
+        it = Program(
+            path, clients_max, profile, file=file, restarts=True,
+            existing=start.existing, ahead_max=None, report=report_start,
+        )  # fmt: skip
         with killed_at_a_fault(it):
             await_ready(it, file, show)
     ready = next(filter(None, map(READY.match, it.told)), None)
-    return Ledger(it, History(*map(int, ready.groups())) if ready else History())
+    history = History(*map(int, ready.groups())) if ready else History()
+    report_lead(file, history.time)
+    return Ledger(it, history, ahead_max=start.ahead_max)
+
+
+def report_start(line: str) -> None:
+    """What a start did to the file: that it is a new ledger, or had torn bytes."""
+    said = line.removeprefix("tbd: ")
+    report(f"{said}, a new and empty ledger" if said.startswith("made ") else said)
+
+
+def report_lead(file: str, last: int) -> None:
+    """Says that a ledger's time is ahead of the clock: its entries get no earlier one."""
+    ahead = last - time.time_ns()
+    if ahead > AHEAD_MAX * SECOND:
+        report(
+            f"the last entry of {file} is at {date_of(last)}, {spoken(ahead)} ahead of this "
+            "computer's clock: each new one is later than that (docs/use/OPERATING.md)"
+        )
+
+
+def is_missing(file: str) -> bool:
+    """Whether a start would make a ledger in this file: it is not there, it is empty, or a crash
+    left less than its first 8 bytes."""
+    try:
+        with open(file, "rb") as it:
+            first = it.read(FIRST_BYTES)
+    except FileNotFoundError:
+        return True
+    except OSError:
+        return False
+    return not first or kind_of(first) == "remnant"
 
 
 @contextlib.contextmanager
@@ -144,19 +194,10 @@ def head_of(file: str) -> tuple[int, int]:
     return CLIENTS_MAX, 1
 
 
-def held_by(file: str, fault: str) -> str:
+def held_by(why: ProgramEnded, file: str) -> str:
     """Who has a file that is locked, as far as the system knows."""
-    holders = []
-    with contextlib.suppress(OSError):
-        place = f":{os.stat(file).st_ino}"
-        for line in pathlib.Path("/proc/locks").read_text().splitlines():
-            words = line.split()
-            if fault.startswith("Locked") and "->" not in words and words[5].endswith(place):
-                path = pathlib.Path(f"/proc/{words[4]}/cmdline")
-                command = path.read_bytes().replace(b"\0", b" ") if path.exists() else b""
-                shown = command.decode(errors="replace").strip()
-                holders.append(f"process {words[4]} ({shown:.200})")
-    return f": {', '.join(holders)} has it" if holders else ""
+    owner = owner_of(file) if isinstance(why, Locked) else None
+    return f": process {owner.process} ({owner.command}) has it" if owner else ""
 
 
 # Connections
@@ -173,21 +214,55 @@ def context_of(
         if certificate:
             files = " and ".join(filter(None, (certificate, key)))
             context.load_cert_chain(certificate, key)
+    except ssl.SSLError as why:
+        if certificate and not key and files == certificate:
+            raise Device(f"{certificate} has no private key: name its file by --key FILE") from None
+        raise Device(f"{files}: {why.reason or 'no certificate'}") from None
     except OSError as why:
-        reason = why.reason if isinstance(why, ssl.SSLError) else why.strerror
-        raise Device(f"{files}: {reason or 'no certificate'}") from None
+        raise Device(f"{files}: {why.strerror or 'no certificate'}") from None
     return context
 
 
 def over(addresses: str, tls: Optional[ssl.SSLContext]) -> Ledger:
     """A ledger over a connection, to one of several addresses: a port of this machine, a host
-    with or without a port, or a Unix socket's path, which has a slash."""
+    with or without a port, or a Unix socket's path, which has a slash or is that of a socket."""
     try:
-        places: Any = addresses_of(addresses)
-        return Ledger(Socket(places, tls=tls), History(), places=() if tls else (*places,))
+        places: Any = addresses_of(f"./{addresses}" if is_socket(addresses) else addresses)
+        plain = () if tls else (*places,)
+        return Ledger(Socket(places, tls=tls), History(), places=plain, addresses=(*places,))
     except ClientError as why:
         # the client library names its own argument
         raise Fault(f"--connect: {str(why).removeprefix('replica_addresses has ')}") from None
+
+
+def is_socket(path: str) -> bool:
+    """Whether a name without a slash is that of a Unix socket in this folder."""
+    try:
+        return "/" not in path and stat.S_ISSOCK(os.stat(path).st_mode)
+    except (OSError, ValueError):
+        return False
+
+
+def reach(places: Iterable[Any]) -> None:
+    """Raises Device at once if no server listens at any of these places: it would be waited for
+    longer than anyone expects. What takes longer than a moment is left to the first request."""
+    fault = ""
+    for place in places:
+        is_path = isinstance(place, str)
+        try:
+            if is_path:
+                with socket.socket(socket.AF_UNIX) as it:
+                    it.settimeout(SOON)
+                    it.connect(place)
+            else:
+                socket.create_connection(place, SOON).close()
+            return
+        except (ConnectionRefusedError, FileNotFoundError) as why:
+            fault = f"{place if is_path else '{}:{}'.format(*place)}: {why.strerror}"
+        except OSError:
+            return
+    if fault:
+        raise Device(fault)
 
 
 def speaks_tls(place: Any) -> bool:

@@ -4,17 +4,25 @@ from __future__ import annotations
 
 import difflib
 import re
+import sys
 from typing import Optional
 
+from .faults import width_of
 from .filling import Known
 from .reader import GIVEN, PARTED, Awaited, Scan, awaited, scanned
 from .words import FLAGS, HEADER, ITEMS_MAX, KINDS, MAXIMA
 from .words import OPERATIONS, POSITIVE, U16, U32, U64, U128
+from .written import kind_of_field, unquoted
 
 SHOWN_MAX, SHOWN_BEFORE, WORD_MAX = 100, 60, 60
+AROUND = 8  # columns of an indent and of two marks that something is cut
 BYTE_ORDER_MARK = "\xef\xbb\xbf"
 LEADING = re.compile(r"[^\x00-\x20,;=|#\x7f]*")
 NAME = re.compile(r"[a-zA-Z0-9_]*")
+IS_NAME = re.compile(r'"[^"]*"?|[a-zA-Z_][a-zA-Z0-9_]*')
+IS_DECIMAL = re.compile(r"[0-9]+\.[0-9]*")
+SMALLEST_UNIT = ": an amount counts the ledger's smallest unit, and --names gives decimal places"
+QUOTED = re.compile(r'"[^"\n]*"?')
 IS_NUMBER = re.compile(r"0x[0-9a-fA-F]+|[0-9]+")
 MARKS = {"=": "'='", "|": "'|'", ",": "','", ";": "';'"}
 LARGEST = {U16: "65535", U32: "4294967295", U64: "18446744073709551615", U128: "2^128 - 1"}
@@ -55,6 +63,8 @@ def wrong_byte(rest: str, scan: Optional[Scan]) -> str:
     if not rest:
         return "the text ends within a statement"
     byte = rest[0]
+    if byte in ",;" and scan and scan.names and scan.decimal:
+        return scan.names.amount_fault(scan.decimal, scan.given.get("ledger", 0))
     if byte == "," and scan and scan.part == GIVEN and len(scan.events) == ITEMS_MAX - 1:
         kind = "ids" if scan.operation.startswith("lookup_") else "events"
         return f"a statement has at most {ITEMS_MAX} {kind}"
@@ -71,6 +81,9 @@ def wrong_word(word: str, scan: Scan) -> str:
         return misplaced(word, scan, may)
     if word.startswith(BYTE_ORDER_MARK):
         return "found a byte order mark (U+FEFF): save the text as UTF-8 without it"
+    kind = kind_of_field(scan.operation, may.number)
+    if scan.names and kind and IS_NAME.fullmatch(word):
+        return scan.names.fault(kind, unquoted(word))
     shown = word if len(word) <= WORD_MAX else f"{word[:WORD_MAX]}..."
     if word[0].isascii() and word[0].isalpha() and may.words:
         near = nearest(word.lower(), [*may.words, *KINDS])
@@ -80,6 +93,8 @@ def wrong_word(word: str, scan: Scan) -> str:
         return f"found '{shown}'"
     if may.number == "at" and "-" in word:
         return f"'{shown}' is no date from 1970-01-01 to 2262-04-11"
+    if may.number == "amount" and IS_DECIMAL.fullmatch(word):
+        return f"'{shown}' is no whole number{'' if scan.names else SMALLEST_UNIT}"
     if not IS_NUMBER.fullmatch(word):
         return f"'{shown}' is no whole number"
     if not word.strip("0x"):
@@ -121,11 +136,13 @@ def early(word: str, may: Awaited, scan: Scan) -> str:
 
 
 def shown_line(before: str, rest: str) -> str:
-    """A line, cut around a place, and a mark under the place."""
+    """A line, cut around a place to what a terminal shows in one, and a mark under the place."""
     before, rest = plain(before), plain(rest)
-    start = max(0, len(before) - SHOWN_BEFORE) if len(before + rest) > SHOWN_MAX else 0
+    most = min(SHOWN_MAX, width_of(sys.stderr, SHOWN_MAX + AROUND) - AROUND)
+    first = SHOWN_BEFORE * most // SHOWN_MAX
+    start = max(0, len(before) - first) if len(before + rest) > most else 0
     shown = f"{'...' if start else ''}{before[start:]}"
-    end = max(0, SHOWN_MAX - len(before) + start)
+    end = max(0, most - len(before) + start)
     indent = "".join("\t" if it == "\t" else " " for it in shown)
     return f"\n  {shown}{rest[:end]}{'...' if end < len(rest) else ''}\n  {indent}^"
 
@@ -141,10 +158,13 @@ def plain(text: str) -> str:
 def described(text: str, place: int, scan: Scan) -> tuple[str, str]:
     """What is wrong at a place where a reader stopped, and the lines after that."""
     before, rest = text[:place], text[place:]
-    head, tail = ending(LEADING, before), LEADING.match(rest)[0]  # type: ignore[index]
-    at_word, word = None if tail else scanned(before, scan.fill), ""
+    quoted = QUOTED.match(rest) if scan.names else None
+    head = "" if quoted else ending(LEADING, before)
+    tail = (quoted or LEADING.match(rest))[0]  # type: ignore[index]
+    at_word, word = None if tail else scanned(before, scan.fill, scan.names), ""
     if at_word is None:
-        at_word, word = scanned(before[: len(before) - len(head)], scan.fill), head + tail
+        start = before[: len(before) - len(head)]
+        at_word, word = scanned(start, scan.fill, scan.names), head + tail
     if at_word is None:
         return wrong_byte(rest, None), ""
     what = wrong_word(word, at_word) if word else wrong_byte(rest, at_word)

@@ -9,10 +9,18 @@ from typing import Callable, NamedTuple, Optional
 
 from .dates import moment_of, right_part
 from .words import AMOUNT_MAX, FIELDS, FLAGS, HEADER, ITEMS_MAX, MAXIMA, OPERATIONS, POSITIVE
+from .written import Written, kind_of_field, unquoted
 
 TOKEN = re.compile(
     r"(?:[ \t\r\n]+|\#[^\n]*(?:\n|\Z))*"
     r"(?:([a-z_][a-z0-9_]*)|([0-9]{4}-[a-zA-Z0-9_:.-]*|[0-9][a-zA-Z0-9_]*)|([=|,;])|(.)|\Z)",
+    re.DOTALL,
+)
+# where names and decimal places are known
+NAMED_TOKEN = re.compile(
+    r"(?:[ \t\r\n]+|\#[^\n]*(?:\n|\Z))*"
+    r'(?:("[^"\n]*(?:"|\Z)|[a-zA-Z_][a-zA-Z0-9_]*)'
+    r"|([0-9]{4}-[a-zA-Z0-9_:.-]*|[0-9]+\.[0-9]*|[0-9][a-zA-Z0-9_]*)|([=|,;])|(.)|\Z)",
     re.DOTALL,
 )
 WORD, NUMBER, MARK, OTHER = 1, 2, 3, 4
@@ -42,6 +50,11 @@ class Pair(NamedTuple):
     def frame(self) -> bytes:
         numbers = self.session, self.request, OPERATIONS[self.operation], len(self.body)
         return self.client.to_bytes(16, "little") + REQUEST.pack(*numbers) + self.body
+
+    def id_at(self, place: int) -> int:
+        """The id of an event, or of what is looked up."""
+        size = 16 if self.operation.startswith("lookup_") else 128
+        return int.from_bytes(self.body[size * place : size * place + 16], "little")
 
     @property
     def length(self) -> int:
@@ -81,8 +94,9 @@ def suits(operation: str, header: Numbers) -> bool:
 class Scan:
     """How far a text of statements is read."""
 
-    def __init__(self, fill: Fill) -> None:
-        self.fill = fill
+    def __init__(self, fill: Fill, written: Optional[Written] = None) -> None:
+        self.fill, self.names = fill, written
+        self.token = NAMED_TOKEN if written else TOKEN
         self.statement: Optional[Statement] = None  # the one that was read last
         self._takes = {WORD: self._take_word, NUMBER: self._take_number, MARK: self._take_mark}
         self.clear()
@@ -95,6 +109,7 @@ class Scan:
         self.filled: Numbers = {}
         self.given: Numbers = {}
         self.events: list[bytes] = []
+        self.decimal = ""  # an amount with a point, of which the ledger may follow
         self.is_within = False  # a word or a number is begun
 
     @property
@@ -106,7 +121,7 @@ class Scan:
         tokens are whole. Gives the place to go on from. Raises Goes with the place of the first
         byte that no text of statements has there; in a word or number that more text may follow
         only if it is the last."""
-        match: Match = TOKEN.scanner(text, start).match  # type: ignore[attr-defined]
+        match: Match = self.token.scanner(text, start).match  # type: ignore[attr-defined]
         end = len(text)
         part, field, given, maxima = self.part, self.field, self.given, self.maxima
         self.statement, self.is_within = None, False
@@ -159,11 +174,12 @@ class Scan:
         if mark == "|" and part == GIVEN and self.field == "flags":
             self.part = WANTED
         elif mark == "," and part == GIVEN and self.operation and len(self.events) < ITEMS_MAX - 1:
-            self._push()
+            if not self._push():
+                return False
             self.part = PARTED
         elif mark == ";" and part in (GIVEN, OPENED) and self.operation:
-            if part == GIVEN:
-                self._push()
+            if part == GIVEN and not self._push():
+                return False
             self._finish()
         else:
             return False
@@ -178,6 +194,8 @@ class Scan:
             number = FLAGS[self.operation].get(word)
         elif self.part == WANTED and self.field == "amount" and word == "amount_max":
             number = AMOUNT_MAX
+        elif self.part == WANTED and self.names:
+            number = self.names.number(kind_of_field(self.operation, self.field), unquoted(word))
         return self._give(number)
 
     def _take_number(self, digits: str) -> bool:
@@ -186,6 +204,9 @@ class Scan:
             return False
         if self.field == "at" and "-" in digits:
             return self._give(moment_of(digits))
+        if self.field == "amount" and re.fullmatch(r"[0-9]+\.[0-9]+", digits):
+            self.decimal = digits
+            return self._give(0)
         number = _number(digits, self.maxima[self.field])
         return self._give(None if number == 0 and self.field in POSITIVE else number)
 
@@ -205,9 +226,14 @@ class Scan:
         self.maxima, self.part = MAXIMA[operation], OPENED
         return True
 
-    def _push(self) -> None:
-        """Packs an event."""
+    def _push(self) -> bool:
+        """Packs an event. False if its amount is none of its ledger."""
         fields, given = FIELDS[self.operation], self.given
+        if self.decimal and self.names:
+            amount = self.names.amount(self.decimal, given.get("ledger", 0))
+            if amount is None or amount > AMOUNT_MAX:
+                return False
+            given["amount"], self.decimal = amount, ""
         if len(fields) == 1:
             self.events.append(given["id"].to_bytes(16, "little"))
         else:
@@ -217,6 +243,7 @@ class Scan:
                 record[at : at + size] = number.to_bytes(size, "little")
             self.events.append(bytes(record))
         self.given = {}
+        return True
 
     def _finish(self) -> None:
         header = {**self.written, **self.filled}
@@ -293,10 +320,10 @@ def awaited(scan: Scan) -> Awaited:
     return Awaited(scan.words(), scan.field if part == WANTED else "", marks)
 
 
-def scanned(before: str, fill: Fill) -> Optional[Scan]:
+def scanned(before: str, fill: Fill, written: Optional[Written] = None) -> Optional[Scan]:
     """The reader after these bytes of a statement and a line end; None if no statement begins
     so."""
-    scan = Scan(fill)
+    scan = Scan(fill, written)
     try:
         scan.read(before + "\n")
     except Goes:

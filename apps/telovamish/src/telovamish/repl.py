@@ -2,12 +2,13 @@
 from __future__ import annotations
 
 import re
+import sys
 from typing import Optional
 
-from .faults import Fault, report
+from .faults import Fault, folded, report, width_of
 from .help import HELP, help_on
 from .running import Printer
-from .sending import IN_DOUBT, Desk, Late
+from .sending import Desk, Late
 from .terminal import Terminal
 from .texts import Text, Wrong, statements
 
@@ -20,6 +21,7 @@ class Repl:
 
     def __init__(self, desk: Desk, printer: Printer) -> None:
         self.desk, self.printer = desk, printer
+        desk.is_typed = True
         self.printer.has_pager = True
         self.terminal = Terminal(desk.live, COMMAND.match)
         if printer.books:
@@ -64,7 +66,8 @@ class Repl:
 
     def _do(self, word: str, about: Optional[str]) -> None:
         if word.startswith("help"):
-            print(help_on(about) if about else HELP, end="", flush=True)
+            text = help_on(about) if about else HELP
+            print(folded(text, width_of(sys.stdout, 100)), end="", flush=True)
         elif word in ("json", "table"):
             self.printer.as_json = word == "json"
         else:
@@ -89,6 +92,6 @@ class Repl:
             report(str(why))
             is_wrong = isinstance(why, Wrong)
         except KeyboardInterrupt:
-            report("the rest of the reply is not shown" if is_shown else IN_DOUBT)
+            report("the rest of the reply is not shown" if is_shown else self.desk.doubt())
         if read.has_more(is_wrong):
             report("what follows it is not sent")

@@ -9,10 +9,11 @@ from typing import Any, Iterable, Iterator
 
 import click
 
-from .faults import Device, devices
+from .faults import Device, devices, report
 from .objects import line, reply_shown
-from .sending import Desk, Late, Served
+from .sending import Ahead, Desk, Late, Served
 from .tables import reply_lines
+from .tally import Tally
 from .texts import Text, pieces, statements
 
 
@@ -21,7 +22,7 @@ class Printer:
 
     def __init__(self, as_json: bool, is_quiet: bool = False, books: Any = None) -> None:
         self.as_json, self.is_quiet, self.books, self.has_pager = as_json, is_quiet, books, False
-        self.named = books.names.for_table if books else None
+        self.names = books.names if books else None
         if shutil.which("less"):
             os.environ.setdefault("PAGER", "less -FRSX")
 
@@ -32,7 +33,7 @@ class Printer:
             lines = [] if self.is_quiet and served.reply.status == 0 else lines
         else:
             width = shutil.get_terminal_size((100, 24)).columns
-            lines = list(reply_lines(served, width, self.is_quiet, self.named))
+            lines = list(reply_lines(served, width, self.is_quiet, self.names))
         self.write(lines)
 
     def write(self, lines: list[str]) -> None:
@@ -57,26 +58,35 @@ def is_pager_there() -> bool:
     return not words or shutil.which(words[0]) is not None
 
 
-def run_text(desk: Desk, printer: Printer, parts: Iterator[bytes], name: str = "") -> None:
+def run_text(
+    desk: Desk, printer: Printer, parts: Iterator[bytes], tally: Tally, name: str = ""
+) -> None:
     """Serves the statements of a text, each as soon as it is whole."""
     text = Text(desk.live, name)
     for statement in statements(printer.asked(parts, desk), text):
         try:
             for served in desk.serve(statement):
                 printer.show(served)
+                tally.note(served, text.last_place)
         except Late as why:
             raise Late(f"{why}: {text.last_place}") from None
+        except Ahead as why:
+            raise Ahead(f"{text.last_place}: {why}") from None
+        except KeyboardInterrupt:
+            if not desk.ledger.is_memory:
+                report(f"{text.last_place}: {desk.doubt()}")
+            raise
 
 
-def run_files(desk: Desk, printer: Printer, names: Iterable[str]) -> None:
+def run_files(desk: Desk, printer: Printer, names: Iterable[str], tally: Tally) -> None:
     """Serves the statements of files, or of standard input if none is named or one is `-`."""
     for name in names or ["-"]:
         if name == "-":
-            run_text(desk, printer, pieces(0))
+            run_text(desk, printer, pieces(0), tally)
             continue
         try:
             with open(name, "rb", buffering=0) as file:
-                run_text(desk, printer, pieces(file.fileno(), what=name), name)
+                run_text(desk, printer, pieces(file.fileno(), what=name), tally, name)
         except OSError as why:
             meant = f"; --clients-max {name} sets the number of clients" if name.isdigit() else ""
             raise Device(f"{name}: {why.strerror}{meant}") from None

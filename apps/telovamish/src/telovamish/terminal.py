@@ -3,7 +3,6 @@ from __future__ import annotations
 
 import contextlib
 import os
-import pathlib
 import re
 import select
 import signal
@@ -24,6 +23,7 @@ from prompt_toolkit.shortcuts import CompleteStyle
 from prompt_toolkit.styles import Style
 
 from .filling import Known
+from .stored import folder
 from .texts import Wrong, typed
 from .words import KINDS
 
@@ -40,17 +40,17 @@ SIGNALS = (signal.SIGHUP, signal.SIGQUIT, signal.SIGTERM)
 def history() -> History:
     """The statements that were typed before, which nobody else can read, in the place that the
     system gives programs for their state."""
-    state = os.environ.get("XDG_STATE_HOME", "")
+    top = folder()
     try:
-        top = pathlib.Path(state) if os.path.isabs(state) else pathlib.Path.home() / ".local/state"
-        path = top / "telovamish" / "history"
-        path.parent.mkdir(mode=0o700, parents=True, exist_ok=True)
+        if top is None:
+            return InMemoryHistory()
+        path = top / "history"
         os.close(os.open(path, os.O_CREAT | os.O_APPEND | os.O_WRONLY, 0o600))
         data = path.read_bytes()
         if len(data) > HISTORY_MAX:
             path.write_bytes(data[data.find(b"\n\n", len(data) // 2) + 1 :])
         return FileHistory(str(path))
-    except (OSError, RuntimeError):  # this user has no folder
+    except OSError:
         return InMemoryHistory()
 
 

@@ -7,6 +7,7 @@ from typing import Iterator, Optional
 
 from .faults import Fault, devices
 from .filling import Known
+from .kinds import BINARY, FIRST_BYTES, WORDS, kind_of
 from .messages import fault_text
 from .reader import Goes, Pair, Scan, Statement
 
@@ -24,7 +25,7 @@ class Text:
 
     def __init__(self, known: Known, name: str = "") -> None:
         self.known, self.name = known, name
-        self.scan = Scan(known.fill)
+        self.scan = Scan(known.fill, known.written)
         self.text, self.start, self.at = "", 0, 0
         self.row = self.column = 1  # of the statement's first byte
         self.last_place = ""  # of the statement that was read last
@@ -76,11 +77,14 @@ class Text:
 
 def pieces(number: int, size: int = 65536, what: str = "standard input") -> Iterator[bytes]:
     """What comes over a file descriptor, as it comes."""
-    is_terminal = os.isatty(number)
+    is_terminal, is_first = os.isatty(number), True
     with devices(what):
         while piece := os.read(number, size):
             if is_terminal and len(piece) >= LINE_MAX:
                 raise Fault(f"LineTooLong: a terminal cuts a line at {LINE_MAX} bytes")
+            if is_first and (kind := kind_of(piece[:FIRST_BYTES])) in BINARY:
+                raise Fault(f"{what} holds no statements: it is {WORDS[kind]}")
+            is_first = False
             yield piece
 
 
