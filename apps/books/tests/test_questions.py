@@ -1,9 +1,9 @@
 """Questions among statements: what is found of them, however the text comes."""
 
-import random
-import unittest
+import pytest
+from hypothesis import given
+from hypothesis import strategies as st
 
-from support import Tables  # noqa: I001, which sets the path
 from tb_sql.errors import Refused
 from tb_sql.questions import Question, Split
 
@@ -26,39 +26,36 @@ def parts_of(pieces):
     return questions, text
 
 
-class Questions(Tables):
-    def test_whole(self):
-        found, text = parts_of([b"query_accounts limit=1;\nregister; query_transfers"])
-        self.assertEqual(found, [b"query_accounts limit=1;", b"query_transfers"])
-        self.assertEqual(text, b" " * 23 + b"\nregister; " + b" " * 15)
-
-    def test_in_pieces(self):
-        """The parts are the same wherever a text is cut."""
-        wanted = parts_of([TEXT])
-        self.assertEqual(len(wanted[1]), len(TEXT))
-        self.assertEqual([len(it) > 10 for it in wanted[0]], [True, True])
-        rng = random.Random(1)
-        for count in (1, 2, 3, 10, 40, len(TEXT) - 1):
-            for _ in range(50):
-                cuts = sorted(rng.sample(range(1, len(TEXT)), count))
-                pieces = [TEXT[a:b] for a, b in zip([0, *cuts], [*cuts, len(TEXT)])]
-                self.assertEqual(parts_of(pieces), wanted, pieces)
-
-    def test_a_statement_is_passed_on_at_once(self):
-        split = Split()
-        self.assertEqual(list(split.feed(b"create_acc")), [b"create_acc"])
-        self.assertEqual(list(split.feed(b"ounts id=1;")), [b"ounts id=1;"])
-        self.assertEqual(list(split.feed(b"query_acc")), [])
-        self.assertEqual(list(split.feed(b"x;")), [b"query_accx;"])
-
-    def test_fields(self):
-        self.assertEqual(
-            Question(b"query_accounts\tledger=7 # x=1\n limit=2 ;").words,
-            {"ledger": "7", "limit": "2"},
-        )
-        with self.assertRaises(Refused):
-            Question(b"query_accounts ledger;").words  # noqa: B018
+def test_whole():
+    found, text = parts_of([b"query_accounts limit=1;\nregister; query_transfers"])
+    assert found == [b"query_accounts limit=1;", b"query_transfers"]
+    assert text == b" " * 23 + b"\nregister; " + b" " * 15
 
 
-if __name__ == "__main__":
-    unittest.main()
+@given(st.sets(st.integers(1, len(TEXT) - 1)))
+def test_in_pieces(cuts):
+    """The parts are the same wherever a text is cut."""
+    pieces = [TEXT[a:b] for a, b in zip([0, *sorted(cuts)], [*sorted(cuts), len(TEXT)])]
+    found, text = parts_of(pieces)
+    assert (found, text) == parts_of([TEXT])
+    assert [len(it) > 10 for it in found] == [True, True]
+    assert len(text) == len(TEXT)
+
+
+def test_a_statement_is_passed_on_at_once():
+    split = Split()
+    assert list(split.feed(b"create_acc")) == [b"create_acc"]
+    assert list(split.feed(b"ounts id=1;")) == [b"ounts id=1;"]
+    assert list(split.feed(b"query_acc")) == []
+    assert list(split.feed(b"x;")) == [b"query_accx;"]
+
+
+def test_fields():
+    assert Question(b"query_accounts\tledger=7 # x=1\n limit=2 ;").words == {
+        "ledger": "7",
+        "limit": "2",
+    }
+    named = Question(b'get_account_transfers account_id="Anna  Schmidt" code="a=b";')
+    assert named.words == {"account_id": "Anna  Schmidt", "code": "a=b"}
+    with pytest.raises(Refused):
+        Question(b"query_accounts ledger;").words  # noqa: B018

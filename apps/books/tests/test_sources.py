@@ -1,22 +1,28 @@
 """A kept ledger's file: the programs that read it, once and as it grows, their faults and ends."""
 
 import contextlib
+import errno
 import os
 import pathlib
 import signal
 import sqlite3
 import subprocess
 import time
-import unittest
 
-from made import Made, account, transfer
-from support import COMMAND, Tables, stand_in
+import pytest
 from telovamish.streams import item_bytes
+
+from helpers.cases import case
+from helpers.made import Made, account, transfer
+from helpers.tables import COMMAND, Tables, stand_in
+from tb_sql.errors import Gone
+from tb_sql.sources import Name
 
 SECONDS = 60  # on a busy machine
 
 
-def setUpModule():
+@pytest.fixture(autouse=True, scope="module")
+def interrupts():
     """In the background of a shell SIGINT is ignored, and programs would inherit that."""
     signal.signal(signal.SIGINT, signal.default_int_handler)
 
@@ -28,20 +34,21 @@ def history():
     return made
 
 
-class Sources(Tables):
-    """Loads from a file by stand-ins for `tbd` and `tbs`."""
+class Kept(Tables):
+    """Tables that are loaded from a ledger's file by stand-ins for `tbd` and `tbs`."""
 
-    def setUp(self):
-        super().setUp()
-        self.file = self.room / "ledger.tbk"
+    def __init__(self, room):
+        super().__init__(room)
+        self.file = room / "ledger.tbk"
         self.given = ["load", self.path, "--ledger", str(self.file)]
-        self.environment = {**os.environ, "WORDS": str(self.room / "words")}
+        self.variables = {**os.environ, "WORDS": str(room / "words")}
+        self.started = []
         for name in ("tbd", "tbs"):
-            self.given += [f"--{name}", stand_in(self.room, name)]
+            self.given += [f"--{name}", stand_in(room, name)]
 
     def write(self, made, count=None):
         """The file with the first items of a history."""
-        self.environment["REPLIES"] = str(self.room / "replies")
+        self.variables["REPLIES"] = str(self.room / "replies")
         (self.room / "replies").write_bytes(made.replies)
         self.file.write_bytes(b"".join(item_bytes(it) for it, _ in made.steps[:count]))
 
@@ -49,7 +56,7 @@ class Sources(Tables):
         """A load to its end: the status and what it said on standard error."""
         ran = subprocess.run(
             [*COMMAND, *self.given, *more],
-            env={**self.environment, "FAULT": fault},
+            env={**self.variables, "FAULT": fault},
             capture_output=True,
             text=True,
             timeout=SECONDS,
@@ -58,16 +65,21 @@ class Sources(Tables):
 
     def words(self):
         """The words of the programs that were started after the last call."""
-        path = pathlib.Path(self.environment["WORDS"])
+        path = pathlib.Path(self.variables["WORDS"])
         found = path.read_text().splitlines() if path.exists() else []
         path.unlink(missing_ok=True)
         return sorted(it.replace(str(self.file), "FILE") for it in found)
 
     def follow(self):
-        it = subprocess.Popen([*COMMAND, *self.given, "--follow", "--quiet"], env=self.environment)
-        self.addCleanup(it.wait)
-        self.addCleanup(it.kill)
+        words = [*COMMAND, *self.given, "--follow", "--quiet"]
+        it = subprocess.Popen(words, env=self.variables, stderr=subprocess.PIPE)
+        self.started.append(it)
         return it
+
+    def close(self):
+        for it in self.started:
+            it.kill()
+            it.communicate()
 
     def reaches(self, commit):
         """Waits until the tables have an entry."""
@@ -76,167 +88,24 @@ class Sources(Tables):
             with contextlib.suppress(sqlite3.Error):
                 if self.rows("SELECT commit_number FROM position") == [(commit,)]:
                     return
-            time.sleep(0.05)
+            time.sleep(0.02)
         raise AssertionError(f"the tables have no entry {commit}")
 
     def end(self, process, number, wanted):
         """Ends a load, and what it started."""
         below = children(process.pid)
-        self.assertEqual(len(below), 2)
+        assert len(below) == 2
         process.send_signal(number)
-        self.assertEqual(process.wait(SECONDS), wanted)
+        assert process.wait(SECONDS) == wanted
         until = time.monotonic() + SECONDS
         while not all(map(is_gone, below)):
-            self.assertLess(time.monotonic(), until, "a program goes on")
+            assert time.monotonic() < until, "a program goes on"
             time.sleep(0.02)
 
-    def test_words(self):
-        self.write(history())
-        self.assertEqual(self.loaded(), (0, ""))
-        self.assertEqual(self.words(), ["tbd dump FILE", "tbs replay"])
-        before = self.contents()
-        self.assertEqual(self.loaded(), (0, ""))
-        self.assertEqual(self.words(), ["tbd dump FILE", "tbs replay"])
-        self.assertEqual(self.contents(), before)
-
-    def test_tables_in_the_ledger_s_own_file(self):
-        """They are refused. An empty one, such as that of a server that has only started, was made
-        a file of SQLite."""
-        link = self.room / "link"
-        link.symlink_to(self.file)
-        self.file.touch()
-        for path in (self.file, link):
-            self.given[1] = str(path)
-            status, said = self.loaded()
-            self.assertEqual((status, said.count("\n")), (2, 1), said)
-            self.assertEqual(self.file.read_bytes(), b"")
-
-    def test_what_is_followed(self):
-        """A load that is ended amid an entry goes on where it was."""
-        made = history()
-        self.write(made, 1)
-        head, *entries = [item_bytes(it) for it, _ in made.steps]
-        for number, end in ((2, signal.SIGTERM), (4, signal.SIGKILL), (7, signal.SIGINT)):
-            process = self.follow()
-            rest = b"".join(entries[: number + 1])[:-9]
-            self.file.write_bytes(head + (rest if number < 7 else b"".join(entries)))
-            self.reaches(number)
-            self.end(process, end, -end if end == signal.SIGKILL else 0)
-        followed = self.contents()
-        os.unlink(self.path)
-        self.assertEqual(self.loaded(), (0, ""))
-        self.assertEqual(self.contents(), followed)
-
-    def test_a_follow_of_another_ledger(self):
-        """It is refused, and the tables stay as they are."""
-        self.write(history())
-        self.assertEqual(self.loaded(), (0, ""))
-        before = self.contents()
-        made = Made().register().accounts(account(3), account(4))
-        for number in range(1, 6):
-            made.transfers(transfer(number, 3, 4, 10))
-        self.write(made)
-        status, said = self.loaded("--follow")
-        self.assertEqual(status, 2, said)
-        self.assertIn("entry 7 is another one", said)
-        self.assertEqual(self.contents(), before)
-
-    def test_a_dump_that_is_killed(self):
-        """Whole entries that came before are no whole history."""
-        self.write(history())
-        tbd = self.room / "tbd"
-        made = history()
-        cut = sum(len(item_bytes(it)) for it, _ in made.steps[:4])
-        tbd.write_text(f"#!/bin/sh\nhead -c {cut} $2\nkill -9 $$\n")
-        status, said = self.loaded()
-        self.assertEqual((status, said.count("\n")), (1, 1), said)
-        self.assertIn("was killed by signal 9", said)
-        self.assertEqual(self.rows("SELECT commit_number FROM position"), [(3,)])
-
-    def test_a_program_that_writes_no_dump(self):
-        """Its fault was told as one of the input."""
-        self.write(history())
-        tbd = self.room / "tbd"
-        for does in ("exit 0", "echo this is another program"):
-            tbd.write_text(f"#!/bin/sh\n{does}\n")
-            said = f"tb-sql: {tbd} wrote no dump of {self.file}: Head\n"
-            self.assertEqual(self.loaded(), (1, said))
-
-    def test_words_of_a_follow(self):
-        self.write(history())
-        self.assertEqual(self.loaded()[0], 0)
-        self.words()
-        process = self.follow()
-        until = time.monotonic() + SECONDS
-        wanted, found = ["tbd check FILE", "tbd dump FILE --follow", "tbs replay"], []
-        while sorted(found) != wanted:
-            self.assertLess(time.monotonic(), until, found)
-            time.sleep(0.1)
-            found += self.words()
-        self.end(process, signal.SIGTERM, 0)
-
-    def test_histories_that_are_shorter(self):
-        """An older copy is refused, and is not waited for."""
-        self.write(history())
-        self.assertEqual(self.loaded()[0], 0)
-        self.write(history(), 6)
-        for more in ([], ["--follow"]):
-            status, said = self.loaded(*more)
-            self.assertEqual(status, 2, said)
-            self.assertIn("ends before entry 7", said)
-            self.assertEqual(said.count("\n"), 1, said)
-
-    def test_faults(self):
-        """What a program said last is printed."""
-        self.write(history())
-        for fault, wanted in (
-            ("tbd:6:tbd: Damaged: FILE at byte 9", "tbd: Damaged: FILE at byte 9"),
-            ("tbd:1:tbd: Device: FILE", "tbd: Device: FILE"),
-        ):
-            self.assertEqual(self.loaded(fault=fault), (1, f"tb-sql: {wanted}\n"))
-            os.unlink(self.path)
-
-    def test_a_program_that_fails(self):
-        """It is not the input that is wrong: the status is 1, and the message names the program."""
-        self.write(history())
-        for name, text, wanted in (
-            ("tbs", "exit 7", "tbs replay ended with status 7"),
-            ("tbs", "echo tbs: NoMemory >&2; exit 1", "tbs replay ended with status 1: NoMemory"),
-            ("tbs", "kill -9 $$", "tbs replay was killed by signal 9"),
-            ("tbs", f"echo {'no reply ' * 9}", "tbs replay wrote what is no reply"),
-            ("tbd", "kill -9 $$", "was killed by signal 9"),
-        ):
-            with self.subTest(name, text=text):
-                program = self.room / name
-                before = program.read_text()
-                program.write_text(f"#!/bin/sh\n{text}\n")
-                status, said = self.loaded()
-                program.write_text(before)
-                self.assertEqual((status, said.count("\n")), (1, 1), said)
-                self.assertIn(wanted, said)
-        for name in ("tbd", "tbs"):
-            program = self.room / name
-            before = program.read_text()
-            program.write_text("no program")
-            status, said = self.loaded()
-            program.write_text(before)
-            self.assertEqual((status, said.count("\n")), (1, 1), said)
-            self.assertIn("does not start: Exec format error", said)
-
-    def test_a_history_that_is_refused(self):
-        """What the proved program says of it."""
-        self.write(history())
-        tbs = self.room / "tbs"
-        tbs.write_text("#!/bin/sh\nhead -c 16 > /dev/null\necho tbs: TimeNotAfter >&2\nexit 2\n")
-        wanted = (2, "tb-sql: the history is refused: TimeNotAfter\n")
-        self.assertEqual(self.loaded(), wanted)
-
-    def test_a_cut_entry(self):
-        self.write(history())
-        self.file.write_bytes(self.file.read_bytes()[:-9])
-        wanted = (2, "tb-sql: the input ends within an entry\n")
-        self.assertEqual(self.loaded(), wanted)
-        self.assertEqual(self.rows("SELECT commit_number FROM position"), [(6,)])
+    def gone(self, process):
+        """The exit status of a load whose file went away, and the line by which it ends."""
+        said = process.communicate(timeout=SECONDS)[1].decode()
+        return process.returncode, said.partition(" is not")[0]
 
 
 def children(process):
@@ -253,5 +122,210 @@ def is_gone(process):
         return True
 
 
-if __name__ == "__main__":
-    unittest.main()
+@pytest.fixture
+def kept(tmp_path):
+    it = Kept(tmp_path)
+    yield it
+    it.close()
+
+
+def test_words(kept):
+    kept.write(history())
+    assert kept.loaded() == (0, "")
+    assert kept.words() == ["tbd dump FILE", "tbs replay"]
+    before = kept.contents()
+    assert kept.loaded() == (0, "")
+    assert kept.words() == ["tbd dump FILE", "tbs replay"]
+    assert kept.contents() == before
+
+
+@pytest.mark.parametrize("name", ["ledger.tbk", "link"])
+def test_tables_in_the_ledger_s_own_file(kept, name):
+    """They are refused. An empty one, such as that of a server that has only started, was made
+    a file of SQLite."""
+    (kept.room / "link").symlink_to(kept.file)
+    kept.file.touch()
+    kept.given[1] = str(kept.room / name)
+    status, said = kept.loaded()
+    assert (status, said.count("\n")) == (2, 1), said
+    assert kept.file.read_bytes() == b""
+
+
+def test_what_is_followed(kept):
+    """A load that is ended amid an entry goes on where it was."""
+    made = history()
+    kept.write(made, 1)
+    head, *entries = [item_bytes(it) for it, _ in made.steps]
+    for number, end in ((2, signal.SIGTERM), (4, signal.SIGKILL), (7, signal.SIGINT)):
+        process = kept.follow()
+        rest = b"".join(entries[: number + 1])[:-9]
+        kept.file.write_bytes(head + (rest if number < 7 else b"".join(entries)))
+        kept.reaches(number)
+        kept.end(process, end, -end if end == signal.SIGKILL else 0)
+    followed = kept.contents()
+    os.unlink(kept.path)
+    assert kept.loaded() == (0, "")
+    assert kept.contents() == followed
+
+
+@pytest.mark.parametrize("does", ["replaced", "moved away"])
+def test_a_file_that_is_replaced(kept, does):
+    """As by the backup that is put in its place: the tables have what came before."""
+    made = history()
+    kept.write(made, 5)
+    process = kept.follow()
+    kept.reaches(4)
+    os.rename(kept.file, kept.room / "old.tbk")
+    if does == "replaced":
+        kept.write(made, 6)
+    assert kept.gone(process) == (1, f"tb-sql: Gone: {kept.file}")
+    assert kept.rows("SELECT commit_number FROM position") == [(4,)]
+
+
+def test_a_file_that_is_replaced_amid_entries(kept, monkeypatch):
+    """One that always has more to read is looked at too, and what was read is written."""
+    kept.file.write_bytes(b"one")
+    name = Name(str(kept.file))
+    monkeypatch.setattr("tb_sql.sources.LOOK", 0)
+    steps = name.watch(iter(["first", "second", "third"]))
+    assert [next(steps), next(steps)] == ["first", "second"]
+    os.rename(kept.file, kept.room / "old.tbk")
+    assert next(steps) is None
+    with pytest.raises(Gone):
+        next(steps)
+
+
+def test_a_name_that_cannot_be_looked_at(kept, monkeypatch):
+    """It is a fault of the device: the file need not be another one."""
+    kept.file.write_bytes(b"one")
+    name = Name(str(kept.file))
+
+    def failing(_):
+        raise OSError(errno.EIO, os.strerror(errno.EIO))
+
+    monkeypatch.setattr("tb_sql.sources.os.stat", failing)
+    with pytest.raises(OSError, match="Input/output error"):
+        name.check()
+    monkeypatch.undo()
+
+
+def test_a_follow_of_another_ledger(kept):
+    """It is refused, and the tables stay as they are."""
+    kept.write(history())
+    assert kept.loaded() == (0, "")
+    before = kept.contents()
+    made = Made().register().accounts(account(3), account(4))
+    for number in range(1, 6):
+        made.transfers(transfer(number, 3, 4, 10))
+    kept.write(made)
+    status, said = kept.loaded("--follow")
+    assert status == 2, said
+    assert "entry 7 is another one" in said
+    assert kept.contents() == before
+
+
+def test_a_dump_that_is_killed(kept):
+    """Whole entries that came before are no whole history."""
+    kept.write(history())
+    tbd = kept.room / "tbd"
+    made = history()
+    cut = sum(len(item_bytes(it)) for it, _ in made.steps[:4])
+    tbd.write_text(f"#!/bin/sh\nhead -c {cut} $2\nkill -9 $$\n")
+    status, said = kept.loaded()
+    assert (status, said.count("\n")) == (1, 1), said
+    assert "was killed by signal 9" in said
+    assert kept.rows("SELECT commit_number FROM position") == [(3,)]
+
+
+@pytest.mark.parametrize("does", ["exit 0", "echo this is another program"])
+def test_a_program_that_writes_no_dump(kept, does):
+    """Its fault was told as one of the input."""
+    kept.write(history())
+    tbd = kept.room / "tbd"
+    tbd.write_text(f"#!/bin/sh\n{does}\n")
+    said = f"tb-sql: {tbd} wrote no dump of {kept.file}: Head\n"
+    assert kept.loaded() == (1, said)
+
+
+def test_words_of_a_follow(kept):
+    kept.write(history())
+    assert kept.loaded()[0] == 0
+    kept.words()
+    process = kept.follow()
+    until = time.monotonic() + SECONDS
+    wanted, found = ["tbd check FILE", "tbd dump FILE --follow", "tbs replay"], []
+    while sorted(found) != wanted:
+        assert time.monotonic() < until, found
+        time.sleep(0.1)
+        found += kept.words()
+    kept.end(process, signal.SIGTERM, 0)
+
+
+@pytest.mark.parametrize("more", [[], ["--follow"]], ids=case)
+def test_histories_that_are_shorter(kept, more):
+    """An older copy is refused, and is not waited for."""
+    kept.write(history())
+    assert kept.loaded()[0] == 0
+    kept.write(history(), 6)
+    status, said = kept.loaded(*more)
+    assert status == 2, said
+    assert "ends before entry 7" in said
+    assert said.count("\n") == 1, said
+
+
+@pytest.mark.parametrize(
+    "fault, wanted",
+    [
+        ("tbd:6:tbd: Damaged: FILE at byte 9", "tbd: Damaged: FILE at byte 9"),
+        ("tbd:1:tbd: Device: FILE", "tbd: Device: FILE"),
+    ],
+)
+def test_faults(kept, fault, wanted):
+    """What a program said last is printed."""
+    kept.write(history())
+    assert kept.loaded(fault=fault) == (1, f"tb-sql: {wanted}\n")
+
+
+@pytest.mark.parametrize(
+    "name, text, wanted",
+    [
+        ("tbs", "exit 7", "tbs replay ended with status 7"),
+        ("tbs", "echo tbs: NoMemory >&2; exit 1", "tbs replay ended with status 1: NoMemory"),
+        ("tbs", "kill -9 $$", "tbs replay was killed by signal 9"),
+        ("tbs", f"echo {'no reply ' * 9}", "tbs replay wrote what is no reply"),
+        ("tbd", "kill -9 $$", "was killed by signal 9"),
+    ],
+)
+def test_a_program_that_fails(kept, name, text, wanted):
+    """It is not the input that is wrong: the status is 1, and the message names the program."""
+    kept.write(history())
+    (kept.room / name).write_text(f"#!/bin/sh\n{text}\n")
+    status, said = kept.loaded()
+    assert (status, said.count("\n")) == (1, 1), said
+    assert wanted in said
+
+
+@pytest.mark.parametrize("name", ["tbd", "tbs"])
+def test_a_program_that_does_not_start(kept, name):
+    kept.write(history())
+    (kept.room / name).write_text("no program")
+    status, said = kept.loaded()
+    assert (status, said.count("\n")) == (1, 1), said
+    assert "does not start: Exec format error" in said
+
+
+def test_a_history_that_is_refused(kept):
+    """What the proved program says of it."""
+    kept.write(history())
+    tbs = kept.room / "tbs"
+    tbs.write_text("#!/bin/sh\nhead -c 16 > /dev/null\necho tbs: TimeNotAfter >&2\nexit 2\n")
+    wanted = (2, "tb-sql: the history is refused: TimeNotAfter\n")
+    assert kept.loaded() == wanted
+
+
+def test_a_cut_entry(kept):
+    kept.write(history())
+    kept.file.write_bytes(kept.file.read_bytes()[:-9])
+    wanted = (2, "tb-sql: the input ends within an entry\n")
+    assert kept.loaded() == wanted
+    assert kept.rows("SELECT commit_number FROM position") == [(6,)]

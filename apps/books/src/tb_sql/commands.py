@@ -35,7 +35,7 @@ others. --ledger compares every row with the history itself. --server also asks 
 accounts, which takes a session and an entry for each 8190 accounts."""
 ASK = """Prints the answer to a question of TigerBeetle's clients: get_account_transfers,
 get_account_balances, query_accounts or query_transfers. A FIELD is one of its filter, as
-account_id=2, flags=debits,reversed or limit=10."""
+account_id=2, account_id="Anna Schmidt", flags=debits,reversed or limit=10."""
 STATUSES = """Exit status: 0 done; 1 a file, a program or a database failed, or a check found a
 difference; 2 the input or the arguments are wrong."""
 
@@ -242,7 +242,11 @@ def words() -> argparse.ArgumentParser:
     )
     it.add_argument("file", metavar="FILE", help="a file of SQLite, or postgresql://..")
     add_ledger(it, "the file of a kept ledger, in place of standard input")
-    it.add_argument("--follow", action="store_true", help="go on with what comes, until a signal")
+    it.add_argument(
+        "--follow",
+        action="store_true",
+        help="go on with what comes, until a signal, or until the ledger's file is another one",
+    )
     it.add_argument("--names", metavar="TOML", help="names and decimal places, kept in the tables")
     it.add_argument("--quiet", action="store_true", help="print nothing but faults")
     it.set_defaults(run=load)

@@ -17,6 +17,16 @@ class Failed(Stop):
     status = 1
 
 
+class Gone(Failed):
+    """The name of a file that is followed leads to another file, or to none."""
+
+    def __init__(self, path: str) -> None:
+        super().__init__(
+            f"Gone: {path} is not the file that was followed: its later entries are not in the "
+            "tables. Load it again; another history is refused, and needs a new database"
+        )
+
+
 class Refused(Stop):
     """The input is wrong, or is not of this ledger."""
 
@@ -24,10 +34,10 @@ class Refused(Stop):
 
 
 class NoDump(Refused):
-    """The input is no dump of a history."""
+    """The input is no dump of a history. It says what the input is, if that is known."""
 
-    def __init__(self, fault: str) -> None:
-        super().__init__(f"the input is no dump of a history: {fault}")
+    def __init__(self, fault: str, kind: str = "") -> None:
+        super().__init__(f"the input is no dump of a history: {kind or fault}")
         self.fault = fault
 
 

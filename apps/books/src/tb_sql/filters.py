@@ -10,6 +10,7 @@ from telovamish.objects import record_shown
 from telovamish.records import Account, Transfer
 from telovamish.words import ITEMS_MAX, TIME_MAX, U16, U32, U64, U128
 
+from .names import Names
 from .numbers import HISTORY, PENDING, VOID, held, id_of, time_of
 from .reading import Reading, Row
 from .schema import SUMS
@@ -20,6 +21,7 @@ ACCOUNT_FILTER = {"account_id": U128, **SHARED, "flags": U32}
 QUERY_FILTER = {"ledger": U32, **SHARED, "flags": U32}
 ACCOUNT_FLAGS = {"debits": 1, "credits": 2, "reversed": 4}
 QUERY_FLAGS = {"reversed": 1}
+BY_NAME = {"account_id": "account", "ledger": "ledger", "code": "code"}  # fields, and their kinds
 Shown = Dict[str, Any]
 Values = List[Any]
 
@@ -145,6 +147,32 @@ def query(kind: str) -> Callable[[Reading, Mapping[str, int]], List[Shown]]:
     return answer
 
 
+def note_on(reading: Reading, operation: str, wanted: Mapping[str, int], count: int) -> str:
+    """Why an answer of so many rows is empty or may be cut, where TigerBeetle's own answer does not
+    say it; otherwise an empty text."""
+    if count == ITEMS_MAX:
+        return f"these are {count:,} rows, the most that an answer has: there may be more"
+    if count or not wanted["limit"]:
+        return ""
+    if not has_right_times(wanted):
+        return "timestamp_min is after timestamp_max, or one of them is above 2^63 - 1"
+    return _account_note(reading, operation, wanted) if "account_id" in wanted else ""
+
+
+def _account_note(reading: Reading, operation: str, wanted: Mapping[str, int]) -> str:
+    id = wanted["account_id"]
+    if not id:
+        return "account_id is not given"
+    if not wanted["flags"] & 3:
+        return "flags has neither debits nor credits"
+    account = reading.one("SELECT flags FROM accounts WHERE id = ?", held(id))
+    if account is None:
+        return f"there is no account {id}"
+    if operation == "get_account_balances" and not account["flags"] & HISTORY:
+        return f"account {id} does not have the flag history: its balances are not kept"
+    return ""
+
+
 def transfer_shown(row: Row) -> Shown:
     """A transfer as `telovamish` shows it in JSON: numbers above 32 bits are texts."""
     it = Transfer()
@@ -172,9 +200,10 @@ OPERATIONS = {
 }
 
 
-def filter_of(operation: str, words: Mapping[str, str]) -> Dict[str, int]:
-    """A filter from words by the names of its fields. Raises ValueError for what is no filter. What
-    is not named is 0; but the limit is the greatest, and an account's sides are both."""
+def filter_of(operation: str, words: Mapping[str, str], known: Names) -> Dict[str, int]:
+    """A filter from words by the names of its fields, in which accounts, ledgers and codes may have
+    their names. Raises ValueError for what is no filter. What is not named is 0; but the limit is
+    the greatest, and an account's sides are both."""
     fields, names, _ = OPERATIONS[operation]
     found = dict.fromkeys(fields, 0) | {"limit": ITEMS_MAX}
     if fields is ACCOUNT_FILTER:
@@ -182,7 +211,12 @@ def filter_of(operation: str, words: Mapping[str, str]) -> Dict[str, int]:
     for name, text in words.items():
         if name not in fields:
             raise ValueError(f"{operation} has no field {name}: {', '.join(fields)}")
-        found[name] = flags_of(text, names) if name == "flags" else number_of(name, text, fields)
+        if name == "flags":
+            found[name] = flags_of(text, names)
+        elif name in BY_NAME and known.has(BY_NAME[name], text):
+            found[name] = int(known.number(BY_NAME[name], text))
+        else:
+            found[name] = number_of(name, text, fields)
     return found
 
 
@@ -195,9 +229,10 @@ def number_of(name: str, text: str, fields: Mapping[str, int]) -> int:
     except (ValueError, OverflowError):
         number = -1
     if not 0 <= number <= fields[name]:
-        dates = ", or a date in UTC" if "timestamp" in name else ""
+        more = ", or a date in UTC" if "timestamp" in name else ""
+        more = ", or a name that is known" if name in BY_NAME else more
         raise ValueError(
-            f"{name} must be a number from 0 to {fields[name]}{dates}, not {text[:60]!r}"
+            f"{name} must be a number from 0 to {fields[name]}{more}, not {text[:60]!r}"
         )
     return number
 

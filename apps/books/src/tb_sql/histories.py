@@ -10,6 +10,7 @@ from typing import BinaryIO, Iterator, List, Optional, Tuple, Union, cast
 
 from tb_client import Reply
 from telovamish.faults import Device, Fault, devices
+from telovamish.kinds import FIRST_BYTES, kind_of
 from telovamish.live import Replay
 from telovamish.streams import Entry, Item, item_bytes, read_dump
 
@@ -18,6 +19,15 @@ from .errors import Cut, NoDump, Refused
 CHUNK = 1 << 18  # bytes that are read at once
 WAITING = 4  # parts of the history that are read before their rows are made
 IDLE = 0.2  # seconds without an item, after which what is whole is written
+# what another input is, and the command that reads it
+KINDS = {
+    "ledger": "it is a ledger's file, which tb-sql load FILE --ledger LEDGER reads",
+    "remnant": "it is the remnant of a ledger's file: tbd run begins a ledger in it",
+    "script": "it is a script, which tbs run serves and tbs dump makes a dump of",
+    "replies": "it is the replies of tbs, which telovamish replies shows",
+    "JSON": "it is JSON, as telovamish audit and dump print it: give the dump itself",
+    "text": "it is text; telovamish script makes a script of statements",
+}
 
 Step = Optional[Tuple[Item, Optional[Reply]]]  # None: nothing has come for a while
 
@@ -30,6 +40,7 @@ class Source:
         self._data = b""
         self._at = 0
         self.has_ended = False
+        self.first = b""  # bytes, as many as show what a stream is
 
     def wait(self) -> None:
         """What is done before more is awaited: nothing here."""
@@ -57,6 +68,7 @@ class Source:
             parts.append(data)
             wanted -= len(data)
         self._data, self._at = b"".join(parts), 0
+        self.first = self.first or self._data[:FIRST_BYTES]
 
 
 class History(Source):
@@ -94,7 +106,7 @@ class History(Source):
             if part is None:
                 return
             if isinstance(part, BaseException):
-                raise _named(part)
+                raise _named(part, self.first)
             for item in part:
                 yield item, self._replay.take() if isinstance(item, Entry) else None
 
@@ -147,10 +159,11 @@ class Judge(Replay):
             raise Refused(f"the history is refused: {fault}") from None
 
 
-def _named(error: BaseException) -> BaseException:
-    """What a dump that is read wrongly is called."""
+def _named(error: BaseException, first: bytes) -> BaseException:
+    """What a dump that is read wrongly is called. A stream without a head is named by its first
+    bytes."""
     if isinstance(error, Device) or not isinstance(error, Fault):
         return error
     if str(error) == "Short":
         return Cut("the input ends within an entry")
-    return NoDump(str(error))
+    return NoDump(str(error), KINDS.get(kind_of(first), "") if first else "it is empty")

@@ -96,8 +96,6 @@ class Loading:
 
     def ended(self) -> None:
         """Refuses a whole history that ends before the kept entries do."""
-        if self._position is None:
-            raise Refused("the input is empty: it is no dump of a history")
         if not self.is_met:
             self.ends_before()
 

@@ -18,7 +18,7 @@ from typing import Any, Dict, Iterable, Iterator, List, Optional, Sequence, Tupl
 from telovamish.words import U16, U32, U128
 
 from .errors import Failed, Refused
-from .numbers import Number, held
+from .numbers import Number, held, is_id
 from .schema import SUMS
 
 GREATEST = {"ledger": U32, "code": U16, "account": U128}
@@ -52,6 +52,34 @@ class Names:
     def name(self, kind: str, number: Number) -> str:
         """The name of a ledger, a code or an account; without one an empty text."""
         return self._found.get((kind, str(number)), ("", 0))[0]
+
+    def matching(self, text: str) -> List[Row]:
+        """The rows whose name has this text within, in any case; those whose name it is first."""
+        wanted = text.strip().casefold()
+        found = [it for it in self.rows if wanted in it[2].casefold()]
+        return sorted(found, key=lambda it: it[2].casefold() != wanted)
+
+    def has(self, kind: str, name: str) -> bool:
+        """Whether a ledger, a code or an account has this name, in any case. A number is none."""
+        wanted = name.strip().casefold()
+        is_name = any(it[0] == kind and it[2].casefold() == wanted for it in self.rows)
+        return is_name and not is_id(name)
+
+    def number(self, kind: str, name: str) -> Number:
+        """The number of a ledger, a code or an account by its name, in any case. Raises ValueError
+        if none has this name, or several have it."""
+        wanted = name.strip().casefold()
+        found = [it[1] for it in self.rows if it[0] == kind and it[2].casefold() == wanted]
+        if len(found) == 1:
+            return found[0]
+        if not found:
+            raise ValueError(f"no {kind} has the name {name[:60]!r}")
+        numbers = ", ".join(map(str, found[:5])) + (", .." if len(found) > 5 else "")
+        raise ValueError(f"{name[:60]!r} is the name of {len(found)} {kind}s: {numbers}")
+
+    def places(self, ledger: Number) -> int:
+        """How many digits of a ledger's amounts come after the point."""
+        return self._found.get(("ledger", str(ledger)), ("", 0))[1]
 
     def amount(self, value: int, ledger: Number) -> Optional[str]:
         """An amount with its point and unit; nothing for a ledger without a name."""

@@ -8,7 +8,7 @@ from __future__ import annotations
 
 import datetime
 import re
-from typing import Dict, Iterable, List, Union
+from typing import Dict, List, Union
 
 from telovamish.dates import nanoseconds
 from telovamish.words import ACCOUNT_FLAGS, SECOND, TRANSFER_FLAGS, U128
@@ -60,15 +60,20 @@ def time_of(text: str, is_last: bool = False) -> int:
 
 
 def id_of(text: str) -> Number:
-    """An id that a person typed: decimal digits, or hexadecimal ones after 0x."""
-    plain = text.strip().replace("_", "").replace(",", "")
+    """An id that a person typed: decimal digits, as a spreadsheet has them after #, or hexadecimal
+    ones after 0x."""
+    plain = text.strip().removeprefix("#").replace("_", "").replace(",", "")
     if re.fullmatch(r"0[xX][0-9a-fA-F]{1,32}", plain):
         return held(int(plain, 16))
     if re.fullmatch(r"[0-9]{1,39}", plain) and int(plain) <= ID_MAX:
         return held(int(plain))
-    raise ValueError(f"{text!r} is no id: decimal digits, or hexadecimal ones behind 0x")
+    raise ValueError(f"{text!r} is no id: decimal digits, or hexadecimal ones after 0x")
 
 
-def total(values: Iterable[Number]) -> int:
-    """The exact sum of numbers as a table holds them."""
-    return sum(int(it) for it in values)
+def is_id(text: str) -> bool:
+    """Whether a person typed an id."""
+    try:
+        id_of(text)
+    except ValueError:
+        return False
+    return True

@@ -12,6 +12,7 @@ BLANK = re.compile(rb"(?:[ \t\r\n]+|#[^\n]*\n)*")
 STATEMENT = re.compile(rb"(?:[^;#]+|#[^\n]*\n)*")  # up to its `;`, or a comment without an end
 WORD = re.compile(rb"[a-zA-Z0-9_]*")
 COMMENT = re.compile("#[^\n]*")
+FIELD = re.compile(r'(?:[^\s"]|"[^"]*")+|"')  # a name may have spaces, between quotes
 NAMES = [it.encode() for it in OPERATIONS]
 
 
@@ -31,7 +32,7 @@ class Question(NamedTuple):
     @property
     def words(self) -> Dict[str, str]:
         """The fields of its filter. Raises `Refused`."""
-        return words_of(self.written.split()[1:])
+        return words_of([it.replace('"', "") for it in FIELD.findall(self.written)[1:]])
 
     @property
     def blank(self) -> bytes:

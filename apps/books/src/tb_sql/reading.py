@@ -34,9 +34,6 @@ class Row:
     def __iter__(self) -> Iterator[Any]:
         return iter(self._values)
 
-    def keys(self) -> List[str]:
-        return list(self._names)
-
 
 def checked(name: str, value: Any) -> Any:
     """A value. Raises `Failed` if another program wrote one of another kind."""

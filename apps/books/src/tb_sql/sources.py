@@ -9,18 +9,20 @@ import re
 import signal
 import subprocess
 import sys
-from typing import Callable, NamedTuple, Optional
+import time
+from typing import Callable, Iterable, Iterator, NamedTuple, Optional, Tuple
 
 from telovamish.faults import devices
 from telovamish.live import end_of
 from telovamish.programs import program
 
-from .errors import Failed, NoDump, Refused
-from .histories import History
+from .errors import Failed, Gone, NoDump, Refused
+from .histories import History, Step
 from .loading import Loading
 
 LOST = "standard output"  # the end of what a dump prints if nobody reads it
 END_WITH_PARENT = 1  # of Linux: the number of PR_SET_PDEATHSIG
+LOOK = 1.0  # seconds after which the name of a followed file is looked at, though entries come
 
 
 class Programs(NamedTuple):
@@ -52,6 +54,42 @@ def read_dump(loading: Loading, programs: Programs, tell: Callable[[], None]) ->
         loading.ended()
 
 
+class Name:
+    """The name of a file that is followed, and which file it led to at first."""
+
+    def __init__(self, path: str) -> None:
+        self._path = path
+        self._first = self._now()
+
+    def _now(self) -> Optional[Tuple[int, int]]:
+        """The device and inode of the file that the name leads to; nothing without a file."""
+        try:
+            found = os.stat(self._path)
+        except (FileNotFoundError, NotADirectoryError):
+            return None
+        return found.st_dev, found.st_ino
+
+    def check(self) -> None:
+        """Raises `Gone` if the name leads to another file or to none."""
+        if self._now() != self._first:
+            raise Gone(self._path)
+
+    def watch(self, steps: Iterable[Step]) -> Iterator[Step]:
+        """The steps of this file, to the first look that finds another one. What came before that
+        is written first, as before each pause."""
+        looked = time.monotonic()
+        for step in steps:
+            yield step
+            now = time.monotonic()
+            if step is None or now - looked > LOOK:
+                looked = now
+                try:
+                    self.check()
+                except Gone:
+                    yield None
+                    raise
+
+
 class Ledger:
     """A kept ledger's file, and the programs that read it, also while it is served."""
 
@@ -65,15 +103,18 @@ class Ledger:
     def read(
         self, loading: Loading, tell: Callable[[], None] = lambda: None, follow: bool = False
     ) -> None:
-        """Enters what the file holds, and what comes later if it is followed."""
+        """Enters what the file holds, and what comes later if it is followed, as long as its name
+        leads to it."""
+        name = Name(self.path)  # before a program opens the file
         if follow and entries_of(self.path, self._tbd) < loading.commit_number:
             loading.ends_before()
         refused: Optional[Refused] = None
         with self._dump(follow) as dump:
             assert dump.stdout and dump.stderr
             with History(dump.stdout.fileno(), self._tbs) as history:
+                steps = name.watch(history) if follow else iter(history)
                 try:
-                    loading.read(history, tell)
+                    loading.read(steps, tell)
                 except Refused as error:
                     refused = error
                 finally:

@@ -9,6 +9,7 @@ import sqlite3
 from typing import Any, Iterator, List, Optional
 
 from tb_client import Direct
+from telovamish.faults import report
 from telovamish.filling import Known
 from telovamish.ledgers import Ledger
 from telovamish.objects import line
@@ -16,10 +17,9 @@ from telovamish.repeats import History
 from telovamish.running import Printer
 from telovamish.sending import Desk
 
-from .asking import Answer, answer_of, names_of
+from .asking import Answer, answer_of, kept_names
 from .errors import Failed, Refused
 from .names import Names, read_names
-from .pages.queries import Tables
 from .questions import Question, Split
 
 PATIENCE = 10.0  # seconds for which a commit is waited for
@@ -60,28 +60,22 @@ class Books:
 
     def _lines(self, question: Question, row: int, as_json: bool, desk: Desk) -> List[str]:
         answer = self._answer(question, row, desk.ledger.history.seen)
+        if answer.note:
+            report(f"line {row}: {answer.note}")
         if as_json:
             return [line(self.names.for_json(answer.shown)).rstrip("\n")]
-        return answer.lines(self.names, shutil.get_terminal_size((100, 24)).columns)
+        return answer.lines(shutil.get_terminal_size((100, 24)).columns)
 
     def _answer(self, question: Question, row: int, commit: int) -> Answer:
         """Gives answers by tables that have the last commit that was seen of the ledger."""
         assert self.tables is not None
         try:
-            return answer_of(self.tables, question.name, question.words, (commit, PATIENCE))
+            at = (commit, PATIENCE)
+            return answer_of(self.tables, question.name, question.words, at, self.names)
         except Refused as why:
             raise Refused(f"line {row}: {why}") from None
         except sqlite3.Error as why:
             raise Failed(f"{self.tables}: {why}") from None
-
-
-def kept_names(path: str) -> Names:
-    """The names that tables have."""
-    tables = Tables(path)
-    try:
-        return names_of(tables)
-    finally:
-        tables.close()
 
 
 def refused(moment: int, frame: bytes) -> bytes:

@@ -2,10 +2,11 @@
 
 from __future__ import annotations
 
-from typing import List, Sequence, Tuple
+from typing import Callable, List, NamedTuple, Sequence, Tuple
 
 from markupsafe import Markup, escape
 
+from ..names import decimal
 from ..numbers import time_text
 
 HEIGHT = 200
@@ -18,12 +19,15 @@ def grouped(value: int) -> str:
     return f"{value:,}"
 
 
-def short(value: int) -> str:
-    """A number for an axis: with commas, or its first digits and a power of ten."""
+def short(value: int, places: int = 0) -> str:
+    """An amount of so many decimal places for an axis: with commas, or its first digits and a
+    power of ten."""
     digits = str(abs(value))
-    if len(digits) <= 9:
-        return grouped(value)
-    return f"{'-' if value < 0 else ''}{digits[0]}.{digits[1:3]}e{len(digits) - 1}"
+    if len(digits) - places > 9:
+        sign = "-" if value < 0 else ""
+        return f"{sign}{digits[0]}.{digits[1:3]}e{len(digits) - 1 - places}"
+    is_whole = value % 10**places == 0
+    return grouped(value // 10**places) if is_whole else decimal(value, places)
 
 
 def nice_step(span: int, parts: int) -> int:
@@ -50,8 +54,8 @@ def place(value: int, low: int, high: int, start: float, end: float) -> float:
     return start + (end - start) * share
 
 
-def frame(ticks: Sequence[int], start: int, end: int, width: int) -> List[str]:
-    """The lines and words around a drawing."""
+def frame(ticks: Sequence[int], start: int, end: int, width: int, places: int = 0) -> List[str]:
+    """The lines and words around a drawing of amounts of so many decimal places."""
     parts = []
     for tick in ticks:
         y = place(tick, ticks[0], ticks[-1], HEIGHT - BOTTOM, TOP)
@@ -59,7 +63,8 @@ def frame(ticks: Sequence[int], start: int, end: int, width: int) -> List[str]:
         parts.append(
             f'<line class="{kind}" x1="{LEFT}" x2="{width - RIGHT}" y1="{y:.1f}" y2="{y:.1f}"/>'
         )
-        parts.append(f'<text class="y" x="{LEFT - 8}" y="{y + 4:.1f}">{escape(short(tick))}</text>')
+        shown = escape(short(tick, places))
+        parts.append(f'<text class="y" x="{LEFT - 8}" y="{y + 4:.1f}">{shown}</text>')
     first, last = axis_times(start, end)
     parts.append(f'<text x="{LEFT}" y="{HEIGHT - 6}">{first}</text>')
     parts.append(f'<text class="end" x="{width - RIGHT}" y="{HEIGHT - 6}">{last}</text>')
@@ -90,9 +95,22 @@ def bars(name: str, title: str, counted: Sequence[Tuple[int, int, int]]) -> Mark
     return Markup("").join(_bars(name, title, counted, it) for it in (NARROW, PHONE))
 
 
-def steps(name: str, title: str, points: Sequence[Tuple[int, int]], is_whole: bool) -> Markup:
+class Unit(NamedTuple):
+    """How the amounts of a chart are written: on its axis, and in its description."""
+
+    places: int = 0
+    written: Callable[[int], str] = grouped
+
+
+def steps(
+    name: str,
+    title: str,
+    points: Sequence[Tuple[int, int]],
+    is_whole: bool,
+    unit: Unit = Unit(),
+) -> Markup:
     """A line that holds each value until the next one, in two widths."""
-    return Markup("").join(_steps(name, title, points, is_whole, it) for it in (WIDE, PHONE))
+    return Markup("").join(_steps(name, title, points, is_whole, unit, it) for it in (WIDE, PHONE))
 
 
 def _bars(name: str, title: str, counted: Sequence[Tuple[int, int, int]], width: int) -> Markup:
@@ -123,12 +141,17 @@ def _bars(name: str, title: str, counted: Sequence[Tuple[int, int, int]], width:
 
 
 def _steps(
-    name: str, title: str, points: Sequence[Tuple[int, int]], is_whole: bool, width: int
+    name: str,
+    title: str,
+    points: Sequence[Tuple[int, int]],
+    is_whole: bool,
+    unit: Unit,
+    width: int,
 ) -> Markup:
     values = [value for _, value in points]
     start, end = points[0][0], points[-1][0]
     ticks = axis(min(0, *values), max(0, *values))
-    parts = frame(ticks, start, end, width)
+    parts = frame(ticks, start, end, width, unit.places)
     drawn: List[str] = []
     for time, value in points:
         x = place(time, start, max(end, start + 1), LEFT, width - RIGHT)
@@ -137,8 +160,9 @@ def _steps(
     drawn.append(f"H{width - RIGHT}")
     parts.append(f'<path class="{name}" d="{"".join(drawn)}"/>')
     what = "each posting" if is_whole else f"{len(points)} moments"
+    lowest, highest, last = map(unit.written, (min(values), max(values), values[-1]))
     description = (
-        f"By {what} from {time_text(start)} to {time_text(end)}: lowest "
-        f"{grouped(min(values))}, highest {grouped(max(values))}, at the end {grouped(values[-1])}."
+        f"By {what} from {time_text(start)} to {time_text(end)}: lowest {lowest}, highest "
+        f"{highest}, at the end {last}."
     )
     return drawing(name, title, description, parts, width)

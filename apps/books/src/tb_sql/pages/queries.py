@@ -378,18 +378,25 @@ class Tables:
             ROWS + 1,
         )
 
-    def pending(self, limit: int) -> List[Row]:
-        """The open pending transfers that expire first."""
-        rows = self.all(
-            "SELECT * FROM transfers WHERE state = 'pending' AND expires_at IS NOT NULL"
-            " ORDER BY expires_at LIMIT ?",
-            limit,
-        )
+    def pending(self, limit: int, after: Optional[int] = None) -> List[Row]:
+        """The open pending transfers that expire first: of all, or of those that come after the
+        transfer of a timestamp. Those that never expire come last."""
+        expires_at: Optional[int] = -1
+        if after is not None:
+            last = self.one("SELECT expires_at FROM transfers WHERE timestamp = ?", after)
+            if last is None:
+                return []
+            expires_at = last[0]
+        within = "SELECT * FROM transfers WHERE state = 'pending' AND expires_at"
+        rows: List[Row] = []
+        if expires_at is not None:
+            is_later = "(expires_at > ? OR timestamp > ?) ORDER BY expires_at, timestamp LIMIT ?"
+            values = (expires_at, expires_at, after or 0, limit)
+            rows = self.all(f"{within} >= ? AND {is_later}", *values)
         if len(rows) < limit:
-            rows += self.all(
-                "SELECT * FROM transfers WHERE state = 'pending' AND expires_at IS NULL LIMIT ?",
-                limit - len(rows),
-            )
+            first = after or 0 if expires_at is None else 0
+            order = "timestamp > ? ORDER BY timestamp LIMIT ?"
+            rows += self.all(f"{within} IS NULL AND {order}", first, limit - len(rows))
         return rows
 
     def refused(

@@ -21,10 +21,11 @@ from ..names import Names
 from ..numbers import flag_names
 from ..output import say
 from . import charts, texts
-from .asked import asked_number, carried
+from .asked import asked_number, carried, check_fields
+from .downloads import table_csv
 from .queries import ROWS, Tables
 from .site import Site
-from .views import PAGES, answer, json_fault
+from .views import PAGES, Page, answer, json_fault
 
 HOST = "127.0.0.1"
 HERE = re.compile(r"(?:localhost|127\.0\.0\.1|\[::1\])(?::[0-9]{1,5})?")
@@ -62,7 +63,9 @@ def make_app(site: Site) -> Flask:
         name_of=lambda kind, number: texts.names().name(kind, number),
     )
     for address, page in PAGES.items():
-        app.add_url_rule(address, page.__name__, _of_site(page, site), methods=["GET"])
+        name, shown = page.show.__name__, _checked(address, page)
+        app.add_url_rule(address, name, _of_site(shown, site), methods=["GET"])
+    app.add_url_rule("/csv/<name>.csv", "table_csv", _of_site(table_csv, site), methods=["GET"])
     for operation in OPERATIONS:
         app.add_url_rule(
             f"/{operation}",
@@ -96,6 +99,16 @@ def _guard(app: Flask) -> None:
         tables = g.pop("tables", None)
         if tables is not None:
             tables.close()
+
+
+def _checked(address: str, page: Page) -> Callable[..., Any]:
+    """A page that refuses the fields that its address does not have."""
+
+    def shown(site: Site, **words: Any) -> Any:
+        check_fields(address, page.fields)
+        return page.show(site, **words)
+
+    return shown
 
 
 def _of_site(page: Callable[..., Any], site: Site) -> Callable[..., Any]:

@@ -2,6 +2,7 @@
 
 from __future__ import annotations
 
+import functools
 import time
 from typing import Any, List, Optional, Tuple
 
@@ -27,12 +28,17 @@ def names() -> Names:
 
 
 def shown_number(value: Number, ledger: Optional[Number] = None) -> Markup:
-    """An amount: with point and unit if the ledger has a name, and then the exact integer next
-    to it; otherwise with commas."""
+    """An amount: with point and unit if the ledger has a name, and then the exact integer in
+    parentheses; otherwise with commas."""
+    number, exact = _number_and_exact(value, ledger)
+    return number + exact
+
+
+def _number_and_exact(value: Number, ledger: Optional[Number]) -> Tuple[Markup, Markup]:
     written = names().amount(int(value), ledger) if ledger is not None else None
-    number = broken(charts.grouped(int(value)) if written is None else written)
-    exact = Markup(' <span class="exact">{}</span>').format(value)
-    return number if written is None else number + exact
+    if written is None:
+        return broken(charts.grouped(int(value))), Markup("")
+    return broken(written), Markup(' <span class="exact">({})</span>').format(value)
 
 
 def broken(text: str) -> Markup:
@@ -48,12 +54,18 @@ def plain_amount(value: Number, ledger: Number) -> str:
     return names().amount(int(value), ledger) or charts.grouped(int(value))
 
 
+def unit_of(ledger: Number) -> charts.Unit:
+    """How a chart writes the amounts of a ledger."""
+    written = functools.partial(plain_amount, ledger=ledger)
+    return charts.Unit(names().places(ledger), written)
+
+
 def shown_balance(value: Number, ledger: Optional[Number] = None) -> Markup:
     """A balance, and the side that it is on."""
     amount = int(value)
     side = "debit" if amount > 0 else "credit" if amount < 0 else ""
-    number = shown_number(abs(amount), ledger)
-    return number + Markup(f' <span class="side">{side}</span>' if side else "")
+    number, exact = _number_and_exact(abs(amount), ledger)
+    return number + Markup(f' <span class="side">{side}</span>' if side else "") + exact
 
 
 def shown_id(value: Number, kind: str = "") -> Markup:
@@ -76,11 +88,13 @@ def shown_kind(value: int, kind: str) -> Markup:
 
 
 def shown_time(value: Optional[int]) -> Markup:
-    """A time in UTC: the date and the time of day to the second; the nanoseconds as its title."""
+    """A time in UTC: the date and the time of day to the second; the nanoseconds as its title, and
+    in a day's last second itself, since a batch may begin in one day and end in the next."""
     if value is None:
         return Markup('<span class="none">never</span>')
     text = time_text(value)
-    shown = f"{text[:10]} {text[11:19]}"
+    is_last = text[11:19] == "23:59:59"
+    shown = f"{text[:10]} {text[11:29] if is_last else text[11:19]}"
     return Markup(f'<time datetime="{text}" title="{text}">{shown}</time>')
 
 

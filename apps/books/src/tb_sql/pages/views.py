@@ -3,19 +3,26 @@
 from __future__ import annotations
 
 import re
-from typing import Any, Callable, Dict
+from typing import Any, Callable, NamedTuple, Tuple
 
 from flask import Response, abort, jsonify, redirect, render_template, request, url_for
 from telovamish.words import ACCOUNT_FLAGS, SECOND, TRANSFER_FLAGS
 
-from ..filters import OPERATIONS, filter_of
+from ..filters import OPERATIONS, filter_of, note_on
 from ..numbers import flag_names, id_of, time_of, time_text
 from . import charts
-from .asked import asked_id, asked_number, asked_page, asked_range
-from .downloads import table_csv
+from .asked import (
+    asked_id,
+    asked_moment,
+    asked_named,
+    asked_number,
+    asked_page,
+    asked_range,
+    check_fields,
+)
 from .queries import LAST, ROWS, SORTS, Account, Range
 from .site import Site
-from .texts import available
+from .texts import available, names, unit_of
 
 SPANS = {"all": 0, "30 days": 30 * 86400, "day": 86400, "hour": 3600}
 MONTH_ROWS = 2000  # of a month that is printed
@@ -52,7 +59,7 @@ def accounts(site: Site) -> str:
         abort(400, f"sort must be one of {', '.join(SORTS)}")
     user_data = request.args.get("user_data", "").strip()
     wanted = Account(
-        asked_number("ledger"), asked_number("code"), asked_id(user_data) if user_data else None
+        asked_named("ledger"), asked_named("code"), asked_id(user_data) if user_data else None
     )
     page, number, more = None, asked_number("page") or 0, False
     if sort == "newest":
@@ -86,6 +93,7 @@ def account(site: Site, id: str) -> str:
     side, sign = ("credit", -1) if is_credit else ("debit", 1)
     drawn = [(at, sign * balance) for at, balance in points]
     title = f"{side.capitalize()} balance over time"
+    unit = unit_of(row["ledger"])
     return render_template(
         "account.html",
         account=row,
@@ -96,7 +104,7 @@ def account(site: Site, id: str) -> str:
         summary=summary,
         standing=summary.closing if summary else tables.balance_at(found, range.end),
         page=tables.statement(found, range, *asked_page()),
-        chart=charts.steps("balance", title, drawn, is_whole) if drawn else None,
+        chart=charts.steps("balance", title, drawn, is_whole, unit) if drawn else None,
         is_whole=is_whole,
         moments=len(drawn),
         latest_month=time_text(points[-1][0] if points else row["timestamp"])[:7],
@@ -149,13 +157,9 @@ def month(site: Site, id: str, month: str) -> str:
 
 def trial_balance(site: Site) -> str:
     """Each ledger's sums at a time."""
-    text = request.args.get("at", "").strip()
-    try:
-        at = time_of(text, is_last=True) if text else LAST
-    except (ValueError, OverflowError) as error:
-        return abort(400, str(error))
-    rows = site.tables().trial_balance_at(max(-1, min(at, LAST)))
-    return render_template("trial_balance.html", rows=rows, at=None if at >= LAST else at)
+    at = asked_moment()
+    rows = site.tables().trial_balance_at(LAST if at is None else at)
+    return render_template("trial_balance.html", rows=rows, at=at)
 
 
 def transfers(site: Site) -> str:
@@ -178,8 +182,15 @@ def transfer(site: Site, id: str) -> str:
 
 
 def pending(site: Site) -> str:
-    rows = site.tables().pending(200)
-    return render_template("pending.html", rows=rows, count=site.tables().counts()["pending"])
+    after = asked_number("after")
+    rows = site.tables().pending(ROWS + 1, after)
+    return render_template(
+        "pending.html",
+        rows=rows[:ROWS],
+        next=rows[ROWS - 1]["timestamp"] if len(rows) > ROWS else None,
+        after=after,
+        count=site.tables().counts()["pending"],
+    )
 
 
 def refusals(site: Site) -> str:
@@ -208,7 +219,7 @@ def search(site: Site) -> Any:
     try:
         id = id_of(text)
     except ValueError as error:
-        return render_template("search.html", text=text, found=None, fault=str(error)), 400
+        return search_by_name(site, text, str(error))
     tables = site.tables()
     found = {
         "account": tables.account(id),
@@ -224,11 +235,22 @@ def search(site: Site) -> Any:
     )
 
 
+def search_by_name(site: Site, text: str, fault: str) -> Any:
+    """The accounts, ledgers and codes whose name has a text within. The one account that has it
+    is shown itself."""
+    rows = names().matching(text)
+    if len(rows) == 1 and rows[0][0] == "account" and site.tables().account(rows[0][1]):
+        return redirect(url_for("account", id=str(rows[0][1])))
+    shown = {"named": rows, "fault": "" if rows else f"No name has this, and {fault}"}
+    return render_template("search.html", text=text, found=None, **shown), 200 if rows else 404
+
+
 def answer(site: Site, operation: str) -> Response:
     """A question of TigerBeetle's clients, in JSON."""
+    check_fields(operation, OPERATIONS[operation].fields)
     words = {it: text for it, text in request.args.items() if it != "commit"}
     try:
-        wanted = filter_of(operation, words)
+        wanted = filter_of(operation, words, names())
     except ValueError as error:
         return json_fault(400, str(error))
     tables = site.tables()
@@ -239,6 +261,7 @@ def answer(site: Site, operation: str) -> Response:
         commit=str(position["commit_number"]),
         time=str(position["time"]),
         behind=None if behind is None else str(behind),
+        note=note_on(tables.reading, operation, wanted, len(found)) or None,
         results=found,
     )
 
@@ -249,18 +272,25 @@ def json_fault(status: int, says: str) -> Response:
     return reply
 
 
-PAGES: Dict[str, Callable[..., Any]] = {
-    "/": overview,
-    "/accounts": accounts,
-    "/account/<id>": account,
-    "/account/<id>/<month>": month,
-    "/trial-balance": trial_balance,
-    "/transfers": transfers,
-    "/transfer/<id>": transfer,
-    "/pending": pending,
-    "/refusals": refusals,
-    "/refusals/<operation>/<result>": refused,
-    "/sessions": sessions,
-    "/search": search,
-    "/csv/<name>.csv": table_csv,
+class Page(NamedTuple):
+    """What shows a page, and the fields that its address may have."""
+
+    show: Callable[..., Any]
+    fields: Tuple[str, ...] = ()
+
+
+RANGE, PLACE = ("from", "to"), ("before", "after")
+PAGES = {
+    "/": Page(overview, ("span",)),
+    "/accounts": Page(accounts, ("ledger", "code", "user_data", "sort", "page", *PLACE)),
+    "/account/<id>": Page(account, (*RANGE, *PLACE)),
+    "/account/<id>/<month>": Page(month),
+    "/trial-balance": Page(trial_balance, ("at",)),
+    "/transfers": Page(transfers, (*RANGE, *PLACE)),
+    "/transfer/<id>": Page(transfer),
+    "/pending": Page(pending, ("after",)),
+    "/refusals": Page(refusals),
+    "/refusals/<operation>/<result>": Page(refused, ("before", "place")),
+    "/sessions": Page(sessions, PLACE),
+    "/search": Page(search, ("id",)),
 }

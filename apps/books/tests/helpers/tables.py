@@ -1,4 +1,4 @@
-"""What the tests share: loading a history, reading tables, and the command as a process."""
+"""Loading a history, reading its tables, and the command: in this process, and as a process."""
 
 import contextlib
 import io
@@ -7,18 +7,15 @@ import pathlib
 import sqlite3
 import subprocess
 import sys
-import tempfile
-import unittest
 
-HERE = pathlib.Path(__file__).resolve().parent
-SQL = HERE.parent
-TOP = SQL.parent.parent
+from tb_sql.commands import main
+from tb_sql.loading import Loading
+from tb_sql.sqlite_store import SqliteStore, contents
 
-from tb_sql.commands import main  # noqa: E402
-from tb_sql.loading import Loading  # noqa: E402
-from tb_sql.sqlite_store import SqliteStore, contents  # noqa: E402
-
-COMMAND = [sys.executable, "-B", str(SQL / "tb-sql")]
+HELPERS = pathlib.Path(__file__).resolve().parent
+PACKAGE = HELPERS.parent.parent
+TOP = PACKAGE.parent.parent
+COMMAND = [sys.executable, "-B", str(PACKAGE / "tb-sql")]
 
 
 def entered(store, steps, **more):
@@ -35,20 +32,18 @@ def entered(store, steps, **more):
 def stand_in(folder, name):
     """A stand-in for a program, in a folder."""
     program = folder / name
-    words = f"{sys.executable} -SE {HERE}/stand_ins.py {name}"
+    words = f"{sys.executable} -SE {HELPERS}/stand_ins.py {name}"
     program.write_text(f'#!/bin/sh\nexec {words} "$@"\n')
     program.chmod(0o700)
     return str(program)
 
 
-class Tables(unittest.TestCase):
-    """A test with a folder of its own and a file of tables in it."""
+class Tables:
+    """A folder with a file of tables."""
 
-    def setUp(self):
-        room = tempfile.TemporaryDirectory()
-        self.addCleanup(room.cleanup)
-        self.room = pathlib.Path(room.name)
-        self.path = str(self.room / "ledger.sqlite")
+    def __init__(self, room):
+        self.room = room
+        self.path = str(room / "ledger.sqlite")
 
     def load(self, made, path=None, count=None):
         """Loads a history, or its first steps, in this process."""
@@ -59,9 +54,8 @@ class Tables(unittest.TestCase):
             return connection.execute(text, values).fetchall()
 
     def row(self, text, *values):
-        found = self.rows(text, *values)
-        self.assertEqual(len(found), 1, text)
-        return found[0]
+        (found,) = self.rows(text, *values)
+        return found
 
     def contents(self, path=None):
         with contextlib.closing(sqlite3.connect(path or self.path)) as connection:
@@ -71,6 +65,12 @@ class Tables(unittest.TestCase):
         with contextlib.closing(sqlite3.connect(self.path)) as connection:
             connection.execute(text, values)
             connection.commit()
+
+    def name(self, *names):
+        """Keeps names in the tables: rows of kind, number, name and places."""
+        store = SqliteStore(self.path)
+        store.write_names(names)
+        store.close()
 
     def environment(self, made):
         """What programs get that load a history by stand-ins."""

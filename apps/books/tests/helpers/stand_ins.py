@@ -15,7 +15,7 @@ import pathlib
 import sys
 import time
 
-TOP = pathlib.Path(__file__).resolve().parents[3]
+TOP = pathlib.Path(__file__).resolve().parents[4]
 sys.path[:0] = [str(TOP / "apps/telovamish/src"), str(TOP / "clients/python/src")]
 
 from telovamish.faults import Fault  # noqa: E402

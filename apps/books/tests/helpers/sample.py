@@ -3,7 +3,7 @@ payouts and card holds, among them values of 128 bits."""
 
 import random
 
-from made import MAX, Made, account, transfer
+from .made import MAX, Made, account, transfer
 
 DAY = 86400 * 10**9
 BANK, SALES, FEES, HOLDS = 1, 2, 3, 4

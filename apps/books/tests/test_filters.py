@@ -1,26 +1,31 @@
-"""Drawn histories by the proved program: tables that pass the check, books that balance, and
-answers to TigerBeetle's questions that are those of a plain reading. DRAWN sets how many."""
+"""TigerBeetle's questions over drawn histories by the proved program: answers that are those of a
+plain reading, books that balance, tables that pass the check."""
 
 import contextlib
-import os
 import random
 
 import pytest
 from telovamish.objects import record_shown
 
-from drawn_steps import TBS, Plain, drawn
-from support import entered
+from helpers.drawn import Plain, drawn
+from helpers.tables import entered
 from tb_sql.checking import Tables as Checked
 from tb_sql.commands import words
 from tb_sql.filters import OPERATIONS
 from tb_sql.pages.queries import Tables
 from tb_sql.sqlite_store import SqliteStore, connect_read_only
 
-COUNT = int(os.environ.get("DRAWN", "20"))
-FIRST = int(os.environ.get("DRAWN_FIRST", "0"))
-SEEDS = range(FIRST, FIRST + COUNT)
 FILTERS = 12  # of each operation, for each history
-needs_tbs = pytest.mark.skipif(not TBS, reason="tbs is not there: set TBS")
+SEEDS = pytest.mark.parametrize(
+    "seed",
+    [
+        *range(20),
+        *(
+            pytest.param(it, marks=pytest.mark.slow(reason="hundreds of histories", seconds=0.3))
+            for it in range(20, 400)
+        ),
+    ],
+)
 
 
 @contextlib.contextmanager
@@ -100,10 +105,9 @@ def assert_balanced(tables, plain):
         assert all(it[2:4] == it[4:6] for it in sums), time
 
 
-@needs_tbs
-@pytest.mark.parametrize("seed", SEEDS)
-def test_history(tmp_path, seed):
-    steps, rng = drawn(seed), random.Random(seed)
+@SEEDS
+def test_answers(tmp_path, tbs, seed):
+    steps, rng = drawn(tbs, seed), random.Random(seed)
     plain = Plain(steps)
     with tables_of(tmp_path, steps) as tables:
         assert_balanced(tables, plain)
@@ -114,11 +118,10 @@ def test_history(tmp_path, seed):
                 assert found == expected(operation, wanted, plain), (operation, wanted)
 
 
-@needs_tbs
-@pytest.mark.parametrize("seed", list(SEEDS)[:10])
-def test_check(tmp_path, seed):
+@pytest.mark.parametrize("seed", range(10))
+def test_check(tmp_path, tbs, seed):
     path = str(tmp_path / "ledger.sqlite")
-    entered(SqliteStore(path), drawn(seed))
+    entered(SqliteStore(path), drawn(tbs, seed))
     with contextlib.closing(connect_read_only(path)) as connection:
         said = Checked(connection).check(words().parse_args(["check", path]))
     assert "their own events" in said

@@ -1,0 +1,1 @@
+"""What the tests share: histories, tables, pages, stand-ins for programs."""
