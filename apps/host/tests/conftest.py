@@ -3,4 +3,5 @@ import os
 
 from paths import PYTHONPATH
 
+pytest_plugins = ["marks"]
 os.environ["PYTHONPATH"] = PYTHONPATH

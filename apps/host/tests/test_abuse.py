@@ -13,10 +13,10 @@ import time
 import unittest
 
 import tb_client as tb
+from helpers.listeners import Running
+from helpers.records import account, header, transfer
+from helpers.threads import in_threads
 from tb_client import Session, Socket
-from test_listen import Running, header
-from test_sharing import in_threads
-from test_tb_client import account, transfer
 
 SEED = int(os.environ.get("SEED") or random.SystemRandom().randrange(1 << 32))
 CALLERS, CALLS, CLIENTS, BATCHES = 4, 40, 4, 40

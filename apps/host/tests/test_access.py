@@ -32,12 +32,13 @@ import urllib.request
 
 from paths import CONFORMANCE, HOST, LISTENER, TESTS
 import tb_client as tb
+from helpers.listeners import KEEPER, Running, has_ipv6, held_port, told
+from helpers.programs import PROGRAM
+from helpers.records import register
 from tb_client import Session, Socket
 from tb_host import access, lines, listen, reports, sockets, tls
 from tb_host.evictions import Evictions
 from tb_host.lines import Ended
-from test_listen import KEEPER, Running, has_ipv6, held_port, register, told
-from test_tb_client import PROGRAM
 
 sys.path.append(CONFORMANCE)
 import certificates  # noqa: E402
@@ -410,7 +411,7 @@ except OSError as error:
 """
 
 
-@unittest.skipUnless(os.geteuid() == 0, "only root can be another user")
+@unittest.skipUnless(os.geteuid() == 0, "needs root, to be another user")
 class Users(unittest.TestCase):
     def setUp(self):
         self.python = python_of(NOBODY)

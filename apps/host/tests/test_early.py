@@ -27,7 +27,7 @@ sys.argv[1:] = {words}
 FIRST, LATE = "argparse", "uvloop"
 AS_MODULE = "runpy.run_module({!r}, run_name='__main__', alter_sys=True)"
 LISTENS = ["--unix", "it.sock", "--", "true", "run", "1"]
-REPLICATES = ["--log", "etcd://127.0.0.1:1/bank", "--copy", "copy", "--", "true", "run", "1"]
+REPLICATES = ["--log", "etcd://127.0.0.1:1/bank", "--copy", "copy", "--", "true", "follow", "1"]
 
 
 def scripts():

@@ -5,7 +5,6 @@ import asyncio
 import contextlib
 import copy
 import errno
-import functools
 import glob
 import hashlib
 import importlib.util
@@ -22,20 +21,20 @@ import struct
 import subprocess
 import sys
 import tempfile
-import threading
 import time
 import unittest
 import zlib
 from unittest import mock
 
+import pytest
+
 from paths import CONFORMANCE, HOST, TESTS
 from tb_client.frames import asker, reply_fault, request_frame
 from tb_client.names import Operation
-from tb_host import backlog, checksums, connections, faults, listen, log, machines, nodes
+from tb_host import checksums, connections, faults, log, machines, nodes
 from tb_host import process, replica
 from tb_host import status as parts_of_status
 from tb_host.restored import restore
-from tb_host.backlog import Backlog, Checkpoint
 from tb_host.connections import Connection
 from tb_host.entries import (
     MOMENT_MAX,
@@ -55,29 +54,14 @@ from tb_host.lines import Ended, Told
 from tb_host.local_copy import Copy, copied, kept
 from tb_host.log import Access, LogFull, LogGone, NoLog, Report, Written
 from tb_host.replica import Replica
-from tb_host.taken import Taken
 
 
 sys.path.append(CONFORMANCE)
 import certificates  # noqa: E402
 
 NO_ANSWER = "waits: no other replica answers"
-# A server with a reply to each pair: the commit is its number. FILE says how many it read.
-SERVER = """
-import os, struct, sys
-commit, stdin, stdout = 0, sys.stdin.buffer, sys.stdout.buffer
-while head := stdin.read(56):
-    stdin.read(struct.unpack_from("<I", head, 40)[0])
-    commit += 1
-    session = commit if head[36] == 2 else 1
-    stdout.write(head[8:24] + struct.pack("<Q", session) + head[32:37] + bytes(7))
-    stdout.write(struct.pack("<QI", commit, 0))
-    stdout.flush()
-"""
-COMMAND = [sys.executable, "-SEc", SERVER, "run", "64"]
-
-# The same with entries and their positions, as `tbd follow-memory` takes them. WRONG makes one
-# thing wrong.
+# A server with a reply to each pair, as `tbd follow` has it: the commit is its number. WRONG makes
+# one thing wrong.
 FOLLOWER = """
 import hashlib, os, struct, sys
 stdin, stdout, wrong = sys.stdin.buffer, sys.stdout.buffer, os.environ.get("WRONG")
@@ -106,59 +90,18 @@ while kind := stdin.read(1):
         stdout.write(kind + struct.pack("<QI", at, index + skips) + reply)
         index += 1
 """
-FOLLOWS = [sys.executable, "-SEc", FOLLOWER, "64"]
+COMMAND = [sys.executable, "-SEc", FOLLOWER, "follow", "64"]
 
-# The same over a file of entries, as `tbd follow` keeps it. It may be killed before it reports the
-# replies that its file has: LATE is the position of the entry at which it waits for that.
-KEEPER = """
-import hashlib, os, struct, sys, time
-stdin, stdout = sys.stdin.buffer, sys.stdout.buffer
-path, clients, late = sys.argv[2], int(sys.argv[3]), int(os.environ.get("LATE", "0"))
-commit, at, hashes = 0, 0, [bytes(32), bytes(32)]
-def add(which, more):
-    hashes[which] = hashlib.sha256(hashes[which] + more).digest()
-def enter(pairs):
-    global commit, at
-    at, place, index, out = at + 1, 0, 0, b""
-    add(0, pairs)
-    while place < len(pairs):
-        header = pairs[place + 8 : place + 56]
-        place += 56 + struct.unpack_from("<I", header, 32)[0]
-        commit += 1
-        session = commit if header[28] == 2 else 1
-        reply = header[:16] + struct.pack("<Q", session) + header[24:29] + bytes(7)
-        reply += struct.pack("<QI", commit, 0)
-        add(1, reply)
-        out += b"\1" + struct.pack("<QI", at, index) + reply
-        index += 1
-    return out
-file = open(path, "a+b")
-file.seek(0)
-kept, place = file.read(), 0
-if kept[:1] == b"!":
-    print("tbd: Fault: " + path, file=sys.stderr)
-    sys.exit(int(kept[1:]))
-while place < len(kept):
-    length = struct.unpack_from("<I", kept, place)[0]
-    enter(kept[place + 4 : place + 4 + length])
-    place += 4 + length
-print(f"tbd: has the log up to position {at}", file=sys.stderr, flush=True)
-while kind := stdin.read(1):
-    if kind == b"\2":
-        stdout.write(kind + struct.pack("<Q", at) + b"".join(hashes))
-        stdout.flush()
-        continue
-    position, length, checksum = struct.unpack("<QII", stdin.read(16))
-    if position != at + 1:
-        print(f"tbd: Gap at {position}", file=sys.stderr)
-        sys.exit(2)
-    pairs = stdin.read(length)
-    out = enter(pairs)
-    file.write(struct.pack("<I", length) + pairs)
-    file.flush()
-    if at == late:
-        time.sleep(60)
-    stdout.write(out)
+# A server that reads a script, for `hashes`.
+SERVER = """
+import os, struct, sys
+commit, stdin, stdout = 0, sys.stdin.buffer, sys.stdout.buffer
+while head := stdin.read(56):
+    stdin.read(struct.unpack_from("<I", head, 40)[0])
+    commit += 1
+    session = commit if head[36] == 2 else 1
+    stdout.write(head[8:24] + struct.pack("<Q", session) + head[32:37] + bytes(7))
+    stdout.write(struct.pack("<QI", commit, 0))
     stdout.flush()
 """
 
@@ -292,22 +235,20 @@ class MemoryLog:
 
 class Entries(unittest.TestCase):
     def test_bytes(self):
-        """Formats 1 and 2. The second has the SHA-256 of its magic and of all after that."""
+        """It has the SHA-256 of its magic and of all after that. One with another magic, as of
+        another version, is refused."""
         it = entry(A, 7, pair(5, register(9)), position=3, digest=b"d" * 32, answered=2)
         rest = A + struct.pack("<QQ", 7, 3) + b"d" * 32 + struct.pack("<Q", 2) + NOTHING + it.pairs
-        self.assertEqual(it.to_bytes(1), b"TBENTRY1" + rest)
+        data = it.to_bytes()
         digest = hashlib.sha256(b"TBENTRY2" + rest).digest()
-        self.assertEqual(it.to_bytes(2), b"TBENTRY2" + digest + rest)
-        self.assertEqual(it.to_bytes(), it.to_bytes(2), "pairs that are short")
-        for data in (it.to_bytes(1), it.to_bytes(2)):
-            self.assertEqual(Entry.from_bytes(data), it)
-            self.assertEqual(Entry.parted(data), it)
-            for wrong in (b"", data[:100], b"X" + data[1:], data[:8]):
-                with self.assertRaisesRegex(ValueError, "it has no head of an entry"):
-                    Entry.from_bytes(wrong)
+        self.assertEqual(data, b"TBENTRY2" + digest + rest)
+        self.assertEqual((Entry.from_bytes(data), Entry.parted(data)), (it, it))
+        for wrong in (b"", data[:100], b"X" + data[1:], data[:8], b"TBENTRY1" + rest):
+            with self.assertRaisesRegex(ValueError, "it has no head of an entry"):
+                Entry.from_bytes(wrong)
 
     def test_long_pairs(self):
-        """They are deflated in format 3. What another one has made of them is no entry."""
+        """They are deflated. What another one has made of them is no entry."""
         it = entry(A, 7, *(pair(it, register(it)) for it in range(1, 100)))
         data = it.to_bytes()
         head, body = data[:40], data[144:]
@@ -315,7 +256,6 @@ class Entries(unittest.TestCase):
         self.assertEqual(head[8:], hashlib.sha256(b"TBENTRYZ" + data[40:]).digest())
         self.assertLess(len(data), len(it.pairs) // 4)
         self.assertEqual((Entry.from_bytes(data), Entry.parted(data)), (it, it))
-        self.assertEqual(it.to_bytes(2)[:8], b"TBENTRY2")
         longest = it._replace(pairs=bytes(PAIRS_MAX)).to_bytes()
         self.assertEqual(len(Entry.from_bytes(longest).pairs), PAIRS_MAX)
         longer = it._replace(pairs=bytes(PAIRS_MAX + 1)).to_bytes()
@@ -618,7 +558,8 @@ class Pieces(unittest.TestCase):
 class Replies(unittest.IsolatedAsyncioTestCase):
     async def test_the_short_test_of_a_reply_is_the_long_one(self):
         """For replies with each of their bytes as another one."""
-        it = Follower(COMMAND, 1.0, Taken(""), lambda *_: None)
+        with tempfile.TemporaryDirectory() as folder, contextlib.closing(Copy(folder)) as copy:
+            it = Follower(COMMAND, 1.0, copy, lambda *_: None)
         transfer = request_frame(7, 5, 3, Operation.create_transfers, bytes(128))
         found = []
         for frame, more in (
@@ -938,7 +879,8 @@ class Etcd(unittest.IsolatedAsyncioTestCase):
         from tb_host.etcd import EtcdLog
 
         it = EtcdLog([("127.0.0.1", 1)], "bank", Access())
-        said = dict(position=5, place=9, answered=5, clock=1, replies="", writer="", address="")
+        said = dict(position=5, place=9, answered=5, clock=1, moment=0)
+        said.update(replies="", writer="", address="")
         reports = mock.AsyncMock(return_value={"r0": json.dumps(said)})
         full, done = mock.AsyncMock(return_value=""), mock.AsyncMock(return_value=["done"])
         for left, told in (([(b"a", b"b")], "done\n"), ([], "nothing to trim: ")):
@@ -1353,7 +1295,7 @@ class PostgreSQL(unittest.IsolatedAsyncioTestCase):
             found = await self.first_read(full, [(1, b"an entry", "0/1")])
         self.assertEqual(found, Written(1, b"an entry"))
         self.assertIn("the log is not read: No space left on device", told.getvalue())
-        given = machines._log_words("status", ["--log", "postgresql://127.0.0.1:1/postgres/bank"])
+        given = machines._status_words(["--log", "postgresql://127.0.0.1:1/postgres/bank"])
         for fault, status in ((LogFull("it is full"), 26), (NoLog("it is away"), 20)):
             with self.assertRaises(Fault) as found:
                 await machines._with_log(given, mock.AsyncMock(side_effect=fault))
@@ -1369,6 +1311,7 @@ class PostgreSQL(unittest.IsolatedAsyncioTestCase):
             with self.assertRaisesRegex(Fault, r"^BadEntry: the log's `trimmed` has b'\\xff'$"):
                 await it.trimmed()
 
+    @pytest.mark.slow(reason="starts a server of PostgreSQL", seconds=5)
     @unittest.skipUnless(POSTGRES, "PostgreSQL is not installed")
     async def test_a_user_who_may_make_no_tables(self):
         """The tables that are there are enough. It was refused because CREATE on the schema was
@@ -1457,6 +1400,7 @@ class PostgreSQL(unittest.IsolatedAsyncioTestCase):
     def _late(self, *_):
         raise TimeoutError("it goes on without an end")
 
+    @pytest.mark.slow(reason="starts a server of PostgreSQL", seconds=10)
     @unittest.skipUnless(POSTGRES, "PostgreSQL is not installed")
     async def test_a_trim_that_takes_longer_than_an_answer(self):
         """A long log is removed in parts, the last of which may come later. It was one statement,
@@ -1516,7 +1460,7 @@ class OverALog(unittest.IsolatedAsyncioTestCase):
 
     def made(self, name="r0", **more):
         given = dict(command=COMMAND, slow=5.0, patience=0.5, ahead=60.0, distrust=[], shown="x")
-        given.update(positions=False, alone=True)
+        given.update(alone=True)
         self.copy = self.kind(self.folder)
         self.addCleanup(self.copy.close)
         self.copy.scan()
@@ -1605,8 +1549,8 @@ class Replicas(OverALog):
         self.assertTrue(it.is_serving())
         go_on = f"{self.folder}/go_on"
         pause = f"    while not os.path.exists({go_on!r}): import time; time.sleep(0.01)\n"
-        slow = SERVER.replace("    commit += 1", f"{pause}    commit += 1")
-        it.follower.words = [sys.executable, "-SEc", slow, "run", "64"]
+        slow = FOLLOWER.replace("    at, pairs", f"{pause}    at, pairs")
+        it.follower.words = [sys.executable, "-SEc", slow, "follow", "64"]
         it.follower.kill()
         asked, end = asyncio.ensure_future(self.asked(it, 2)), time.monotonic() + 10
         while it.is_serving() and time.monotonic() < end:
@@ -1635,8 +1579,8 @@ class Replicas(OverALog):
         sleeps = "subprocess.Popen(['sleep', '9'], start_new_session=True)\n"
         for more in ("", sleeps):
             code = f"{start}{more}os.write(1, bytes(48))\ntime.sleep(60)"
-            await self.began(command=[sys.executable, "-SEc", code, "run", "64"])
-            self.assertIn("wrote what is no reply to the next pair", await self.ended())
+            await self.began(command=[sys.executable, "-SEc", code, "follow", "64"])
+            self.assertIn("wrote what has no place in the log", await self.ended())
             self.copy.close()
             self.copy.file = os.open(os.devnull, os.O_RDONLY)
 
@@ -1745,8 +1689,8 @@ class Replicas(OverALog):
         await self.log.report("r1", json.dumps(said).encode())
         self.assertEqual(await self.ended(), "Diverged")
 
-    async def test_a_server_that_takes_positions(self):
-        it = await self.began(command=FOLLOWS, positions=True)
+    async def test_the_hashes_of_a_server_that_is_killed(self):
+        it = await self.began()
         replies = await asyncio.gather(*(self.asked(it, client) for client in range(1, 20)))
         self.assertEqual([reply[0] for reply in replies], list(range(1, 20)))
         digest = NOTHING
@@ -1768,8 +1712,8 @@ class Replicas(OverALog):
             ("index", ".* wrote what has no place in the log"),
         ):
             self.folder, self.log = f"{self.folder}{wrong}", MemoryLog()
-            command = ["env", f"WRONG={wrong}", *FOLLOWS]
-            it = await self.began(command=command, positions=True)
+            command = ["env", f"WRONG={wrong}", *COMMAND]
+            it = await self.began(command=command)
             asked = [asyncio.ensure_future(self.asked(it, client)) for client in (1, 2)]
             await asyncio.wait(asked[:1])
             asked.append(asyncio.ensure_future(self.asked(it, 3)))
@@ -1833,7 +1777,10 @@ class Replicas(OverALog):
         await self.asked(it, 6)
         with mock.patch.object(self.log, "report", lambda *_: asyncio.sleep(60)):
             it.close()
-            await asyncio.wait_for(self.running, 16)
+            began = time.monotonic()
+            await asyncio.wait_for(self.running, 60)
+        self.assertLess(time.monotonic() - began, 16.0)
+        self.assertNotIn("SIGKILL", self.told.getvalue())
 
     async def test_a_request_that_nobody_waits_for(self):
         """It is not appended: its connection has ended, and its place is free."""
@@ -1977,7 +1924,7 @@ class Replicas(OverALog):
     async def test_files_that_are_renewed_before_it_serves(self):
         """A replica that waits for its clock reaches the engine by them. SIGHUP did nothing."""
         given = argparse.Namespace(
-            command=COMMAND, copy=self.folder, name="r0", positions=False, distrust=[], slow=1
+            command=COMMAND, copy=self.folder, name="r0", distrust=[], slow=1
         )
         begun, renewed = asyncio.Event(), asyncio.Event()
 
@@ -2210,7 +2157,13 @@ class Replicas(OverALog):
                     await part(given, self.log)
         await it.report()
         mine = json.loads(self.log.kept["r0"])
-        for wrong in ({"fault": 5}, {"reads": "x"}, {"moment": -1}, {"rotten": 5}, {"rotten": [5]}):
+        for wrong in (
+            {"fault": 5},
+            {"moment": "x"},
+            {"moment": -1},
+            {"rotten": 5},
+            {"rotten": [5]},
+        ):
             self.log.kept["r1"] = json.dumps({**mine, **wrong}).encode()
             with self.assertRaisesRegex(Ended, "the report of r1 is none"):
                 await parts_of_status.status(given, self.log)
@@ -2244,7 +2197,8 @@ class Replicas(OverALog):
     async def test_a_trim_beyond_what_a_replica_has(self):
         """What one replica does not have stays in the log, whoever put `trimmed`. A trim went by
         that, and removed entries that no replica had."""
-        said = dict(position=5, place=9, answered=5, clock=1, replies="", writer="", address="")
+        said = dict(position=5, place=9, answered=5, clock=1, moment=0)
+        said.update(replies="", writer="", address="")
         self.log.kept = {"r0": json.dumps({**said, "position": 8, "place": 20})}
         self.log.kept["r1"] = json.dumps(said)
         self.log.trim = mock.AsyncMock(return_value=[])
@@ -2309,7 +2263,7 @@ def changed(data, at):
 class Rot(OverALog):
     """Nodes of the engine that have an entry otherwise than it was written."""
 
-    # bytes of an entry of format 2: one in each of its parts
+    # bytes of an entry: one in each of its parts
     PARTS = {"magic": 2, "sum": 20, "writer": 44, "number": 56, "log": 64, "log's hash": 90}
     PARTS.update({"replies": 104, "hash of replies": 130, "moment": 145, "client": 155})
     PARTS.update({"session": 170, "operation": 180, "length": 184, "zeros": 190})
@@ -2418,7 +2372,7 @@ class Rot(OverALog):
             self.assertEqual(await self.ended(), "BadEntry", data)
 
     async def test_an_engine_of_one_node(self):
-        rest = b"TBENTRYZ", entry(A, 1).to_bytes(1)[8:] + b"not deflated"
+        rest = b"TBENTRYZ", entry(A, 1).to_bytes()[40:] + b"not deflated"
         deflated = rest[0] + hashlib.sha256(b"".join(rest)).digest() + rest[1]
         for wrong, name in (
             (changed(self.fill(1)[0], 60), "Rotten"),
@@ -2544,271 +2498,9 @@ class Rot(OverALog):
         await self.log.report("r1", json.dumps({**said, "writer": "next"}).encode())
         self.assertEqual(await self.ended(), "Rotten")
 
-    # formats
-
-    async def test_the_format_that_the_head_has(self):
-        """Entries of both are read. A log of format 1 gets such ones until its head says more."""
-        head = {**head_of(COMMAND), "format": 1, "id": "x"}
-        self.log.heads = [json.dumps(head).encode()]
-        self.log.put(entry(A, 1, pair(1, register(1))).to_bytes(1))
-        with mock.patch.object(replica, "REPORT", 0.05):
-            it = await self.began()
-            await self.asked(it, 6)
-            given = argparse.Namespace(log="etcd://a/b")
-            with contextlib.redirect_stdout(io.StringIO()) as said:
-                self.assertEqual(await parts_of_status.upgrade(given, self.log), 0)
-                self.assertEqual(await parts_of_status.upgrade(given, self.log), 0)
-            while it.form == 1:
-                await asyncio.sleep(0.01)
-            await self.asked(it, 7)
-        written = [some.data[:8] for some in self.log.items if isinstance(some, Written)]
-        self.assertEqual(written, [b"TBENTRY1", b"TBENTRY1", b"TBENTRY2"])
-        lines = (
-            "entries are written in format 3 from now on\nentries are written in format 3 already\n"
-        )
-        self.assertEqual(said.getvalue(), lines)
-        self.assertEqual(json.loads(self.log.heads[0]), {**head, "format": 3})
-        await self.closed(it)
-        it = await self.began()
-        self.assertEqual(it.form, 3)
-        await self.asked(it, 8)
-        await self.closed(it)
-
-    async def test_replicas_that_do_not_read_the_new_format(self):
-        self.log.heads = [json.dumps({**head_of(COMMAND), "format": 1, "id": "x"}).encode()]
-        it = await self.began()
-        await self.asked(it, 6)
-        await it.report()
-        old = json.loads(self.log.kept["r0"])
-        del old["reads"]
-        self.log.kept["r1"] = json.dumps(old).encode()
-        with self.assertRaisesRegex(Ended, "^r1 read no format 3: upgrade or forget them first$"):
-            await parts_of_status.upgrade(argparse.Namespace(log="x"), self.log)
-        self.assertEqual(json.loads(self.log.heads[0])["format"], 1)
-        await self.closed(it)
-
     async def test_a_format_that_is_not_read(self):
         self.log.heads = [json.dumps({**head_of(COMMAND), "format": 4, "id": "x"}).encode()]
         self.assertEqual(await self.begins(self.made()), "OtherRules")
-
-
-class Kept(OverALog):
-    """Before a server that keeps its ledger in a file."""
-
-    kind = Backlog
-
-    async def asyncSetUp(self):
-        await super().asyncSetUp()
-        self.path = f"{self.folder}.tbl"
-        self.command = [sys.executable, "-SEc", KEEPER, "follow", self.path, "64"]
-
-    def made(self, name="r0", **more):
-        return super().made(name, **{"command": self.command, **more})
-
-    async def read(self, it):
-        for _ in range(500):
-            if it.follower.answered == self.copy.position == len(self.log.made):
-                return
-            await asyncio.sleep(0.02)
-        self.fail("the log is not read")
-
-    def commit(self, reply):
-        return struct.unpack_from("<Q", reply, 36)[0]
-
-    async def test_a_start_reads_the_log_from_the_checkpoint_on(self):
-        it = await self.began()
-        replies = await asyncio.gather(*(self.asked(it, client) for client in range(1, 20)))
-        self.assertEqual([reply[0] for reply in replies], list(range(1, 20)))
-        await self.read(it)
-        digest, position = it.follower.state()[1], self.copy.position
-        await self.closed(it)
-        self.log.items[:position] = [None] * position  # it would fail at one of these
-        self.log.start = position
-        it = await self.began()
-        self.assertEqual(self.copy.position, position)
-        await asyncio.wait_for(it.begun(), 20)
-        self.assertEqual(it.follower.state(), (position, digest))
-        self.assertEqual(self.commit(await self.asked(it, 77)), 20)
-        await self.read(it)
-        self.assertFalse(self.copy.held, "what was answered is dropped")
-        await self.closed(it)
-        self.assertIn("tbd: has the log up to position", self.told.getvalue())
-
-    async def test_the_file_is_ahead_of_the_checkpoint(self):
-        for is_kept in (True, False):
-            self.folder, self.log = f"{self.folder}x", MemoryLog()
-            self.command[-2] = f"{self.folder}.tbl"
-            it = await self.began()
-            for client in (1, 2):
-                await self.asked(it, client)
-            await self.read(it)
-            self.copy.sync(*self.copy.mark())
-            kept = backlog.checkpoint_of(self.folder) if is_kept else None
-            for client in (3, 4):
-                await self.asked(it, client)
-            await self.read(it)
-            digest = it.follower.state()[1]
-            await self.closed(it)
-            os.unlink(f"{self.folder}/checkpoint")
-            if kept:
-                backlog.put_checkpoint(self.folder, kept)
-            it = await self.began()
-            self.assertEqual(self.copy.position, 2 if is_kept else 0)
-            await asyncio.wait_for(it.begun(), 20)
-            self.assertEqual(it.follower.state(), (4, digest))
-            self.assertEqual(self.commit(await self.asked(it, 5)), 5)
-            self.assertEqual(self.copy.numbers, it.copy.numbers)
-            await self.closed(it)
-
-    async def test_a_server_that_is_killed_goes_on(self):
-        it = await self.began()
-        await self.asked(it, 1)
-        it.follower.kill()
-        replies = await asyncio.gather(*(self.asked(it, client) for client in (2, 3)))
-        self.assertEqual([self.commit(reply) for reply in replies], [2, 3])
-        await self.closed(it)
-
-    async def test_replies_that_were_kept_and_not_told(self):
-        it = await self.began(command=["env", "LATE=2", *self.command])
-        await self.asked(it, 1)
-        asked = [asyncio.ensure_future(self.asked(it, client)) for client in (2, 3)]
-        while os.path.getsize(self.path) < 120:
-            await asyncio.sleep(0.02)
-        it.follower.words = self.command
-        it.follower.kill()
-        replies = await asyncio.gather(*asked)
-        self.assertEqual([reply[0] for reply in replies], [2, 3])
-        self.assertGreater(len(self.log.made), 2, "they were asked again")
-        await self.closed(it)
-
-    async def test_the_log_lost_its_end(self):
-        it = await self.began()
-        for client in (1, 2, 3):
-            await self.asked(it, client)
-        await self.read(it)
-        await self.closed(it)
-        with contextlib.suppress(FileNotFoundError):
-            os.unlink(f"{self.folder}/checkpoint")
-        del self.log.items[1:]
-        it = await self.began()
-        self.assertEqual(await self.ended(), "Diverged")
-
-    async def test_a_file_of_another_log(self):
-        it = await self.began()
-        for client in (1, 2):
-            await self.asked(it, client)
-        await self.closed(it)
-        self.folder, self.log = f"{self.folder}2", MemoryLog()
-        for number in (1, 2, 3):
-            self.log.put(entry(A, number, pair(1, register(number + 5))).to_bytes())
-        await self.began()
-        self.assertEqual(await self.ended(), "Diverged")
-
-    async def test_a_file_behind_the_checkpoint(self):
-        it = await self.began()
-        for client in (1, 2):
-            await self.asked(it, client)
-        await self.read(it)
-        await self.closed(it)
-        os.unlink(self.path)
-        it = await self.began()
-        await asyncio.wait_for(it.begun(), 20)
-        self.assertEqual(self.commit(await self.asked(it, 3)), 3, "the log is read from its start")
-        await self.read(it)
-        await self.closed(it)
-        os.unlink(self.path)
-        self.log.start = 1
-        await self.began()
-        self.assertEqual(await self.ended(), "Trimmed")
-
-    async def test_a_log_that_was_trimmed(self):
-        self.log.start = self.log.more = 3
-        self.assertEqual(await self.begins(self.made()), "Trimmed")
-
-    async def test_refused_files(self):
-        for status, name in ((b"6", "Damaged"), (b"7", "OtherRules"), (b"5", "tbd")):
-            with open(self.path, "wb") as file:
-                file.write(b"!" + status)
-            await self.began()
-            self.assertEqual(await self.ended(), name)
-            self.copy.close()
-            self.copy.file = os.open(os.devnull, os.O_RDONLY)
-        backlog.put_checkpoint(self.folder, b"00000000 {}")
-        with self.assertRaises(Fault) as found:
-            self.made()
-        self.assertEqual(found.exception.name, "Damaged")
-
-    async def test_an_end_while_the_file_is_read(self):
-        """It comes at once, as a listener's. It waited until the file was read, or the server was
-        killed, which was told as a fault."""
-        command = ["sh", "-c", "exec sleep 60", "sh", *self.command[-3:]]
-        it = await self.began(command=command, slow=60.0)
-        while it.follower.process is None:
-            await asyncio.sleep(0.01)
-        await self.closed(it)
-
-    async def test_a_file_that_another_process_has_for_a_moment(self):
-        """It is waited for at each start of the server, however long the replica has run."""
-        flag = f"{self.folder}.flag"
-        code = f'rm {flag} 2>/dev/null && echo tbd: Locked >&2 && exit 4; exec "$@"'
-        it = await self.began(command=["sh", "-c", code, "sh", *self.command])
-        await self.asked(it, 1)
-        it.follower.since -= 3600
-        with open(flag, "wb"):
-            it.follower.kill()
-        self.assertEqual(self.commit(await self.asked(it, 2)), 2)
-        self.assertIn("tbd: Locked, and is started again", self.told.getvalue())
-        it.follower.since -= 3600
-        it.follower.words = ["sh", "-c", "echo tbd: Locked >&2; exit 4"]
-        it.follower.patience = 0.3
-        it.follower.kill()
-        self.assertEqual(await self.ended(), "tbd")
-
-    async def test_a_file_that_lost_what_it_had(self):
-        it = await self.began()
-        await self.asked(it, 1)
-        await self.asked(it, 2)
-        await self.read(it)
-        os.truncate(self.path, 0)
-        it.follower.kill()
-        self.assertEqual(await self.ended(), "Damaged")
-
-    async def test_a_disk_that_is_full(self):
-        await self.filled("fsync", f"{self.folder}/checkpoint")
-
-    async def test_it_waits_for_room(self):
-        self.addCleanup(setattr, backlog, "ENTRIES", backlog.ENTRIES)
-        backlog.ENTRIES = 3
-        for number in range(1, 40):
-            self.log.put(entry(A, number, pair(1, register(number))).to_bytes())
-        it = await self.began(patience=20.0)
-        self.assertEqual(self.commit(await self.asked(it, 77)), 40)
-        await self.closed(it)
-
-    def test_a_folder_of_which_the_checkpoint_is_being_written(self):
-        """It is another's only once that is done. Two wrote one new checkpoint."""
-        with tempfile.TemporaryDirectory() as folder:
-            first = Backlog(folder)
-            with first.writing:
-                closing = threading.Thread(target=first.close)
-                closing.start()
-                closing.join(0.2)
-                with self.assertRaisesRegex(Ended, "is in use"):
-                    Backlog(folder)
-            closing.join(20)
-            Backlog(folder).close()
-
-    def test_a_checkpoint_of_a_peer(self):
-        other = self.folder + "2"
-        self.assertIsNone(backlog.copied_checkpoint(self.folder, other))
-        it = Checkpoint(7, 70, "00" * 32, 5, {A.hex(): 3})
-        kept(self.made().copy.folder, "head", b"the log")
-        backlog.put_checkpoint(self.folder, it.to_bytes())
-        self.assertEqual(backlog.copied_checkpoint(self.folder, other), (7, 70))
-        self.assertEqual(Checkpoint.from_bytes(backlog.checkpoint_of(other)), it)
-        self.assertEqual(kept(other, "head", b"another"), b"the log")
-        with self.assertRaises(Ended):
-            backlog.copied_checkpoint(self.folder, other)
 
 
 class Words(unittest.TestCase):
@@ -2827,22 +2519,31 @@ class Words(unittest.TestCase):
         for given, said in (
             ((), "the following arguments are required: --log, --copy, COMMAND"),
             (("--log", "x", "--copy", "c", "--", "true"), "argument --log: 'x' is no etcd://"),
-            ((*run, "true"), "COMMAND does not end in run CLIENTS_MAX [PROFILE]"),
-            ((*run, "run", "64"), "COMMAND does not end in run CLIENTS_MAX [PROFILE]"),
+            ((*run, "true"), "COMMAND does not end in follow CLIENTS_MAX [PROFILE]"),
+            ((*run, "follow", "64"), "COMMAND does not end in follow CLIENTS_MAX [PROFILE]"),
             (("status",), "the following arguments are required: --log"),
             (("copy-from", "a"), "the following arguments are required: --copy"),
             (("trim", "--log", "etcd://a:x/b"), "argument --log: 'a:x' is no HOST or HOST:PORT"),
             (("status", "--log", "postgresql://\udcff/a/b"), "'\\udcff' is no HOST or HOST:PORT"),
             (("status", "--log", f"etcd://{'x' * 64}/b"), "xxxx' is no HOST or HOST:PORT"),
-            (("--standbys", "-1", *run, "t", "run", "1"), "--standbys: '-1' is no number from 0"),
-            (("--name", "\udcff", *run, "t", "run", "1"), "argument --name: '\\udcff' is no name"),
+            (
+                ("--standbys", "-1", *run, "t", "follow", "1"),
+                "--standbys: '-1' is no number from 0",
+            ),
+            (
+                ("--name", "\udcff", *run, "t", "follow", "1"),
+                "argument --name: '\\udcff' is no name",
+            ),
             (("trim", "--log", "etcd://a/b", "--forget", "\n"), "argument --forget: '\\n' is no"),
-            (("--distrust", "r1", *run, "t", "run", "1"), "argument --distrust: 'r1' is no writer"),
-            (("--name", "", *run, "t", "run", "1"), "argument --name: '' is no name"),
-            (("--log-user", "", *run, "t", "run", "1"), "argument --log-user: it is empty"),
-            (("--log", "etcd://a/c", *run, "t", "run", "1"), "argument --log: give it once"),
-            (("--copy", "d", *run, "t", "run", "1"), "argument --copy: give it once"),
-            ((*run, "", "run", "1"), "an empty word is no COMMAND"),
+            (
+                ("--distrust", "r1", *run, "t", "follow", "1"),
+                "argument --distrust: 'r1' is no writer",
+            ),
+            (("--name", "", *run, "t", "follow", "1"), "argument --name: '' is no name"),
+            (("--log-user", "", *run, "t", "follow", "1"), "argument --log-user: it is empty"),
+            (("--log", "etcd://a/c", *run, "t", "follow", "1"), "argument --log: give it once"),
+            (("--copy", "d", *run, "t", "follow", "1"), "argument --copy: give it once"),
+            ((*run, "", "follow", "1"), "an empty word is no COMMAND"),
             (("status", *run[:2], *run[:2]), "argument --log: give it once"),
             (("trim", "--log", "etcd://a/b", "--forget", ""), "argument --forget: '' is no name"),
             (("restore", *run[:4], *run[2:4]), "argument --copy: give it once"),
@@ -2859,7 +2560,7 @@ class Words(unittest.TestCase):
     def test_files_of_tls_that_would_be_passed_over(self):
         """Without --log-ca etcd is spoken to without TLS."""
         both = ("--log-certificate", "c", "--log-key", "k")
-        for words in (functools.partial(machines._log_words, "status"), machines._trim_words):
+        for words in (machines._status_words, machines._trim_words):
             for files in (both, both[:2], both[2:], ("--log-ca", "a", *both[2:])):
                 told = io.StringIO()
                 with self.assertRaises(SystemExit), contextlib.redirect_stderr(told):
@@ -2869,16 +2570,14 @@ class Words(unittest.TestCase):
                 words(["--log", "etcd://a/b", *files])
             words(["--log", "postgresql://a/b/c", *both])
         for text, number in (("0", 0), ("1", 1), ("65535", 65535)):
-            found = machines._log_words(
-                "status", ["--log", "postgresql://a/b/c", "--standbys", text]
-            )
+            found = machines._status_words(["--log", "postgresql://a/b/c", "--standbys", text])
             self.assertEqual(found.standbys, number)
 
     def test_the_words_of_units(self):
-        taken = {"tb_host.machines": machines._run_words, "tb_host.listen": listen.words}
+        taken = {"tb_host.machines": machines._run_words}
         folder = os.path.join(HOST, "systemd")
         units = [it for it in sorted(os.listdir(folder)) if it.endswith(".service")]
-        self.assertEqual(len(units), 3)
+        self.assertEqual(units, ["tb-replica.service"])
         for name in units:
             with self.subTest(name), open(os.path.join(folder, name), encoding="utf-8") as file:
                 text = file.read().replace("\\\n", " ")
@@ -2916,12 +2615,8 @@ class Words(unittest.TestCase):
             copy.scan()
             copy.close()
             said = "tb_replica: {}/head: No such file or directory"
-            for name in ("log", "checkpoint"):
-                if name == "checkpoint":
-                    it = Checkpoint(7, 70, "00" * 32, 5, {})
-                    backlog.put_checkpoint(source, it.to_bytes())
-                found = self.ended("copy-from", source, "--copy", to)
-                self.assertEqual((found, os.path.exists(to)), ((1, said.format(source)), False))
+            found = self.ended("copy-from", source, "--copy", to)
+            self.assertEqual((found, os.path.exists(to)), ((1, said.format(source)), False))
             kept(source, "head", b"{}")
             found = self.ended("copy-from", source, "--copy", "/proc/nowhere")
             self.assertEqual(found, (1, "tb_replica: /proc/nowhere: No such file or directory"))
@@ -2938,17 +2633,17 @@ class Words(unittest.TestCase):
 
     def test_what_replicas_have_in_common(self):
         head = {"format": 3, "rules": 1, "clients_max": 64, "profile": 1}
-        self.assertEqual(head_of(["tb_script", "run", "64"]), head)
-        self.assertEqual(head_of(["tbd", "follow-memory", "64"], True), head)
-        self.assertEqual(head_of(["tbd", "follow-memory", "64", "1"], True), head)
-        self.assertEqual(head_of(["tbd", "follow", "a.tbl", "64", "1"]), head)
-        self.assertEqual(head_of(["tbd", "follow", "a.tbl", "64"], True), head)
-        for wrong in (["64"], ["tbd", "follow-memory"], ["a", "x", "1", "2", "x"]):
-            with self.assertRaises(ValueError):
-                head_of(wrong, True)
+        self.assertEqual(head_of(["tbd", "follow", "64"]), head)
+        self.assertEqual(head_of(["tbd", "follow", "64", "1"]), head)
         self.assertEqual(
-            head_of(["tb_script", "run", "8", "2"]), {**head, "clients_max": 8, "profile": 2}
+            head_of(["tbd", "follow", "8", "2"]), {**head, "clients_max": 8, "profile": 2}
         )
+        for wrong in ([], ["follow", "64"], ["tbd", "follow"], ["tbd", "follow", "x"]):
+            with self.assertRaises(ValueError):
+                head_of(wrong)
+        for wrong in (["tb_script", "run", "64"], ["tbd", "follow", "a.tbl", "64"]):
+            with self.assertRaises(ValueError):
+                head_of(wrong)
 
     def test_statuses(self):
         """Each fault has a status of its own, which no server has."""

@@ -23,32 +23,23 @@ import time
 import unittest
 import unittest.mock
 
-from paths import CRATES, EXAMPLES, LISTENER, STAND_IN
+from paths import EXAMPLES, LISTENER, STAND_IN
 import sockets
 import tb_client as tb
+from helpers.listeners import KEEPER, Running, TBD, children, has_ipv6, told
+from helpers.programs import PROGRAM, has_program
+from helpers.records import account, header, register, transfer, wrong_replies
+from helpers.threads import closed_in_a_child, in_threads
 from tb_client import Session, Socket
 from tb_host import listen
 from tb_host.command import journal_at
 from tb_host.moments import Moments
 from tb_host.sockets import unix_socket
-from test_sharing import closed_in_a_child, in_threads
-from test_tb_client import PROGRAM, account, has_program, transfer, wrong_replies
-
-
-TBD = os.environ.get("TBD", os.path.join(CRATES, "tbd", "out", "tbd"))
-KEEPER = [TBD] if os.access(TBD, os.X_OK) else STAND_IN
 
 
 def setUpModule():
     """In the background of a shell SIGINT is ignored, and programs would inherit that."""
     signal.signal(signal.SIGINT, signal.default_int_handler)
-
-
-def children(process):
-    """The processes that a process started, by their ids."""
-    with contextlib.suppress(OSError), open(f"/proc/{process}/task/{process}/children") as file:
-        return [int(it) for it in file.read().split()]
-    return []
 
 
 def is_gone(process):
@@ -58,90 +49,7 @@ def is_gone(process):
     return True
 
 
-NEWS = "tb_listen: tbd: made ", "tb_listen: tbd: reading ", "tb_listen: tbd: copied "
-NEWS += "tb_listen: tbd: cut ", "tb_listen: has stopped: "
 CLOSED = f"tb_listen: user {os.geteuid()}: a connection is closed: "
-
-
-class Running:
-    """A listener as a process, before a server that keeps its ledger in a file if no other command
-    is given."""
-
-    def __init__(self, *options, command=None, folder=None, fail=""):
-        self.own = None if folder else tempfile.TemporaryDirectory()
-        self.folder = folder or self.own.name
-        self.path, self.file = os.path.join(self.folder, "ledger.sock"), os.path.join(
-            self.folder, "ledger.journal"
-        )
-        place = [] if "--tcp" in options or "--unix" in options else ["--unix", self.path]
-        self.command = command or KEEPER
-        if "run" not in self.command:
-            self.command = [*self.command, "run", self.file, "64"]
-        words = [
-            sys.executable,
-            "-B",
-            LISTENER,
-            *place,
-            *options,
-            "--",
-            *self.command,
-        ]
-        self.process = subprocess.Popen(
-            words, stderr=subprocess.PIPE, text=True, env={**os.environ, "FAIL": fail}
-        )
-        self.news = []  # what the server told of its start
-        self.said = []
-        self.tells()
-        found = re.fullmatch(r"tb_listen: listens on (.*):([0-9]+)\n", self.said[0])
-        self.address = (found[1].strip("[]"), int(found[2])) if found else self.path
-
-    def __enter__(self):
-        return self
-
-    def __exit__(self, *_):
-        if self.process.poll() is None:
-            self.end()
-        self.process.stderr.close()
-        if self.own:
-            self.own.cleanup()
-
-    def end(self, number=signal.SIGTERM):
-        self.process.send_signal(number)
-        return self.ended()
-
-    def ended(self):
-        """The status and the lines on standard error, once it has ended."""
-        status = self.process.wait(20)
-        for line in self.process.stderr:
-            (self.news if line.startswith(NEWS) else self.said).append(line)
-        return status
-
-    def server(self):
-        """The id of the server's process, once it runs."""
-        for _ in range(200):
-            found = children(self.process.pid)
-            if found:
-                return found[0]
-            time.sleep(0.02)
-        raise AssertionError("no server runs")
-
-    def kill_server(self):
-        os.kill(self.server(), signal.SIGKILL)
-
-    def tells(self):
-        """Its next line, without news."""
-        while (line := self.process.stderr.readline()).startswith(NEWS):
-            self.news.append(line)
-        self.said.append(line)
-        return line
-
-    def call(self):
-        if isinstance(self.address, tuple):
-            return socket.create_connection(self.address, 10)
-        it = socket.socket(socket.AF_UNIX, socket.SOCK_STREAM)
-        it.settimeout(10)
-        it.connect(self.path)
-        return it
 
 
 def called(path, seconds=20):
@@ -159,50 +67,9 @@ def called(path, seconds=20):
         time.sleep(0.01)
 
 
-def told(it):
-    """What a connection is told until it is closed."""
-    data = b""
-    with it, contextlib.suppress(ConnectionError):
-        while True:
-            more = it.recv(1 << 16)
-            if not more:
-                break
-            data += more
-    return data
-
-
 def octal(data):
     """Bytes as `printf` of a shell takes them."""
     return "".join(f"\\{byte:03o}" for byte in data)
-
-
-def register(client):
-    return tb.request_frame(client, 0, 0, tb.Operation.register)
-
-
-@contextlib.contextmanager
-def held_port(host="127.0.0.1"):
-    """A port that nobody else is given meanwhile, and at which a program may listen."""
-    family = socket.AF_INET6 if ":" in host else socket.AF_INET
-    with socket.socket(family) as it:
-        it.setsockopt(socket.SOL_SOCKET, socket.SO_REUSEADDR, 1)
-        it.bind((host, 0))
-        yield it.getsockname()[1]
-
-
-def has_ipv6():
-    with contextlib.suppress(OSError), socket.socket(socket.AF_INET6, socket.SOCK_STREAM) as it:
-        it.bind(("::1", 0))
-        return True
-    return False
-
-
-def header(
-    client=1, session=1, number=1, operation=130, zeros=b"\0" * 3, length=0, rest=b"\0" * 12
-):
-    return client.to_bytes(16, "little") + struct.pack(
-        "<QIB3sI12s", session, number, operation, zeros, length, rest
-    )
 
 
 class FailsOnce:

@@ -9,13 +9,14 @@ import unittest
 import unittest.mock
 
 import tb_client as tb
+from helpers.listeners import Running, told
+from helpers.records import register
 from tb_client import Session, Socket
 from tb_host import lines
 from tb_host.access import network_of
 from tb_host.lines import Told
 from tb_host.refusals import COST, MOMENT, MOST, WHOLE, Refusals
 from tb_host.shares import PIECE, Shares, Turns
-from test_listen import Running, register, told
 
 
 class Clock:

@@ -31,16 +31,16 @@ NEWS = re.compile(rf"[\w./-]+: (?:made |reading |copied |cut |{READY})")
 PATIENCE = 1.0  # seconds for which a request waits for a server that is started again
 
 
-def journal_at(words: Sequence[str], form: str = "run") -> Optional[int]:
+def journal_at(words: Sequence[str]) -> Optional[int]:
     """Which word of a command is the file that it keeps its ledger in: FILE of `run FILE
-    CLIENTS_MAX [PROFILE] [--existing] [--progress]` at its end, or of another form. None if there
-    is no such word, as in `tbs run CLIENTS_MAX [PROFILE]`."""
+    CLIENTS_MAX [PROFILE] [--existing] [--progress]` at its end. None if there is no such word, as
+    in `tbs run CLIENTS_MAX [PROFILE]`."""
     for _ in range(2):
         words = words[:-1] if words[-1:] in ([PROGRESS], [EXISTING]) else words
     for at in (len(words) - 2, len(words) - 3):
         if (
             at > 1
-            and words[at - 1] == form
+            and words[at - 1] == "run"
             and not is_number(words[at])
             and all(map(is_number, words[at + 1 :]))
         ):

@@ -8,15 +8,8 @@ import signal
 import sys
 
 INTERRUPTED = 130
-PARTS = (
-    "status",
-    "trim",
-    "upgrade",
-    "copy-from",
-    "script",
-    "hashes",
-    "restore",
-)  # of tb-replica, which serve nothing
+# of tb-replica, which serve nothing
+PARTS = ("status", "trim", "copy-from", "script", "hashes", "restore")
 
 
 def end_at(status: int, *numbers: int) -> None:

@@ -5,10 +5,9 @@ the number of its entry; the position up to which the writer had read the log, w
 log there; and the position up to which its server had answered, with the hash of the replies there.
 So each reader finds within one entry that it and the writer do not have the same.
 
-An entry of format 2 has the SHA-256 of all that is after it: so a reader finds that a disk, or
-whatever it was read from, has changed it. One of format 1 has no hash. In one of format 3 the pairs
-are deflated, without a head (RFC 1951), if they are long: what an engine writes and sends takes
-most of a long request's time.
+An entry has the SHA-256 of all that is after it: so a reader finds that a disk, or whatever it was
+read from, has changed it. If its pairs are long they are deflated, without a head (RFC 1951), and
+its magic says so: what an engine writes and sends takes most of a long request's time.
 """
 from __future__ import annotations
 
@@ -19,9 +18,8 @@ from typing import Iterable, Iterator, List, NamedTuple, Tuple
 
 from tb_client.frames import asker, request_fault
 
-MAGICS = MAGIC_1, MAGIC_2, MAGIC_3 = b"TBENTRY1", b"TBENTRY2", b"TBENTRYZ"
-WRITTEN = 3  # the format of entries in a new log
-SUM = 32  # bytes of the SHA-256 after the magic, from format 2 on
+MAGICS = PLAIN, DEFLATED = b"TBENTRY2", b"TBENTRYZ"
+MAGIC, SUM = 8, 32  # bytes of the magic, and of the SHA-256 after it
 REST = struct.Struct("<16sQQ32sQ32s")  # the head after these
 PAIRS_MAX = 1 << 20  # bytes of pairs in an entry: the longest request fits
 MOMENT = struct.Struct("<Q")
@@ -63,43 +61,37 @@ class Entry(NamedTuple):
     replies: Claim
     pairs: bytes
 
-    def to_bytes(self, form: int = WRITTEN) -> bytes:
-        """The entry's bytes in a format. Short ones of format 3 are those of format 2."""
+    def to_bytes(self) -> bytes:
+        """The entry's bytes."""
         rest = REST.pack(self.writer, self.number, *self.log, *self.replies)
-        if form == 1:
-            return b"".join((MAGIC_1, rest, self.pairs))
-        is_long = form > 2 and len(self.pairs) >= SMALL
-        magic, pairs = (MAGIC_3, _deflated(self.pairs)) if is_long else (MAGIC_2, self.pairs)
+        is_long = len(self.pairs) >= SMALL
+        magic, pairs = (DEFLATED, _deflated(self.pairs)) if is_long else (PLAIN, self.pairs)
         return b"".join((magic, _sum(magic, rest, pairs), rest, pairs))
 
     @classmethod
     def from_bytes(cls, data: bytes) -> Entry:
         """The entry of these bytes. Raises `ValueError` if they are not an entry, or not what its
         writer made."""
-        magic, at = _begun(data)
-        if at > len(magic):
-            rest, pairs = data[at : at + REST.size], data[at + REST.size :]
-            if _sum(magic, rest, pairs) != data[len(magic) : at]:
-                raise ValueError("it does not have its SHA-256")
+        magic, rest, pairs = _parts(data)
+        if _sum(magic, rest, pairs) != data[MAGIC : MAGIC + SUM]:
+            raise ValueError("it does not have its SHA-256")
         return cls.parted(data)
 
     @classmethod
     def parted(cls, data: bytes) -> Entry:
         """The same of bytes whose checksum was tested elsewhere, as a record's of a copy."""
-        magic, at = _begun(data)
-        writer, number, *claims = REST.unpack_from(data, at)
-        pairs = data[at + REST.size :]
-        pairs = _inflated(pairs) if magic == MAGIC_3 else pairs
+        magic, rest, pairs = _parts(data)
+        writer, number, *claims = REST.unpack(rest)
+        pairs = _inflated(pairs) if magic == DEFLATED else pairs
         return cls(writer, number, Claim(*claims[:2]), Claim(*claims[2:]), pairs)
 
 
-def _begun(data: bytes) -> Tuple[bytes, int]:
-    """The magic of an entry, and where the head after it and after a SHA-256 begins."""
-    magic = data[: len(MAGIC_1)]
-    at = len(magic) + (0 if magic == MAGIC_1 else SUM)
-    if magic not in MAGICS or len(data) < at + REST.size:
+def _parts(data: bytes) -> Tuple[bytes, bytes, bytes]:
+    """The magic of an entry, the head after its SHA-256, and its pairs as they are written."""
+    at, end = MAGIC + SUM, MAGIC + SUM + REST.size
+    if data[:MAGIC] not in MAGICS or len(data) < end:
         raise ValueError("it has no head of an entry")
-    return magic, at
+    return data[:MAGIC], data[at:end], data[end:]
 
 
 class NotDeflated(ValueError):

@@ -7,6 +7,7 @@ still has it. A bad record before it is `Damaged`.
 """
 from __future__ import annotations
 
+import asyncio
 import contextlib
 import dataclasses
 import errno
@@ -15,19 +16,29 @@ import os
 import struct
 import threading
 import zlib
-from typing import Iterator, List, Optional, Tuple
+from typing import Dict, Iterator, List, NamedTuple, Optional, Tuple
 
-from .entries import Entry, askers
+from .entries import MOMENT, NOTHING, Entry, askers, chained
 from .faults import Fault
 from .lines import Ended
-from .taken import Item, Taken
 
+KEPT = 100_000  # positions of which the hashes are kept, to be compared with a writer's
 MAGIC = b"TBCOPY1\n"
 RECORD = struct.Struct("<QQI")
 SUM = struct.Struct("<I")
 HEAD = RECORD.size + SUM.size
 SYNCED = struct.Struct("<Q")
 CHUNK = 1 << 22  # bytes that are read at a time
+
+
+class Item(NamedTuple):
+    """An entry as the server is given it: its pairs, what the reply to each repeats, and where its
+    record ends."""
+
+    position: int
+    pairs: bytes
+    wanted: List[bytes]
+    end: int
 
 
 @dataclasses.dataclass(frozen=True)
@@ -80,8 +91,9 @@ def make_folder(folder: str) -> None:
 def opened_alone(folder: str, name: str) -> int:
     """A file of a folder, which is made if it is not there, and belongs to only one replica."""
     path = os.path.join(folder, name)
-    try:
+    with faults_of(folder):
         make_folder(folder)
+    try:
         file = os.open(path, os.O_RDWR | os.O_CREAT | os.O_CLOEXEC, 0o600)
         fcntl.flock(file, fcntl.LOCK_EX | fcntl.LOCK_NB)
     except OSError as error:
@@ -100,13 +112,21 @@ def sync_folder(folder: str) -> None:
         os.close(at)
 
 
-class Copy(Taken):
-    """A copy in a folder. It belongs to only one replica."""
+class Copy:
+    """The log up to a position, in a folder that belongs to only one replica."""
+
+    start = len(MAGIC)  # where the first record begins
 
     def __init__(self, folder: str) -> None:
-        super().__init__(folder)
-        self.path = os.path.join(folder, "log")
-        self.end = self.synced_end = len(MAGIC)
+        self.folder, self.path = folder, os.path.join(folder, "log")
+        self.cut_off = 0  # bytes that a crash left torn
+        self.position = self.place = 0
+        self.hashes: Dict[int, bytes] = {0: NOTHING}
+        self.numbers: Dict[bytes, int] = {}  # the last number of each writer
+        self.last_moment = 0
+        self.end = self.synced_end = len(MAGIC)  # where the records end, and those that are synced
+        self.synced = (0, 0)  # the position and the place up to which they are synced
+        self.grown = asyncio.Event()
         self.syncing = threading.Lock()
         self.failed: Optional[OSError] = None  # why a sync failed
         self.file = opened_alone(folder, "log")
@@ -164,17 +184,30 @@ class Copy(Taken):
         self.count(record.place, entry)
         self.end = record.end
 
+    def count(self, place: int, entry: Entry) -> None:
+        """Counts the next entry."""
+        self.position, self.place = self.position + 1, place
+        self.hashes[self.position] = chained(self.hashes[self.position - 1], entry.pairs)
+        self.hashes.pop(self.position - KEPT, None)
+        self.numbers[entry.writer] = entry.number
+        if entry.pairs:  # a writer's moments never fall, and those of an entry are near each other
+            self.last_moment = max(self.last_moment, MOMENT.unpack_from(entry.pairs)[0])
+
+    @property
+    def digest(self) -> bytes:
+        """The hash of the log up to the last position."""
+        return self.hashes[self.position]
+
+    async def reach(self, position: int) -> None:
+        """Waits until the log was taken up to a position."""
+        while self.position < position:
+            self.grown.clear()
+            await self.grown.wait()
+
     # what comes
 
-    def append(
-        self,
-        place: int,
-        entry: Entry,
-        data: bytes,
-        wanted: Optional[List[bytes]] = None,
-        is_given: bool = False,
-    ) -> None:
-        """Appends an entry. It is synced later."""
+    def append(self, place: int, entry: Entry, data: bytes, is_given: bool = False) -> None:
+        """Appends an entry, which the server was given or is to be given. It is synced later."""
         head = RECORD.pack(self.position + 1, place, len(data))
         head += SUM.pack(zlib.crc32(data, zlib.crc32(head)))
         end = self.end_of(data)
@@ -212,13 +245,11 @@ class Copy(Taken):
             self.synced_end, self.synced = end, mark
 
     def end_of(self, data: bytes) -> int:
+        """The place at which the record of the next entry would end."""
         return self.end + HEAD + len(data)
 
-    def behind(self, position: int) -> int:
-        assert not position  # a server without a file is given all of it
-        return len(MAGIC)
-
     def items(self, start: int) -> Iterator[Item]:
+        """The entries whose records begin there, and those after them."""
         is_read = False
         with faults_of(self.path):
             for record in self.records(start, self.end):

@@ -3,16 +3,15 @@
     tb-replica [OPTIONS] --log LOG --copy FOLDER -- COMMAND [WORD ..]
     tb-replica status --log LOG
     tb-replica trim --log LOG [--forget NAME ..]
-    tb-replica upgrade --log LOG
     tb-replica copy-from FOLDER --copy FOLDER
     tb-replica script --copy FOLDER
     tb-replica hashes --copy FOLDER [--at POSITION] -- COMMAND [WORD ..]
     tb-replica restore --log LOG --copy FOLDER
 
-LOG is etcd://HOST[:PORT],../NAME or postgresql://HOST[:PORT],../DATABASE/NAME. COMMAND is a server
-that keeps its ledger in memory, as `tb_script run 64`, or in a file, as `tbd follow FILE 64`, with
-the same number of clients and profile on each machine. FOLDER is this replica's copy of the log, or
-a checkpoint where the ledger is in a file. docs/use/CLUSTER.md says how to set three machines up.
+LOG is etcd://HOST[:PORT],../NAME or postgresql://HOST[:PORT],../DATABASE/NAME. COMMAND is `tbd
+follow CLIENTS_MAX [PROFILE]`, with the same number of clients and profile on each machine; of
+`hashes` it reads a script, as `tb_script run 64` does. FOLDER is this replica's copy of the log.
+docs/use/CLUSTER.md says how to set three machines up.
 It runs by uvloop where that is installed, unless TB_LOOP=asyncio is in its environment.
 
 Status 0: ended by SIGTERM or SIGINT, with all that was taken answered. Status 1: it cannot listen,
@@ -51,9 +50,8 @@ from .arguments import (
     test_command,
     whole,
 )
-from .backlog import Backlog, copied_checkpoint
 from .faults import Fault
-from .heads import head_of, kept_at
+from .heads import head_of
 from .lines import Ended, say, speak_as, speak_json
 from .local_copy import Copy, copied, kept
 from .log import Access, Log, LogFull, NoLog, opened, parts
@@ -64,8 +62,7 @@ from .restored import restore
 from .serving import listen_on, read_again, stop_signals, until
 from .shares import add_shares
 from .sockets import bound, make_room
-from .status import hashes, script, status, tell, trim, upgrade
-from .taken import Taken
+from .status import hashes, script, status, tell, trim
 from .tls import add_tls, test_tls
 
 PARTS = ("run", *early.PARTS)
@@ -76,8 +73,7 @@ async def serve(given: argparse.Namespace, log: Log) -> None:
     stopping = stop_signals()
     # it may wait for the engine, or for its clock, by files that are renewed meanwhile
     asyncio.get_running_loop().add_signal_handler(signal.SIGHUP, read_again, log.renew)
-    kind = Copy if kept_at(given.command) is None else Backlog
-    copy: Taken = kind(given.copy)
+    copy = Copy(given.copy)
     try:
         copy.scan()
         if copy.cut_off:
@@ -218,17 +214,12 @@ def _run_words(given: Sequence[str]) -> argparse.Namespace:
         default=[],
         help="do not compare what this writer had (after Diverged: docs/use/CLUSTER.md)",
     )
-    parser.add_argument(
-        "--positions",
-        action="store_true",
-        help="COMMAND takes entries with their positions, as tbd follow-memory 64 does",
-    )
     add_command(parser)
     found = parser.parse_args(given)
     _test_log(parser, found)
     test_command(parser, found)
     try:
-        head_of(found.command, found.positions)
+        head_of(found.command)
     except ValueError as error:
         parser.error(str(error))
     settle_places(found)
@@ -236,8 +227,8 @@ def _run_words(given: Sequence[str]) -> argparse.Namespace:
     return found
 
 
-def _log_words(part: str, given: Sequence[str]) -> argparse.Namespace:
-    parser = _parser(f"%(prog)s {part} --log LOG [OPTIONS]")
+def _status_words(given: Sequence[str]) -> argparse.Namespace:
+    parser = _parser("%(prog)s status --log LOG [OPTIONS]")
     add_log(parser)
     found = parser.parse_args(given)
     _test_log(parser, found)
@@ -296,9 +287,7 @@ def _hashes_words(given: Sequence[str]) -> argparse.Namespace:
 
 
 def _copy_from(given: argparse.Namespace) -> int:
-    position, place = copied_checkpoint(given.source, given.copy) or copied(
-        given.source, given.copy
-    )
+    position, place = copied(given.source, given.copy)
     tell(f"position {position} place {place}")
     return 0
 
@@ -310,9 +299,8 @@ def run(part: str, rest: List[str]) -> int:
         return script(_script_words(rest))
     if part == "hashes":
         return asyncio.run(hashes(_hashes_words(rest)))
-    if part in ("status", "upgrade"):
-        work = status if part == "status" else upgrade
-        return int(asyncio.run(_with_log(_log_words(part, rest), work)))
+    if part == "status":
+        return int(asyncio.run(_with_log(_status_words(rest), status)))
     if part == "trim":
         return int(asyncio.run(_with_log(_trim_words(rest), trim)))
     if part == "restore":

@@ -39,7 +39,7 @@ class Misfit(Doubt):
         except NotDeflated:
             return False
         except ValueError:
-            return not self.data or self.data.startswith(MAGICS[1:])
+            return not self.data or self.data.startswith(MAGICS)
         return False
 
 

@@ -14,19 +14,17 @@ from typing import Any, Awaitable, Callable, Deque, Dict, List, Optional, Set, T
 
 from tb_client.frames import asker
 
-from .backlog import Backlog
 from .connections import Abandon, Answered, nothing
-from .entries import MOMENT, PAIRS_MAX, WRITTEN, Claim, Entry, tested_askers
+from .entries import MOMENT, PAIRS_MAX, Claim, Entry, tested_askers
 from .faults import NO_SUCH_JSON, Fault
-from .follower import Follower, KeptFollower, PositionFollower
-from .heads import FORMATS, format_of, head_of, read_head, without_format, written_head
+from .follower import Follower
+from .heads import head_of, read_head, written_head
 from .lines import Ended, Told, say, say_of
-from .local_copy import kept
+from .local_copy import KEPT, Copy, Item, kept
 from .log import Log, LogFull, LogGone, NoLog, Report, Written
 from .moments import SECOND, Moments, running_ns
 from .nodes import Doubt, Mark, Misfit, Nodes, OtherLog
 from .process import came, cancelled, first
-from .taken import KEPT, Item, Taken
 
 LOOK = 0.25  # seconds after which it is looked for requests that wait too long
 ELSEWHERE = 2.0  # seconds for which what was written may be read late
@@ -81,8 +79,8 @@ class Sent:
 
     __slots__ = ("entry", "data", "pairs", "askers")
 
-    def __init__(self, entry: Entry, pairs: List[Pair], form: int = WRITTEN) -> None:
-        self.entry, self.data, self.pairs = entry, entry.to_bytes(form), pairs
+    def __init__(self, entry: Entry, pairs: List[Pair]) -> None:
+        self.entry, self.data, self.pairs = entry, entry.to_bytes(), pairs
         self.askers: Optional[List[bytes]] = None
 
     def wanted(self) -> List[bytes]:
@@ -111,10 +109,10 @@ def _askers_of(pairs: bytes, data: bytes) -> List[bytes]:
 class Replica:
     """One replica. It serves as a listener's command does."""
 
-    def __init__(self, given: argparse.Namespace, log: Log, copy: Taken, name: str) -> None:
+    def __init__(self, given: argparse.Namespace, log: Log, copy: Copy, name: str) -> None:
         self.given, self.log, self.copy, self.name = given, log, copy, name
         self.writer = os.urandom(16)  # another one at each start
-        self.follower = self._follower()
+        self.follower = Follower(given.command, given.slow, copy, self.tell)
         self.moments = Moments()
         self.stopping = self.follower.stopping
         self.queue: Deque[Pair] = collections.deque()
@@ -125,7 +123,6 @@ class Replica:
         self.sent: Dict[int, Sent] = {}  # own entries that were not read yet, by their number
         self.own: Dict[int, List[Pair]] = {}  # those that were read, by their position
         self.claims: Dict[int, Set[Tuple[bytes, bytes]]] = {}  # of replies that are not there yet
-        self.form = WRITTEN  # the format of entries that are written, which the log's head has
         self.nodes = Nodes(log)
         self.is_settled = True  # what was read was taken
         # up to where another writer had read the same log, and marks after that
@@ -155,12 +152,6 @@ class Replica:
         self.served, self.closed = asyncio.Event(), asyncio.Event()
         self.serving: Optional[asyncio.Future[None]] = None  # the server's run
 
-    def _follower(self) -> Follower:
-        given = (self.given.command, self.given.slow, self.copy, self.tell)
-        if isinstance(self.copy, Backlog):
-            return KeptFollower(*given, self.ask_again)
-        return PositionFollower(*given) if self.given.positions else Follower(*given)
-
     # requests
 
     def ask_soon(self, frame: bytes, answered: Answered) -> Abandon:
@@ -186,15 +177,6 @@ class Replica:
 
         self.ask_soon(frame, answered)
         return await reply
-
-    def ask_again(self, position: int) -> None:
-        """Asks again for own requests up to a position, whose replies the server's file has and the
-        server does not send any more: a client that asks again gets the first reply."""
-        missed = [it for at in sorted(self.own) if at <= position for it in self.own.pop(at)]
-        for pair in reversed([it for it in missed if not it.is_done]):
-            pair.since = time.monotonic()
-            self.queue.appendleft(pair)
-        self._go_on()
 
     async def begun(self) -> None:
         """Comes when the server has answered what the copy had at the start. Until then a client is
@@ -267,14 +249,12 @@ class Replica:
         self.number += 1
         log = Claim(self.copy.position, self.copy.digest)
         replies = Claim(*self.follower.state())
-        sent = Sent(Entry(self.writer, self.number, log, replies, pairs), taken, self.form)
+        sent = Sent(Entry(self.writer, self.number, log, replies, pairs), taken)
         self.sent[self.number] = sent
         return sent.data
 
     async def _write(self) -> None:
         """Appends what waits, one entry after another."""
-        if self.copy.position < self.start:
-            await self._append(self.number + 1, self._sent([], b""))
         loop = asyncio.get_running_loop()
         while True:
             await self._until_queued(1)
@@ -357,7 +337,6 @@ class Replica:
             async for it in self.log.read(self.copy.place):
                 if isinstance(it, Written):
                     await self._take_read(it)
-                    await self.copy.has_room.wait()
                 else:
                     self._hear(it)
         except LogGone as gone:
@@ -447,22 +426,14 @@ class Replica:
         wanted = sent.wanted() if sent else _askers_of(entry.pairs, written.data)
         self._compare(position, entry, written.data)
         if entry.writer == self.writer:
-            self._take_own(position, self.sent.pop(entry.number))
+            self.own[position] = self.sent.pop(entry.number).pairs
         self._enter(position, written, entry, wanted)
-
-    def _take_own(self, position: int, sent: Sent) -> None:
-        """Takes the pairs of an own entry. Raises `Diverged` if the server had an entry at its
-        position before it was written."""
-        if position <= self.start:
-            said = f"the log ends before position {position}, and the server has it up to "
-            raise Fault("Diverged", f"{said}{self.start}; keep all files")
-        self.own[position] = sent.pairs
 
     def _enter(self, position: int, written: Written, entry: Entry, wanted: List[bytes]) -> None:
         """Passes an entry to the server, and copies it while the server works."""
         end = self.copy.end_of(written.data)
         is_given = self.follower.give(Item(position, entry.pairs, wanted, end))
-        self.copy.append(written.place, entry, written.data, wanted, is_given)
+        self.copy.append(written.place, entry, written.data, is_given)
         if position % MARKED == 0:
             self.marks.append(Mark(position, written.place, self.copy.digest))
 
@@ -477,7 +448,7 @@ class Replica:
         if log.position >= position or replies.position >= position:
             said = f"writer {writer} has more of the log than there is; keep all files"
             raise Misfit(said, data, "Diverged")
-        if log.position > position - KEPT and log.position >= self.copy.first:
+        if log.position > position - KEPT:
             if self.copy.hashes.get(log.position) != log.digest:
                 raise OtherLog(log.position, entry.writer, "has another log")
             if entry.writer != self.writer:
@@ -576,8 +547,6 @@ class Replica:
             "writer": self.writer.hex(),
             "address": self.given.shown,
             "moment": self.copy.last_moment,
-            "reads": FORMATS[-1],
-            "writes": self.form,
             "heard": self.heard,
             **({"hello": self.hello} if not self.is_met else {}),
             **({"doubts": sorted(self.doubts)} if self.doubts else {}),
@@ -595,7 +564,6 @@ class Replica:
     async def _report(self) -> None:
         while True:
             is_asked = await came(self.reporting, REPORT)
-            await self._follow_head()
             if is_asked or self.reported != self.copy.synced:
                 self.reporting.clear()
                 await self.report()
@@ -655,25 +623,13 @@ class Replica:
     async def _settle_head(self) -> None:
         """Makes the log's head, or raises `OtherRules` if another one is there. The copy keeps it,
         because the head has an id: so a copy goes on only with its own log."""
-        wanted = head_of(self.given.command, self.given.positions)
+        wanted = head_of(self.given.command)
         found = await self.log.head(written_head({**wanted, "id": os.urandom(16).hex()}))
         said, head = f"the log has {found.decode(errors='replace')}, and", read_head(found)
-        form = format_of(found)
-        if form is None or without_format({**head, "id": 0}) != without_format({**wanted, "id": 0}):
+        if {**head, "id": 0} != {**wanted, "id": 0}:
             raise Fault("OtherRules", f"{said} this replica {json.dumps(wanted, sort_keys=True)}")
-        mine = read_head(kept(self.copy.folder, "head", found))
-        if without_format(mine) != without_format(head):
+        if read_head(kept(self.copy.folder, "head", found)) != head:
             raise Fault("OtherRules", f"{said} {self.copy.folder} is a copy of another log")
-        self.form = form
-
-    async def _follow_head(self) -> None:
-        """Writes entries in the format that the log's head has by now."""
-        if self.form < WRITTEN:
-            with contextlib.suppress(NoLog, LogFull):
-                form = format_of(await self.log.head(None))
-                if form is not None and form != self.form:
-                    self.form = form
-                    say(f"entries are written in format {form} from now on")
 
     async def _test_last_moment(self) -> None:
         """Raises `Ahead` if the log's last moment is far ahead of the clock."""
@@ -773,23 +729,13 @@ class Replica:
 
     async def _begin(self, tasks: List[asyncio.Future[Any]]) -> None:
         """Begins what it does, one after another, as long as nothing has ended."""
-        if isinstance(self.follower, KeptFollower):
-            opening = asyncio.ensure_future(self._open(self.follower))
-            if not await self._comes_before(opening, self._serve(tasks)):
-                return
         tasks.append(asyncio.ensure_future(self._read()))
         if not await self._comes_before(asyncio.ensure_future(self._meet()), tasks):
             return
         parts = (self._write, self._watch_the_wait, self._compare_later, self._report, self._sync)
         tasks += [asyncio.ensure_future(it()) for it in (*parts, self._test_where_doubted)]
-        self._serve(tasks)
-
-    def _serve(self, tasks: List[asyncio.Future[Any]]) -> List[asyncio.Future[Any]]:
-        """Begins the server's run, if it has not begun."""
-        if self.serving is None:
-            self.serving = asyncio.ensure_future(self.follower.run())
-            tasks.append(self.serving)
-        return tasks
+        self.serving = asyncio.ensure_future(self.follower.run())
+        tasks.append(self.serving)
 
     async def _comes_before(
         self, awaited: asyncio.Future[None], tasks: List[asyncio.Future[Any]]
@@ -802,22 +748,6 @@ class Replica:
             return awaited.done()
         finally:
             awaited.cancel()
-
-    async def _open(self, follower: KeptFollower) -> None:
-        """Settles from where on the log is read, by what the server's file has."""
-        assert isinstance(self.copy, Backlog)
-        await follower.opened.wait()
-        self.start = self.copy.has = follower.has
-        if self.start < self.copy.position:
-            try:
-                position, _ = await self.log.trimmed()
-            except NoLog as none:
-                raise Fault("NoLog", str(none)) from None
-            if position:
-                said = f"the log begins after position {position}, and the ledger's file has "
-                raise Fault("Trimmed", f"{said}{self.start}: take a peer's")
-            self.copy.begin_again()
-        follower.is_settled.set()
 
     async def _end(self, tasks: List[asyncio.Future[Any]]) -> None:
         """Ends with what the first task that ended reports."""

@@ -4,7 +4,7 @@ from __future__ import annotations
 import argparse
 import os
 
-from .entries import NOTHING, WRITTEN, Claim, Entry, chained
+from .entries import NOTHING, Claim, Entry, chained
 from .heads import read_head, written_head
 from .lines import Ended
 from .local_copy import all_records_of, head_in
@@ -15,7 +15,7 @@ from .status import tell
 async def restore(given: argparse.Namespace, log: Log) -> int:
     """Makes a new log with the entries of a copy. No replica takes a log in which this has not come
     to its end: its head has other rules until then."""
-    after = {**read_head(head_in(given.copy)), "format": WRITTEN, "id": os.urandom(16).hex()}
+    after = {**read_head(head_in(given.copy)), "id": os.urandom(16).hex()}
     before = written_head({**after, "restored": False})
     if await log.head(before) != before or await log.reports():
         raise Ended(f"there is a log at {given.log}: give the new one another name", 1)

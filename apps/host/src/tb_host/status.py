@@ -13,9 +13,8 @@ from typing import Any, BinaryIO, Dict, Iterator, List
 from tb_client.frames import asker, reply_fault, reply_length
 from tb_client.layout import HEADER
 
-from .entries import NOTHING, WRITTEN, Entry, chained, cut
+from .entries import NOTHING, Entry, chained, cut
 from .faults import NO_SUCH_JSON, Fault
-from .heads import read_head, written_head
 from .lines import Ended
 from .local_copy import all_records_of
 from .log import Log
@@ -24,8 +23,8 @@ from .pipes import Process
 from .process import LAST_WORDS, end_of, exited, kill, last_line, started, tail
 
 # of a report
-NUMBERS, TEXTS = ("position", "place", "answered", "clock"), ("replies", "writer", "address")
-LATER = ("reads", "writes", "moment")  # numbers that replicas of an older version do not report
+NUMBERS = ("position", "place", "answered", "clock", "moment")
+TEXTS = ("replies", "writer", "address")
 
 
 def tell(text: str) -> None:
@@ -46,9 +45,8 @@ async def _reports(log: Log) -> Dict[str, Dict[str, Any]]:
             found[name] = said = dict(json.loads(data))
         except NO_SUCH_JSON:
             said = {}
-        is_one = all(isinstance(said.get(field), int) for field in NUMBERS)
-        is_one = is_one and all(isinstance(said.get(field, 0), int) for field in LATER)
-        is_one = is_one and all(0 <= said.get(field, 0) < 1 << 64 for field in (*NUMBERS, *LATER))
+        numbers = [said.get(field) for field in NUMBERS]
+        is_one = all(isinstance(it, int) and 0 <= it < 1 << 64 for it in numbers)
         rotten = said.get("rotten", [])
         is_one = is_one and isinstance(rotten, list) and all(isinstance(it, str) for it in rotten)
         texts = [said.get("fault", ""), *map(said.get, TEXTS)]
@@ -63,7 +61,7 @@ async def status(given: argparse.Namespace, log: Log) -> int:
     position, place = await log.trimmed()
     reports, full = await _reports(log), await log.full()
     tell(f"log {given.log} trimmed to position {position} place {place}")
-    last = max((it.get("moment", 0) for it in reports.values()), default=0)
+    last = max((it["moment"] for it in reports.values()), default=0)
     if last > time.time_ns():
         tell(f"the log is {(last - time.time_ns()) / SECOND:.0f} s ahead of this computer's clock")
     for name, it in reports.items():
@@ -71,7 +69,6 @@ async def status(given: argparse.Namespace, log: Log) -> int:
         words = [f"replica {name} at {it['address']}", f"position {it['position']}"]
         words += [f"answered {it['answered']} hash {it['replies'][:16]}"]
         words += [f"writer {it['writer']}", f"{age:.0f} s ago"]
-        words += [f"reads format {it.get('reads', 1)}", f"writes {it.get('writes', 1)}"]
         words += [f"{node} is rotten" for node in it.get("rotten", ())]
         tell(" ".join(words + ([it["fault"]] if "fault" in it else [])))
     _compare(reports)
@@ -109,25 +106,6 @@ async def trim(given: argparse.Namespace, log: Log) -> int:
         return 0
     for line in await log.trim(*to):
         tell(line)
-    return 0
-
-
-async def upgrade(given: argparse.Namespace, log: Log) -> int:
-    """Has entries written in the newest format, once all listed replicas read it."""
-    head = await log.head(None)
-    said = read_head(head)
-    if "format" not in said:
-        raise Ended(f"there is no log at {given.log}", 1)
-    if said["format"] == WRITTEN:
-        tell(f"entries are written in format {WRITTEN} already")
-        return 0
-    old = [name for name, it in (await _reports(log)).items() if it.get("reads", 1) < WRITTEN]
-    if old:
-        raise Ended(f"{', '.join(old)} read no format {WRITTEN}: upgrade or forget them first", 1)
-    after = written_head({**said, "format": WRITTEN})
-    if await log.change_head(head, after) != after:
-        raise Ended("the log's head was changed meanwhile: try again", 1)
-    tell(f"entries are written in format {WRITTEN} from now on")
     return 0
 
 
