@@ -9,8 +9,10 @@ import sys
 import pytest
 
 ROOT = pathlib.Path(__file__).resolve().parent.parent
-for folder in ("tools", "clients/python/src", "apps/host/src"):
+for folder in ("tools", "tools/testing", "clients/python/src", "apps/host/src"):
     sys.path.append(str(ROOT / folder))
+
+pytest_plugins = ["marks"]
 
 
 def found(name):
@@ -54,7 +56,7 @@ def ran(words, given=b"", seconds=120, **how):
 
 def pytest_addoption(parser):
     parser.addoption("--storms", type=int, default=3, help="how often each storm is run")
-    parser.addoption("--kills", type=int, help="of tbd (1000), and of tbd follow (20)")
+    parser.addoption("--kills", type=int, help="of tbd (1000)")
     parser.addoption("--cuts", type=int, default=1000, help="last bytes at which a file is cut")
     parser.addoption("--flips", type=int, default=10_000, help="bits that are changed in a file")
     parser.addoption("--frames", type=int, default=20_000, help="frames that are damaged")

@@ -37,7 +37,10 @@ ASKER, PROBER = 999_001, 999_002
 STATES = {0: "voided", 33: "posted", 34: "voided", 35: "expired"}
 INTEGER_END = 1 << 63
 
-pytestmark = pytest.mark.slow
+
+def slow(seconds):
+    """The mark of what loads thousands of events through both programs."""
+    return pytest.mark.slow(reason="thousands of events by both programs", seconds=seconds)
 
 
 def held(value):
@@ -246,13 +249,20 @@ def programs(program):
     return {it.upper(): str(program(it)) for it in ("tbd", "tbs")}
 
 
-@pytest.mark.parametrize("name", list(LOADS))
-def test_load(programs, tmp_path, name):
+@pytest.mark.parametrize(
+    "name, size",
+    [
+        ("failing", 300),
+        ("expiring", 300),
+        *(pytest.param(it, SIZE, marks=slow(15)) for it in LOADS),
+    ],
+)
+def test_load(programs, tmp_path, name, size):
     """The tables before and after the probes of its pending transfers, and the check of both."""
     made, profile = LOADS[name]
     path = str(tmp_path / "ledger.sqlite")
     ledger = Ledger(str(tmp_path / "ledger.tbk"), programs, profile)
-    script = made(SIZE, 5)
+    script = made(size, 5)
     ledger.serve(script)
     ids = ids_of(script, Operation.create_transfers)
     transfers = ledger.look_up(ASKER, Operation.lookup_transfers, ids)
@@ -318,6 +328,7 @@ def reached(path):
         return 0
 
 
+@slow(30)
 def test_kills(programs, tmp_path):
     """Loads that are killed and run again make the tables of one that was not."""
     ledger, rng = Ledger(str(tmp_path / "ledger.tbk"), programs), random.Random(3)
@@ -337,6 +348,7 @@ def test_kills(programs, tmp_path):
     assert amid
 
 
+@slow(60)
 def test_follow(programs, tmp_path):
     """A file that is followed while a server adds to it; the load is killed meanwhile."""
     path, whole = str(tmp_path / "live.sqlite"), str(tmp_path / "whole.sqlite")
@@ -374,7 +386,8 @@ def feed(ledger, script):
             time.sleep(0.1)
 
 
-@pytest.mark.parametrize("is_wrong", (False, True))
+@slow(20)
+@pytest.mark.parametrize("is_wrong", (False, True), ids=("right", "wrong"))
 def test_server(programs, tmp_path, is_wrong):
     """The accounts of a server on a socket are those of the tables, at the lookup's entry, while
     another client moves money."""
@@ -394,7 +407,7 @@ def checked_by_server(ledger, path, socket, is_wrong):
     """Its result, and how many transfers came meanwhile."""
     code = "from tb_sql import checking, commands; import sys; "
     code += "checking.checked = lambda *_: ''; sys.exit(commands.main())"
-    listen = [PYTHON, "-B", str(ROOT / "apps" / "host" / "tb-listen")]
+    listen = [str(ROOT / "server" / "out" / "tb-listen")]
     listener = subprocess.Popen([*listen, "--unix", socket, "--", *ledger.words])
     words = [PYTHON, "-B", "-c", code] if is_wrong else TB_SQL
     words = [*words, "check", path, "--server", socket, "--ledger", ledger.path]

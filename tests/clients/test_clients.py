@@ -77,7 +77,6 @@ def money(pytestconfig, tbd):
     return script("money.py", "--server", shlex.join([str(tbd)]), "--kills", kills)
 
 
-@pytest.mark.quick
 def test_what_a_late_command_started_is_ended(tmp_path):
     words = ["sh", "-c", "sleep 600 & echo $! > started; wait"]
     assert ran(words, tmp_path, seconds=1) == (None, "no end after 1 seconds")
@@ -87,48 +86,64 @@ def test_what_a_late_command_started_is_ended(tmp_path):
     assert not is_running(started)
 
 
-@pytest.mark.quick
 def test_the_status_and_the_output_of_a_command(tmp_path):
     assert ran(["sh", "-c", "echo said; echo told >&2; exit 3"], tmp_path) == (3, "said\ntold\n")
 
 
-@pytest.mark.quick
 def test_wrong_clients_can_be_made():
     assert passes(script("wrong_clients.py", "--texts"), ROOT)
 
 
-@pytest.mark.slow
+@pytest.mark.slow(reason="builds each client, and runs its own tests once more", seconds=120)
 @of_each
 def test_own_tests(folder):
     built(folder)
     assert all(passes(words, folder, **PATHS) for words in about(folder)["tests"])
 
 
-@pytest.mark.slow
+@pytest.mark.slow(reason="the whole kit over each client", seconds=120)
 @of_each
 def test_the_kit(folder):
     assert passes(script("kit.py", "--", *built(folder)), folder)
 
 
-@pytest.mark.slow
+@pytest.mark.slow(reason="kills client, server and listener", seconds=120)
 @of_each
 def test_money_amid_kills(folder, money):
     assert passes([*money, "--", *built(folder)], folder)
 
 
-@pytest.mark.slow
+@pytest.mark.slow(reason="kills client, server and listener", seconds=120)
 @of_each
 def test_money_of_a_shared_client_amid_kills(folder, money):
     assert passes([*money, "--shared", "--", *built(folder)], folder)
 
 
-@pytest.mark.slow
+@pytest.mark.slow(reason="kills a program and its child 200 times", seconds=400)
+def test_a_file_that_is_opened_in_go_amid_kills(tbd):
+    """That of Python is in clients/python/tests."""
+    words = [
+        "go",
+        "test",
+        "-count=1",
+        "-timeout",
+        "1h",
+        "-run",
+        "^TestKills$",
+        ".",
+        "-kills",
+        "200",
+    ]
+    assert passes(words, ROOT / "clients/go", TBD=str(tbd))
+
+
+@pytest.mark.slow(reason="traces each client's calls by strace", seconds=30)
 @of_each
 def test_a_saved_session_is_durable(folder):
     assert passes(script("durability.py", "--", *built(folder)), folder)
 
 
-@pytest.mark.slow
+@pytest.mark.slow(reason="runs the kit over each wrong client", seconds=600)
 @of_each
 def test_wrong_clients_are_caught(folder):
     built(folder)

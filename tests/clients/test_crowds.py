@@ -81,30 +81,28 @@ def wrong_client(tmp_path):
     return made
 
 
-@pytest.mark.quick
 def test_a_few_calls_at_once_in_python(seeds):
     words = [*crowds(FEW, seeds["seed"]), *built(PYTHON)]
     assert played(words, PYTHON)[0] == 0
 
 
-@pytest.mark.quick
 def test_a_few_calls_of_shared_clients(seeds):
     assert played([CALLS, "--count", FEW, "--seed", seeds["seed"]], PYTHON)[0] == 0
 
 
-@pytest.mark.slow
+@pytest.mark.slow(reason="200 schedules of calls at once", seconds=120)
 @pytest.mark.parametrize("folder", CLIENTS, ids=lambda it: it.name)
 def test_calls_at_once(folder, seeds):
     assert played([*crowds(seeds["drawn"], seeds["seed"]), *built(folder)], folder)[0] == 0
 
 
-@pytest.mark.slow
+@pytest.mark.slow(reason="200 schedules of calls at once", seconds=60)
 def test_calls_of_shared_clients(seeds):
     words = [CALLS, "--count", seeds["drawn"], "--seed", seeds["seed"]]
     assert played(words, PYTHON)[0] == 0
 
 
-@pytest.mark.slow
+@pytest.mark.slow(reason="draws schedules until a wrong client is caught", seconds=60)
 @pytest.mark.parametrize("name", WRONG_CALLS)
 def test_wrong_shared_clients_are_caught(name, wrong_client, seeds):
     folder = wrong_client(WRONG_CALLS[name])
@@ -112,14 +110,14 @@ def test_wrong_shared_clients_are_caught(name, wrong_client, seeds):
     assert is_caught(words, folder)
 
 
-@pytest.mark.slow
+@pytest.mark.slow(reason="draws schedules until a wrong client is caught", seconds=60)
 @pytest.mark.parametrize("name", WRONG_CROWDS)
 def test_wrong_sharing_is_caught(name, wrong_client, seeds):
     words = [*crowds(MANY, seeds["seed"], "--first"), *RUNNER]
     assert is_caught(words, wrong_client(WRONG[name]))
 
 
-@pytest.mark.slow
+@pytest.mark.slow(reason="draws schedules until a wrong client is caught", seconds=60)
 @pytest.mark.parametrize("name", WRONG_SESSIONS)
 def test_wrong_sessions_are_caught(name, wrong_client, seeds):
     drawn = ["--first", "--seed", seeds["seed"], "--drawn", MANY]

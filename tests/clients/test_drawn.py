@@ -12,7 +12,7 @@ from ..conftest import ROOT
 from .conftest import CLIENTS, SECONDS, built
 
 KIT = ROOT / "clients/conformance/kit.py"
-pytestmark = pytest.mark.slow
+pytestmark = pytest.mark.slow(reason="200 schedules of each client", seconds=60)
 
 
 @pytest.mark.parametrize("folder", CLIENTS, ids=lambda it: it.name)

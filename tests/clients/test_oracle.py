@@ -10,13 +10,12 @@ import sys
 import pytest
 
 from ..conftest import ROOT, ran
-from ..programs.test_refusals import Refuser
+from ..programs.refusing import Refuser
 
 sys.path.append(str(ROOT / "clients/conformance"))
 
 from made.oracle import ANSWER, CALL, RECEIVE, STEP, Fields, Outcome, Phase  # noqa: E402
 
-pytestmark = pytest.mark.quick
 CLIENT = 2**64 + 7
 SESSION = 2**32 + 3
 LAST = 2**32 - 1

@@ -69,11 +69,11 @@ def replies_to(script, cluster):
 def replies_of(cluster, at):
     with open(cluster.out(at), "rb") as file:
         data = file.read()
-    return b"".join(frames_of(data)) if cluster.follows else data
+    return b"".join(frames_of(data))
 
 
 def frames_of(data):
-    """The replies of `tbd follow-memory` without their places and the hashes between them."""
+    """The replies of `tbd follow` without their places and the hashes between them."""
     at = 0
     while at < len(data):
         if data[at] == 2:

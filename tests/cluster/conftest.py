@@ -24,10 +24,10 @@ def cluster_of(program):
     """Makes clusters that run, and end with the test. `wrong` is a kind of wrong_replica.py."""
     with contextlib.ExitStack() as stack:
 
-        def made(kind=Cluster, wrong=None, server="tb_script", **options):
+        def made(kind=Cluster, wrong=None, **options):
             folder = stack.enter_context(tempfile.TemporaryDirectory(prefix="cluster-"))
             words = [*WAY, wrong] if wrong else None
-            it = kind(folder, server=server, program=program, replica=words, **options)
+            it = kind(folder, program=program, replica=words, **options)
             stack.callback(it.end)
             it.start()
             return it

@@ -2,7 +2,7 @@
 
 import statistics
 
-from . import agreement, kept
+from . import agreement
 from .faults import Faults, last
 
 NO_LOG = 20  # the status of a replica that reached no engine at its start
@@ -45,18 +45,6 @@ def moved(cluster, traffic):
     assert traffic.looked, "nothing was looked up"
     posted = traffic.posted()
     assert posted == traffic.made > 0, f"{traffic.made} acknowledged, {posted} posted"
-
-
-def agreed_in_files(cluster, traffic):
-    """The same if the servers keep their ledgers in files: their hashes are those of the agreed
-    script, and of what a fresh server replies."""
-    moved(cluster, traffic)
-    kept.settled(cluster)
-    ended = [it.end() for it in cluster.replicas]
-    assert not any(ended), f"replicas end with {ended}"
-    wanted = kept.expected(cluster)
-    found = [kept.standing(cluster, at) for at in range(cluster.count)]
-    assert all(it == wanted for it in found), found
 
 
 def waits(faults, traffic):

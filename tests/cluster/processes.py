@@ -146,17 +146,15 @@ class Machines:
         self,
         folder,
         program=found,
-        server="tb_script",
         clients_max=64,
         replica=None,
         count=3,
         keeps_replies=True,
         sync=0.0,
     ):
-        """`server` is tb_script, follow-memory or tbd, and `sync` by how many seconds each sync of
-        the engine takes longer."""
+        """`sync` is by how many seconds each sync of the engine takes longer."""
         self.folder, self.count, self.clients_max = folder, count, clients_max
-        self.program, self.server, self.sync = program, server, sync
+        self.program, self.sync = program, sync
         self.keeps_replies = keeps_replies
         self.words = replica or [f"{HOST}/tb-replica"]
         self.tcp = free_ports(count)
@@ -165,38 +163,23 @@ class Machines:
     def replica(self, at):
         return Process(f"replica{at}", self.replica_words(at, self.words), self.folder)
 
-    @property
-    def follows(self):
-        return self.server == "follow-memory"
-
-    @property
-    def keeps(self):
-        """The server, if it keeps its ledger in a file."""
-        return str(self.program("tbd")) if self.server == "tbd" else None
-
     def copy(self, at):
         return f"{self.folder}/copy{at}"
 
     def out(self, at):
         return f"{self.folder}/replies{at}"
 
-    def file(self, at):
-        return f"{self.folder}/ledger{at}.tbl"
-
     def command(self, at):
         """The server of a replica, and its words."""
-        if self.keeps:
-            return [self.keeps, "follow", self.file(at), str(self.clients_max)]
-        program = [str(self.program("tbd" if self.follows else self.server))]
+        program = [str(self.program("tbd"))]
         if self.keeps_replies:
             program = ["bash", "-c", KEEPING, "bash", *program, self.out(at)]
-        return [*program, self.server if self.follows else "run", str(self.clients_max)]
+        return [*program, "follow", str(self.clients_max)]
 
     def replica_words(self, at, words, more=()):
         given = ["--log", self.log(at), "--copy", self.copy(at), "--name", f"r{at}", *more]
         given += ["--tcp", f"127.0.0.1:{self.tcp[at]}", "--connections", "200"]
-        given += ["--positions", "--"] if self.follows else ["--"]
-        return [PYTHON, "-B", *words, *given, *self.command(at)]
+        return [PYTHON, "-B", *words, *given, "--", *self.command(at)]
 
     def start(self):
         self.start_engine()

@@ -90,8 +90,8 @@ def sync_alone(folder, count=500):
 
 
 def compared(cluster, seconds, turns, tbd):
-    """Lines of the rates of a replica, of the listener and of only the engine, taken in turns, and
-    the ratios of the first to the others."""
+    """A line of each load with the rates of a replica, of the listener and of only the engine,
+    taken in turns, and the ratios of the first to the others; and the ratio to the listener."""
     for name, clients, batch in LOADS:
         with listener(tbd, cluster.sync) as port:
             found = [], [], []
@@ -99,8 +99,8 @@ def compared(cluster, seconds, turns, tbd):
                 found[0].append(loaded(cluster.tcp[0], clients, batch, seconds))
                 found[1].append(loaded(port, clients, batch, seconds))
                 found[2].append(engine_alone(cluster, clients, batch, seconds / 3))
-        yield line(name, *([statistics.median(it) for it in zip(*rows)] for rows in found))
-    yield f"a sync of the disk alone {sync_alone(cluster.folder):.2f} ms"
+        medians = [[statistics.median(it) for it in zip(*rows)] for rows in found]
+        yield line(name, *medians), medians[0][0] / medians[1][0]
 
 
 def line(name, mine, other, engine):

@@ -7,12 +7,15 @@ has only those kinds, and `--seed` another order.
 
 import pytest
 
-from .ends import agreed, agreed_in_files, restarted, waits
+from .ends import agreed, restarted, waits
 from .faults import Faults
 from .processes import until
 from .traffic import Traffic
 
-pytestmark = [pytest.mark.slow, pytest.mark.needs_etcd]
+pytestmark = [
+    pytest.mark.slow(reason="clusters whose machines, disks and clocks fail", seconds=180),
+    pytest.mark.needs_etcd,
+]
 CLIENTS = 24
 RARE = 20, 3  # how many of a number of faults are of disks and clocks
 # the faults that show a wrong replica soonest
@@ -63,25 +66,6 @@ def test_faults(cluster_of, given, show):
         f"{len(faults.done)} faults, {rare} of disks and clocks; {traffic.made} transfers, "
         f"{traffic.looked} lookups"
     )
-
-
-def test_faults_with_positions(cluster_of, given):
-    """The server takes entries with their positions."""
-    cluster = cluster_of(server="follow-memory")
-    traffic = moving(cluster)
-    Faults(cluster, given.seed).some(13)
-    agreed(cluster, traffic)
-
-
-def test_faults_over_files(cluster_of, given, show):
-    """The servers keep their ledgers in files."""
-    cluster = cluster_of(server="tbd")
-    traffic = moving(cluster, 12, 0.05)
-    faults = Faults(cluster, given.seed)
-    faults.some(13, given.between)
-    for line in waits(faults, traffic):
-        show(line)
-    agreed_in_files(cluster, traffic)
 
 
 def test_evictions(cluster_of, given, show):

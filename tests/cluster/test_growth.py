@@ -13,12 +13,14 @@ import pytest
 from .ends import agreed
 from .faults import last
 from .filled import fill
-from .processes import HOST, free_ports, until
+from .processes import free_ports, until
 from .traffic import Traffic, posted_at
 
-pytestmark = [pytest.mark.slow, pytest.mark.needs_etcd]
+pytestmark = [
+    pytest.mark.slow(reason="clusters that grow under load", seconds=120),
+    pytest.mark.needs_etcd,
+]
 REPORT = 11  # seconds in which a replica has reported
-OTHER_RULES = 23
 
 
 class Timed:
@@ -151,41 +153,3 @@ def test_replaced_machine(cluster_of, show):
     status, said = cluster.part("status", "--log", cluster.log())
     assert status == 0 and "replica r2b" in said and "replica r2 " not in said, said
     agreed(cluster, traffic, is_trimmed=True)
-
-
-def test_upgrade_one_at_a_time(cluster_of, show):
-    """Replicas of a version that knows only entries of format 1 are replaced one after another."""
-    cluster = cluster_of(wrong="old_format")
-    traffic = moving(cluster)
-    old = [it.words for it in cluster.replicas]
-    for at in range(cluster.count):
-        time.sleep(REPORT)
-        status, said = cluster.part("upgrade", "--log", cluster.log())
-        assert status == 1 and "read no format 3" in said, said
-        timed = Timed(show, traffic)
-        it = cluster.replicas[at]
-        assert it.end() == 0, last(it)
-        it.words = cluster.replica_words(at, [f"{HOST}/tb-replica"])
-        it.start()
-        cluster.until_listens(at)
-        timed.done(f"replica {at} has the new version")
-    time.sleep(REPORT)
-    status, said = cluster.part("upgrade", "--log", cluster.log())
-    assert status == 0, said
-    until(lambda: cluster.script()[-1].startswith(b"TBENTRY2"), 30, "entries of format 2")
-    formats = {it[:8] for it in cluster.script()}
-    assert formats == {b"TBENTRY1", b"TBENTRY2"}, formats
-    refused_after_the_upgrade(cluster, old[1])
-    agreed(cluster, traffic)
-
-
-def refused_after_the_upgrade(cluster, words):
-    """A replica of the old version does not start any more."""
-    it, right = cluster.replicas[1], cluster.replicas[1].words
-    it.end()
-    it.words = words
-    it.start()
-    assert it.process.wait(60) == OTHER_RULES, last(it)
-    it.words = right
-    it.start()
-    cluster.until_listens(1)

@@ -1,20 +1,19 @@
 """The log and its copies: trimmed amid faults, full, torn, damaged, behind TLS, in PostgreSQL."""
 
 import os
-import shutil
 import signal
 import time
 
 import pytest
 
-from . import agreement, kept, rot
+from . import agreement, rot
 from .closed import Closed
 from .ends import agreed
 from .faults import Faults, last
 from .processes import Postgres, until
 from .traffic import Traffic
 
-pytestmark = pytest.mark.slow
+pytestmark = pytest.mark.slow(reason="clusters over etcd and PostgreSQL", seconds=120)
 REPORT = 11  # seconds in which a replica has reported
 TRIMMED, DAMAGED, FULL = 21, 24, 26
 
@@ -202,71 +201,3 @@ def rows_without_a_standby(cluster, traffic):
     standby.signal_server(signal.SIGCONT)
     assert shown > rows, "no row without a standby is visible"
     assert answered == 0, f"{answered} of them are answered"
-
-
-@pytest.mark.needs_etcd
-def test_ledgers_in_files(cluster_of):
-    """Starts, trims and files that are refused, if servers keep their ledgers in files."""
-    cluster = cluster_of(server="tbd")
-    Traffic(cluster.tcp, 1).open_accounts()
-    moved_while(cluster, cluster.tcp, a_replica_comes_late)
-    moved_while(cluster, cluster.tcp[:2], the_log_is_trimmed)
-    kept.settled(cluster)
-    ended = [it.end() for it in cluster.replicas]
-    assert not any(ended), ended
-    assert len({kept.standing(cluster, at) for at in range(cluster.count)}) == 1
-    files_are_refused(cluster)
-
-
-def moved_while(cluster, ports, work):
-    """Money moves once while something is done."""
-    traffic = Traffic(ports, 6, pause=0.05, spread=True)
-    before = traffic.posted()
-    traffic.start()
-    work(cluster, traffic)
-    left = traffic.end()
-    assert not left and not traffic.wrong, (left, traffic.wrong[:3])
-    assert traffic.posted() - before == traffic.made > 0
-
-
-def a_replica_comes_late(cluster, traffic):
-    late = cluster.replicas[2]
-    late.kill()
-    before = traffic.made
-    until(lambda: traffic.made > before + 200, 60, "transfers go on")
-    late.start()
-    cluster.until_listens(2)
-
-
-def the_log_is_trimmed(cluster, traffic):
-    """A replica comes back after a trim, and takes a peer's file."""
-    late = cluster.replicas[2]
-    late.kill()
-    time.sleep(REPORT)
-    words = ("trim", "--log", cluster.log(), "--forget", "r2")
-    status, said = cluster.part(*words, seconds=120)
-    assert status == 0 and "are removed" in said, said
-    late.start()
-    assert late.process.wait(60) == TRIMMED, last(late)
-    status, said = kept.replace(cluster, 2, 0)
-    assert status == 0, said
-    late.start()
-    cluster.until_listens(2)
-    for at in (0, 1):
-        cluster.replicas[at].kill()
-        cluster.replicas[at].start()
-        cluster.until_listens(at)
-
-
-def files_are_refused(cluster):
-    it, words = cluster.replicas[1], cluster.replicas[1].words
-    at = words.index("--copy")
-    words = [*words[:at], "--alone", *words[at:]]  # no other one has this log
-    same = str(cluster.clients_max)
-    for name, clients, status in (("ahead", same, 22), ("other", "8", 23), ("rot", same, DAMAGED)):
-        shutil.rmtree(cluster.copy(1))
-        if name == "rot":
-            rot.flip(cluster.file(1), 200)
-        it.words = [word.replace("/bank", f"/{name}") for word in words[:-1]] + [clients]
-        it.start()
-        assert it.process.wait(60) == status, f"{name}: {last(it)}"

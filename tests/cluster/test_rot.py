@@ -14,7 +14,7 @@ from .faults import last
 from .processes import Postgres, until
 from .traffic import Traffic
 
-pytestmark = pytest.mark.slow
+pytestmark = pytest.mark.slow(reason="clusters whose disks rot", seconds=120)
 DAMAGED, ROTTEN = 24, 28
 
 

@@ -11,7 +11,10 @@ from .faults import last
 from .processes import until
 from .traffic import Traffic
 
-pytestmark = [pytest.mark.slow, pytest.mark.needs_etcd]
+pytestmark = [
+    pytest.mark.slow(reason="clusters that start under faults", seconds=60),
+    pytest.mark.needs_etcd,
+]
 REPORT = 11  # seconds in which a replica has reported
 
 

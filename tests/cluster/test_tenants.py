@@ -15,7 +15,7 @@ from .processes import HERE, PYTHON
 from .rates import listener
 from .tenants import KINDS
 
-pytestmark = pytest.mark.slow
+pytestmark = pytest.mark.slow(reason="loads a listener for seconds by greedy tenants", seconds=20)
 HONEST = [f"honest:127.0.0.{it}" for it in (2, 3, 4)]
 GREEDY = [f"{kind}:127.0.1.{at}" for at, kind in enumerate(KINDS, 1)]
 SECONDS = 4

@@ -6,8 +6,7 @@
 executes_early: a request is executed before the log has it. replies_early: a transfer is answered
 before the log has it, and appended a little later, so that a kill finds some. skips_at_restart: the
 first entry that is read after a restart is left out. takes_twice_at_restart: it is taken twice.
-Two are right replicas: the clock of clock_ahead is an hour ahead, so it has to end itself, and
-old_format is a version that knows entries of format 1 alone.
+The clock of clock_ahead is an hour ahead: it is a right replica, and has to end itself.
 """
 
 import asyncio
@@ -16,7 +15,7 @@ import sys
 import time
 
 from tb_client import Operation
-from tb_host import heads, machines, moments, replica
+from tb_host import machines, moments, replica
 from tb_host.entries import Entry
 from tb_host.log import Written
 
@@ -89,11 +88,6 @@ def clock_ahead():
     replica.CLOCK = 2.0  # seconds in which nobody sets it right
 
 
-def old_format():
-    for module in (heads, replica):
-        module.FORMATS, module.WRITTEN = (1,), 1
-
-
 if __name__ == "__main__":
     {
         it.__name__: it
@@ -103,7 +97,6 @@ if __name__ == "__main__":
             skips_at_restart,
             takes_twice_at_restart,
             clock_ahead,
-            old_format,
         )
     }[sys.argv.pop(1)]()
     sys.exit(machines.main())

@@ -16,7 +16,9 @@ sys.path.append(str(ROOT / "clients/embed/python"))
 
 from tb_caller import Caller, Fault, Fields, Heard, Library, Phase  # noqa: E402
 
-pytestmark = pytest.mark.slow
+pytestmark = pytest.mark.slow(
+    reason="builds the embedded library for C, Rust and Python", seconds=60
+)
 HERE = ROOT / "tests" / "embedding"
 ARCHIVE = ROOT / "crates/tb_embed/out/libtb_embed.a"
 ACCOUNT = 131

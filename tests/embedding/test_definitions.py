@@ -5,8 +5,6 @@ import pytest
 
 from . import names, wrappers
 
-pytestmark = pytest.mark.quick
-
 
 @pytest.mark.parametrize("part", [names.comparisons, wrappers.cases], ids=["names", "wrappers"])
 def test_each_case_holds(part):

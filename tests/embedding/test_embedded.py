@@ -20,7 +20,10 @@ EMBED = f"{TOP}/clients/embed"
 HERE = f"{TOP}/tests/embedding"
 LIBRARY = f"{TOP}/crates/tb_embed/out/libtb_embed.a"
 PROGRAM = found("tbs")
-pytestmark = [pytest.mark.slow, pytest.mark.usefixtures("tbs")]
+pytestmark = [
+    pytest.mark.slow(reason="builds the embedded library for C, Rust and Python", seconds=60),
+    pytest.mark.usefixtures("tbs"),
+]
 sys.path[:0] = [f"{EMBED}/python", f"{TOP}/clients/python/src"]
 
 # What first.c, first.rs and first.py print, as docs/use/EMBEDDING.md shows it.

@@ -52,9 +52,10 @@ FILES = {
     "a dump": DUMP,
     "a script": SCRIPT,
     "other bytes": bytes(range(1, 9)),
-    "the former format": b"TBJRNL01\0",
+    "another version": b"TBJRNL03\0",
     "no record": MAGIC + CLOSED,
     "no head": MAGIC + block(b"\1\2\3") + CLOSED,
+    "another's record": MAGIC + block(b"TBF1\1\2" + bytes(73)) + CLOSED,
     "no entry": HEAD + block(b"\1\2\3") + CLOSED,
     "a ledger": LEDGER,
     "second entry changed": changed(LEDGER, -5 + len(LEDGER)),
@@ -73,7 +74,6 @@ def none(why):
 A_TEXT = none("is a text; telovamish script makes request frames of statements")
 A_DUMP = none("is a dump; tbs replay and telovamish dump read it")
 A_SCRIPT = none("is a script; tbs and tbd run read it as standard input")
-FORMER = none("has the former format TBJRNL01; tools/convert_journal.py makes a new file of it")
 OTHERS = none("does not begin as a ledger's file")
 
 

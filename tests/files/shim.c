@@ -1,10 +1,11 @@
 /* Stands between a program and the system: writes down what the program does to one file and to its
-   output, and lets one call fail, or lie. tests/files/test_keep.py loads it by LD_PRELOAD.
+   output, and lets one call fail, or lie, or leaves syncs out. tests/files loads it by LD_PRELOAD.
 
    KEEP_FILE  the file. Where it is not set, nothing is done.
    KEEP_LOG   where the calls are written down: a letter, two numbers of 8 bytes, and the bytes of a
               write. W at, length; T length, 0; S 0, 0 after a sync that was done; F inode, 0 after
-              that of a folder; O 0, length before a write to standard output.
+              that of a folder, C inode, 0 after that of another file; O 0, length before a write to
+              standard output.
    KEEP_FAULT one of
               write N E      the Nth write or cut of the file fails with errno E, and does nothing
               torn N K E     the Nth write takes K bytes, and the write behind it fails with E
@@ -16,11 +17,16 @@
               out L          standard output takes L bytes: what does not fit fails with ENOSPC
               full L         no write makes the file longer than L bytes: what does not fit fails
                              with ENOSPC
-              nosync         syncs answer, and do nothing
               early MS       writes that make the file no longer, and syncs after them, answer at
                              once, and are done MS milliseconds after the next write to standard
                              output. So is a latch that is opened; a file whose length is wrong
                              would be noticed
+   KEEP_MUTANT  a wrong program, which leaves out some syncs: they answer, and do nothing
+              no-sync                each of the file
+              no-sync-of-a-batch     that between a batch and its latch
+              late-sync-of-a-batch   the same, and two are made after the latch
+              no-sync-at-a-start     those before the first write or cut
+              no-sync-of-a-copy      that of the copy of torn bytes
 */
 #define _GNU_SOURCE
 #include <errno.h>
@@ -39,7 +45,13 @@
 
 static long calls, syncs, reads, out, first, second, third;
 static char fault[16];
+static const char *mutant = "";
 static int failing, log_fd = -1, ready;
+enum { CREATED = 12 }; /* the bytes of a file without a batch */
+
+/* what the last write did, if there was one: for mutants */
+static enum { NOTHING, OTHER, A_BATCH } written;
+static int is_late;
 
 /* writes that `early` holds back */
 struct held {
@@ -53,11 +65,14 @@ static struct held *held_first, **held_last = &held_first;
 
 static int is(const char *name) { return strcmp(fault, name) == 0; }
 
+static int is_mutant(const char *name) { return strcmp(mutant, name) == 0; }
+
 static void begin(void) {
     if (ready) return;
     ready = 1;
     const char *text = getenv("KEEP_FAULT"), *log = getenv("KEEP_LOG");
     if (text) sscanf(text, "%15s %ld %ld %ld", fault, &first, &second, &third);
+    if (getenv("KEEP_MUTANT")) mutant = getenv("KEEP_MUTANT");
     if (log)
         log_fd =
             syscall(SYS_openat, AT_FDCWD, log, O_WRONLY | O_CREAT | O_APPEND | O_CLOEXEC, 0600);
@@ -87,14 +102,15 @@ static int fail(long why) {
     return -1;
 }
 
-static ssize_t put(int fd, const void *bytes, size_t len, off_t at) {
-    note('W', at, len, bytes);
-    return syscall(SYS_pwrite64, fd, bytes, len, at);
-}
-
 static int is_within(int fd, off_t end) {
     struct stat found;
     return fstat(fd, &found) == 0 && end <= found.st_size;
+}
+
+static ssize_t put(int fd, const void *bytes, size_t len, off_t at) {
+    note('W', at, len, bytes);
+    written = at >= CREATED && !is_within(fd, at + len) ? A_BATCH : OTHER;
+    return syscall(SYS_pwrite64, fd, bytes, len, at);
 }
 
 static void hold(int fd, const void *bytes, size_t len, off_t at) {
@@ -154,7 +170,30 @@ static int cut_file(int fd, off_t len) {
     if (failing) return fail(third);
     if (is("write") && n == first) return fail(second);
     note('T', len, 0, 0);
+    written = OTHER;
     return syscall(SYS_ftruncate, fd, len);
+}
+
+/* whether a mutant leaves out this sync */
+static int is_left_out(int fd) {
+    struct stat found;
+    if (!is_file(fd))
+        return is_mutant("no-sync-of-a-copy") && fstat(fd, &found) == 0 && S_ISREG(found.st_mode);
+    if (is_mutant("no-sync-at-a-start")) return written == NOTHING;
+    if (written != A_BATCH) return is_mutant("no-sync");
+    written = OTHER;
+    is_late = is_mutant("late-sync-of-a-batch");
+    return is_late || is_mutant("no-sync-of-a-batch") || is_mutant("no-sync");
+}
+
+static int sync_now(int fd, long call) {
+    int answer = syscall(call, fd);
+    struct stat found;
+    if (answer == 0 && is_file(fd))
+        note('S', 0, 0, 0);
+    else if (answer == 0 && fstat(fd, &found) == 0)
+        note(S_ISDIR(found.st_mode) ? 'F' : 'C', found.st_ino, 0, 0);
+    return answer;
 }
 
 static int sync_file(int fd, long call) {
@@ -162,14 +201,13 @@ static int sync_file(int fd, long call) {
     if (fd <= 2 || !getenv("KEEP_FILE")) return syscall(call, fd);
     long n = ++syncs;
     if (is("sync") && n == first) return fail(second);
-    if (is("nosync") || (is("early") && held_first)) return 0;
-    int answer = syscall(call, fd);
-    struct stat found;
-    if (answer == 0 && is_file(fd))
-        note('S', 0, 0, 0);
-    else if (answer == 0 && fstat(fd, &found) == 0 && S_ISDIR(found.st_mode))
-        note('F', found.st_ino, 0, 0);
-    return answer;
+    if (is("early") && held_first) return 0;
+    if (is_late && is_file(fd)) {
+        is_late = 0;
+        sync_now(fd, call);
+    } else if (is_left_out(fd))
+        return 0;
+    return sync_now(fd, call);
 }
 
 ssize_t pwrite64(int fd, const void *bytes, size_t len, off_t at) {

@@ -10,15 +10,19 @@ import os
 import resource
 import signal
 import struct
+import shutil
 import subprocess
+from pathlib import Path
 
 import pytest
 from tb_client import Operation, request_frame
 from tb_host.checksums import crc32c
 
+from .calls import Call, calls_of, environment
+
 NOT_COPIED, COPIES = 11, 16
+NOBODY = 65534
 TORN = b"\0\0\0\0 a torn batch"
-pytestmark = pytest.mark.quick
 
 
 class Kept:
@@ -32,6 +36,7 @@ class Kept:
         self.data = path.read_bytes()
 
     def starts(self, *options, **how):
+        """The status of a start without requests, and its lines."""
         done = subprocess.run(
             [*self.words, *options], cwd=self.path.parent, capture_output=True, check=False, **how
         )
@@ -78,6 +83,27 @@ def test_torn_bytes_are_copied(kept):
     assert kept.starts() == (0, "") and kept.copies() == [kept.copy()]
 
 
+def cut_after_its_copy(kept, shim, mutant=""):
+    """Whether a start syncs the copy of torn bytes, and its folder, before it cuts them off."""
+    kept.is_torn()
+    log = kept.path.with_name("calls")
+    assert kept.starts(env=environment(shim, kept.path, log=log, mutant=mutant))[0] == 0
+    assert kept.is_whole()
+    calls = list(calls_of(log))
+    cut = calls.index(Call("T", len(kept.data)))
+    copy = Call("C", kept.copy().stat().st_ino)
+    folder = Call("F", kept.path.parent.stat().st_ino)
+    return copy in calls[:cut] and folder in calls[calls.index(copy) : cut]
+
+
+def test_a_copy_is_durable_before_the_cut(kept, shim):
+    assert cut_after_its_copy(kept, shim)
+
+
+def test_the_mutant_without_a_sync_of_the_copy_is_caught(kept, shim):
+    assert not cut_after_its_copy(kept, shim, "no-sync-of-a-copy")
+
+
 def block(record):
     """A block after its latch."""
     length = len(record).to_bytes(3, "little")
@@ -112,17 +138,6 @@ def test_whole_entries_are_counted(kept, name):
     kept.is_torn(torn)
     assert kept.starts() == (0, kept.news(torn, wholes))
     assert kept.is_whole(torn)
-
-
-def test_whole_entries_of_a_log_are_counted(program, tmp_path):
-    words = [program("tbd").resolve(), "follow", "log", "8"]
-    how = {"cwd": tmp_path, "capture_output": True, "check": True}
-    subprocess.run(words, input=b"", **how)
-    data = (tmp_path / "log").read_bytes()
-    records = (struct.pack("<4s3BQ", b"TBF1", 1, 8, 2, position) + bytes(64) for position in (1, 2))
-    (tmp_path / "log").write_bytes(data + OPEN.join(map(block, records)) + CLOSED)
-    said = subprocess.run(words, input=b"", **how).stderr.decode()
-    assert f"from byte {len(data)} on, 2 whole entries (1 to 2), to log.cut-" in said
 
 
 def test_the_same_bytes_have_one_copy(kept):
@@ -189,36 +204,20 @@ def test_without_space(kept):
     )
 
 
-@pytest.mark.skipif(os.geteuid() == 0, reason="root may write everywhere")
-def test_without_permission(kept):
+def test_without_permission(tbd, folder):
+    """Root, who may write everywhere, starts it as another user."""
+    user = {"user": NOBODY} if os.geteuid() == 0 else {}
+    path = Path(folder) / "ledger"
+    kept = Kept(shutil.copy(tbd, f"{folder}/tbd"), path)
     kept.is_torn()
-    kept.path.parent.chmod(0o500)
+    if user:
+        os.chown(path, NOBODY, NOBODY)
+    path.parent.chmod(0o555)
     try:
         kept.refuses(
             ": no permission to copy its torn bytes next to it; allow that,"
-            " or start with --drop-torn"
+            " or start with --drop-torn",
+            **user,
         )
     finally:
-        kept.path.parent.chmod(0o700)
-
-
-def test_a_log_is_copied_too(program, tmp_path):
-    words = [program("tbd").resolve(), "follow", "log", "8"]
-    how = {"cwd": tmp_path, "capture_output": True, "check": False, "stdin": subprocess.DEVNULL}
-    assert subprocess.run(words, **how).returncode == 0
-    data = (tmp_path / "log").read_bytes()
-    (tmp_path / "log").write_bytes(data + TORN)
-    done = subprocess.run([*words, "--existing"], **how)
-    name = f"log.cut-{len(data)}-{crc32c(TORN):08x}"
-    assert done.returncode == 0 and name in done.stderr.decode()
-    assert (tmp_path / name).read_bytes() == TORN and (tmp_path / "log").read_bytes() == data
-    (tmp_path / "log").write_bytes(data + TORN + b"x")
-    done = subprocess.run([*words, "--drop-torn"], **how)
-    assert done.returncode == 0 and len(list(tmp_path.iterdir())) == 2
-
-
-def test_no_log_is_created_in_the_few_bytes_of_one(program, tmp_path):
-    (tmp_path / "log").write_bytes(b"TBJRN")
-    words = [program("tbd").resolve(), "follow", tmp_path / "log", "8", "--existing"]
-    assert subprocess.run(words, capture_output=True, check=False).returncode == 5
-    assert (tmp_path / "log").read_bytes() == b"TBJRN"
+        path.parent.chmod(0o755)

@@ -2,15 +2,14 @@
 disk that is full.
 
     /usr/bin/python3 -m pytest tests/files/test_crashes.py [--rounds N] [--images N] [--seed N]
-    /usr/bin/python3 -m pytest -m quick tests/files/test_crashes.py     a short run, as in CI
 
 shim.c, which needs gcc, writes down each write, cut and sync of the file and each write of replies.
-From them the files are made that the disk may have at each moment: what was synced, and any bytes
-and any length of what was written after that. Each has to be a prefix of the history with all that
-was acknowledged until then, and each tenth is opened by the program. A disk that drops syncs and a
-program that answers first have to be caught. A small file system is filled if this user may mount
-one. The test fails if the program holds a reply back, or does not end, for two minutes
-(CHECK_LONGER times as long).
+From them the files are made that the disk may have at each moment: what was synced, and any of the
+writes after that, one of them torn. Each has to be a prefix of the history with all that was
+acknowledged until then, and each tenth is opened by the program. Each mutant that leaves out a
+sync, and a program that answers first, have to be caught. A small file system is filled if this
+user may mount one. The test fails if the program holds a reply back, or does not end, for two
+minutes (CHECK_LONGER times as long).
 """
 
 import contextlib
@@ -35,7 +34,9 @@ from tb_client import (
     request_frame,
 )
 
+from .calls import MUTANTS, calls_of, environment
 from .cases import drop_copies
+from .losses import PowerLoss, after
 
 CLIENTS = 24
 CASH, SALES = 1, 2
@@ -43,12 +44,12 @@ SECONDS = 120 * tried.LONGER  # that a reply, an end and a check may take
 MAGIC, CLOSED = b"TBJRNL02", b"\x5a\xc3\x96\x69"
 FIRST = MAGIC + CLOSED
 QUICK_ROUNDS, QUICK_IMAGES = 14, 3  # of the run in CI
-pytestmark = pytest.mark.usefixtures("counted")
+WHOLE_LATCH = "die 4 4"  # a kill after the write of a latch, before its sync
 
 
-def case(name, wrong):
-    """Counts a case: what is wrong is listed."""
-    tried.case(name, not wrong, f"{len(wrong)} wrong, as {wrong[0]}" if wrong else "")
+def holds(wrong):
+    """Nothing is wrong; otherwise the first one of it is shown."""
+    assert not wrong, f"{len(wrong)} wrong, as {wrong[0]}"
 
 
 # The file
@@ -110,22 +111,20 @@ def in_time(process):
 class Run:
     """A file, the clients that use it, all that they sent, and the first reply to each request."""
 
-    def __init__(self, tbd, folder, name, rng):
-        self.tbd, self.rng, self.moment = tbd, rng, 0
-        self.file, self.log = os.path.join(folder, f"{name}.tbk"), os.path.join(
-            folder, f"{name}.log"
-        )
+    def __init__(self, tbd, folder, name, rng, shim="", mutant=""):
+        self.tbd, self.rng, self.moment, self.shim, self.mutant = tbd, rng, 0, shim, mutant
+        self.file, self.log = (os.path.join(folder, f"{name}.{it}") for it in ("tbk", "log"))
         self.sent, self.first, self.sessions, self.done, self.wrong = {}, {}, {}, {}, []
 
-    def start(self, shim=None, fault=""):
+    def start(self, fault=""):
         drop_copies(self.file)
-        env = dict(os.environ)
-        if shim:
-            env.update(LD_PRELOAD=shim, KEEP_FILE=self.file, KEEP_LOG=self.log, KEEP_FAULT=fault)
+        env = None
+        if self.shim:
+            of = {"log": self.log, "fault": fault, "mutant": self.mutant}
+            env = environment(self.shim, self.file, **of)
         words = [self.tbd, "run", self.file, "64"]
-        return subprocess.Popen(
-            words, stdin=subprocess.PIPE, stdout=subprocess.PIPE, stderr=subprocess.PIPE, env=env
-        )
+        streams = dict.fromkeys(("stdin", "stdout", "stderr"), subprocess.PIPE)
+        return subprocess.Popen(words, env=env, **streams)
 
     def frame(self, client):
         """The request that a client has no reply to: its register, or the one after its last."""
@@ -197,6 +196,12 @@ class Run:
         self.round(process, [CLIENTS])
         self.round(process, [CLIENTS])
 
+    def in_doubt(self):
+        """The clients whose last request has no reply."""
+        return sorted(
+            {client for client, number in self.sent if number > self.done.get(client, -1)}
+        )
+
     def some(self):
         return self.rng.sample(range(1, CLIENTS + 1), self.rng.randint(1, CLIENTS))
 
@@ -214,18 +219,19 @@ def ended(process):
         return process.wait()
 
 
-def lives(run, shim, rounds, fault=""):
+def lives(run, rounds, fault=""):
     """Serves rounds in several lives, of which the second and some later ones are ended by a kill
-    amid a write. Returns how many were killed."""
-    process = run.start(shim, fault)
+    amid a write. After it a start answers those in doubt first. Returns how many were killed."""
+    process = run.start(fault)
     run.open(process)
     starts = kills = 0
     for number in range(rounds):
         if not run.round(process, run.some()) or number % 7 == 6:
             kills += was_killed(run, process)
             kill = f"die {run.rng.randint(1, 9)} {run.rng.choice([0, 1, 9, 100, 400])}"
-            process = run.start(shim, fault or (run.rng.choice(["", kill]) if starts else kill))
+            process = run.start(fault or (run.rng.choice(["", kill]) if starts else WHOLE_LATCH))
             starts += 1
+            run.round(process, run.in_doubt())
     return kills + was_killed(run, process)
 
 
@@ -240,54 +246,6 @@ def was_killed(run, process):
 # What the disk may have
 
 
-def changed(image, write):
-    """A file after a write or a cut."""
-    letter, at, data = write
-    return image[:at] + data + image[at + len(data) :] if letter == b"W" else image[:at]
-
-
-def torn(image, write, rng):
-    """A file that a write or a cut leaves which a power loss cuts short: any bytes in its
-    range, any length between."""
-    after = changed(image, write)
-    if write[0] == b"T":
-        return image[: rng.randint(len(after), max(len(image), len(after)))]
-    _, at, data = write
-    kind = rng.randrange(5)
-    cut = rng.randint(0, len(data))
-    if kind == 0:
-        middle = (
-            data[:cut] + after[at + cut : at + len(data)]
-            if at + len(data) <= len(image)
-            else data[:cut]
-        )
-    elif kind == 1:
-        middle = bytes(cut) + data[cut:]
-    elif kind == 2:
-        middle = bytes(rng.randrange(256) for _ in range(cut))
-    elif kind == 3:
-        middle = bytes(byte if rng.randrange(2) else 0 for byte in data)
-    else:
-        middle = data
-    whole = image[:at] + middle + image[at + len(middle) :]
-    return whole[: rng.randint(min(len(image), len(whole)), len(whole))]
-
-
-def events(log):
-    """The calls: writes and cuts of the file, its syncs, and replies that were written."""
-    with open(log, "rb") as file:
-        data = file.read()
-    at = 0
-    while at < len(data):
-        letter, place, length = data[at : at + 1], *struct.unpack_from("<QQ", data, at + 1)
-        at += 17
-        if letter in (b"W", b"O"):
-            yield letter, place, data[at : at + length]
-            at += length
-        elif letter != b"F":
-            yield letter, place, b""
-
-
 def replies_in(data):
     at = 0
     while at + HEADER <= len(data):
@@ -299,10 +257,10 @@ def replies_in(data):
 class Images:
     """The files that a power loss may leave, each judged."""
 
-    def __init__(self, run, folder, count, rng):
+    def __init__(self, run, folder, rng, opens=True):
         with open(run.file, "rb") as file:
             self.last = records_of(file.read())
-        self.run, self.count, self.rng = run, count, rng
+        self.run, self.rng, self.opens = run, rng, opens
         self.path = os.path.join(folder, "image.tbk")
         self.commit, self.done, self.wrong, self.judged, self.opened = 0, {}, [], 0, 0
 
@@ -320,7 +278,7 @@ class Images:
             self.wrong.append(
                 f"{len(records)} records, after {self.commit} entries were acknowledged"
             )
-        elif self.judged % 10 == 0 and records:
+        elif self.opens and self.judged % 10 == 0 and records:
             self.open(image, len(records) - 1)
 
     def open(self, image, entries):
@@ -351,56 +309,71 @@ class Images:
         if ended(process):
             self.wrong.append("a start over a file that a power loss left ends by a fault")
 
-    def follow(self):
-        """Goes over the calls, and judges what may be left at each."""
+    def follow(self, files):
+        """Goes over the calls, and judges what may be left at each: `files` of a power loss."""
         synced, since = b"", []
-        for letter, place, data in events(self.run.log):
-            if letter == b"S":
-                synced, since = functools.reduce(changed, since, synced), []
-            elif letter == b"O":
-                for reply in replies_in(data):
+        for call in calls_of(self.run.log):
+            if call.kind == "S":
+                synced, since = functools.reduce(after, since, synced), []
+            elif call.kind == "O":
+                for reply in replies_in(call.data):
                     it = Reply.from_bytes(reply)
                     self.commit = max(self.commit, it.commit)
                     self.done[it.client] = max(self.done.get(it.client, -1), it.number)
-            else:
-                since.append((letter, place, data))
+            elif call.kind in "WT":
+                since.append(call)
             self.judge(synced)
-            for _ in range(self.count if since else 0):
-                before = self.rng.randrange(len(since))
-                self.judge(
-                    torn(functools.reduce(changed, since[:before], synced), since[before], self.rng)
-                )
+            for image in files(PowerLoss(synced, since, self.rng)):
+                self.judge(image)
         return self
 
 
 # Cases
 
 
-@pytest.mark.slow
+def some_of(count):
+    return lambda loss: loss.some(count)
+
+
+def lost_at_each_moment(run, rounds, files):
+    """What a power loss may leave at each moment of a run in several lives."""
+    assert lives(run, rounds), "no life was killed"
+    holds(run.wrong)
+    images = Images(run, os.path.dirname(run.file), run.rng).follow(files)
+    holds(images.wrong)
+    assert images.opened, "no file was opened"
+
+
+@pytest.mark.slow(reason="judges the files of 120 rounds, 20 at each call", seconds=300)
 def test_losses(tbd, tbs, folder, shim, rng, pytestconfig):
     """A run in several lives: all moments of it, and its dump."""
     rounds, count = pytestconfig.getoption("rounds"), pytestconfig.getoption("images")
-    lost_at_each_moment(Run(tbd, folder, "losses", rng), tbs, shim, rounds, count)
+    run = Run(tbd, folder, "losses", rng, shim)
+    lost_at_each_moment(run, rounds, some_of(count))
+    dumped(run, tbs)
 
 
-@pytest.mark.quick
 def test_few_losses(tbd, tbs, folder, shim, rng):
     """A short run: all moments of it, and its dump."""
-    run = Run(tbd, folder, "losses", rng)
-    lost_at_each_moment(run, tbs, shim, QUICK_ROUNDS, QUICK_IMAGES)
-
-
-def lost_at_each_moment(run, tbs, shim, rounds, count):
-    """What a power loss may leave at each moment of a run in several lives, and the run's dump."""
-    kills = lives(run, shim, rounds)
-    wrong = run.wrong if kills else ["no life was killed"]
-    case(f"{len(run.first)} requests, {kills} kills: each request has one reply", wrong)
-    images = Images(run, os.path.dirname(run.file), count, run.rng).follow()
-    case(
-        f"{images.judged} files that a power loss may leave, {images.opened} of them opened",
-        images.wrong if images.opened else ["no file was opened"],
-    )
+    run = Run(tbd, folder, "losses", rng, shim)
+    lost_at_each_moment(run, QUICK_ROUNDS, some_of(QUICK_IMAGES))
     dumped(run, tbs)
+
+
+@pytest.mark.slow(reason="judges each file that a power loss may leave", seconds=30)
+def test_each_subset_of_what_is_lost(tbd, folder, shim, rng):
+    """A short run: each subset of the writes that are not synced, each of them torn in each way."""
+    run = Run(tbd, folder, "subsets", rng, shim)
+    lost_at_each_moment(run, QUICK_ROUNDS, PowerLoss.every)
+
+
+@pytest.mark.parametrize("mutant", [it for it in MUTANTS if it != "no-sync-of-a-copy"])
+def test_a_mutant_is_caught(tbd, folder, shim, rng, mutant):
+    """A program that leaves out a sync; that of a copy is in test_asides.py."""
+    run = Run(tbd, folder, mutant, rng, shim, mutant)
+    lives(run, QUICK_ROUNDS)
+    holds(run.wrong)
+    assert Images(run, folder, rng, opens=False).follow(some_of(2 * QUICK_IMAGES)).wrong
 
 
 def dumped(run, tbs):
@@ -409,53 +382,46 @@ def dumped(run, tbs):
     got = subprocess.run([run.tbd, "dump", run.file], capture_output=True, timeout=SECONDS)
     with open(run.file, "rb") as file:
         records = records_of(file.read())
-    wrong = (
-        []
-        if got.returncode == 0 and got.stdout[16:] == b"".join(records[1:])
-        else [f"dump: {got.returncode}, {len(got.stdout)} bytes"]
-    )
+    assert got.returncode == 0 and got.stdout[16:] == b"".join(records[1:])
     for (client, number), reply in run.first.items():
         record = records[Reply.from_bytes(reply).commit]
-        if record[16:] != run.sent[client, number]:
-            wrong.append(f"client {client}, request {number} is not at its commit")
-    if len({record[16:] for record in records[1:]}) != len(records) - 1:
-        wrong.append("a request is in the history twice")
-    case(f"a dump of {len(records) - 1} entries has each acknowledged request at its commit", wrong)
+        assert record[16:] == run.sent[client, number], f"client {client}, request {number}"
+    assert len({record[16:] for record in records[1:]}) == len(records) - 1
     replies = list(replies_in(tried.ran([tbs, "replay"], got.stdout)[1]))
-    wrong = [
-        key
-        for key, reply in run.first.items()
-        if reply not in replies[Reply.from_bytes(reply).commit - 1 :][:1]
-    ]
-    case(f"tbs replay gives the {len(run.first)} replies that were sent", wrong)
+    for key, reply in run.first.items():
+        assert replies[Reply.from_bytes(reply).commit - 1] == reply, key
 
 
-@pytest.mark.slow
-def test_controls(tbd, folder, shim, rng):
-    """A disk that drops syncs, and a program that answers before it commits, are caught."""
-    for fault in ("nosync", "early 1"):
-        run = Run(tbd, folder, fault[:5], rng)
-        lives(run, shim, 5, fault)
-        wrong = Images(run, folder, 1, rng).follow().wrong
-        case(f"caught over the calls: {fault}", [] if wrong else ["nothing was found"])
+@pytest.mark.slow(reason="a control of the test of losses", seconds=5)
+def test_early_replies_are_caught(tbd, folder, shim, rng):
+    """A program that answers before it commits."""
+    run = Run(tbd, folder, "early", rng, shim)
+    lives(run, 5, "early 1")
+    assert Images(run, folder, rng, opens=False).follow(some_of(1)).wrong
+
+
+@pytest.mark.slow(reason="a control of the test of losses", seconds=5)
+def test_early_replies_are_caught_by_kills(tbd, folder, shim, rng):
     run = Run(tbd, folder, "killed", rng)
     process = run.start()
     run.open(process)
     ended(process)
+    run.shim = shim
     for _ in range(5):
-        process = run.start(shim, "early 200")
+        process = run.start("early 200")
         run.round(process, run.some())
         process.kill()
         ended(process)
+    run.shim = ""
     process = run.start()
     for client, number in sorted(run.done.items()):
         for reply in run.ask(process, [run.sent[client, number]]):
             run.take(reply)
     ended(process)
-    case("caught by kills: early", [] if run.wrong else ["nothing was found"])
+    assert run.wrong
 
 
-@pytest.mark.slow
+@pytest.mark.slow(reason="mounts and fills a file system", seconds=5)
 def test_full(tbd, tbs, folder, rng):
     """A file system of 64 KiB is filled. With more room all that was acknowledged is there."""
     room = os.path.join(folder, "room")
@@ -466,7 +432,7 @@ def test_full(tbd, tbs, folder, rng):
             ["mount", "-t", "tmpfs", "-o", "size=64k", "none", room], capture_output=True
         ).returncode
     ):
-        pytest.skip("this user may mount no file system")
+        pytest.skip("needs root, to mount a file system")
     try:
         run = Run(tbd, room, "full", rng)
         process = run.start()
@@ -476,18 +442,15 @@ def test_full(tbd, tbs, folder, rng):
                 break
         with in_time(process):
             told = process.stderr.read()
-        lines = f"tbd: made {run.file}\ntbd: Full: {run.file}: the disk is full, or the file has its greatest length; free space, and start again\n".encode()
-        case(
-            "a full file system ends in Full and status 8",
-            [] if (ended(process), told) == (8, lines) else [told],
-        )
+        why = "the disk is full, or the file has its greatest length; free space, and start again"
+        lines = f"tbd: made {run.file}\ntbd: Full: {run.file}: {why}\n"
+        assert (ended(process), told.decode()) == (8, lines)
         run.file = shutil.copy(run.file, os.path.join(folder, "more.tbk"))
     finally:
         subprocess.run(["umount", room], check=True)
     process = run.start()
     for client in range(1, CLIENTS + 1):
         run.round(process, [client])
-    if ended(process):
-        run.wrong.append("a start with more room ends by a fault")
-    case(f"with more room {len(run.first)} requests have one reply each", run.wrong)
+    assert not ended(process), "a start with more room ends by a fault"
+    holds(run.wrong)
     dumped(run, tbs)

@@ -1,13 +1,13 @@
-"""Files of a ledger and of a log of twenty batches, damaged at every place that matters, and each
+"""The file of a ledger of twenty batches, damaged at every place that matters, and each
 form over them.
 
-    python3 -m pytest -m quick tests/files/test_damage.py          a sample
+    python3 -m pytest tests/files/test_damage.py          a sample
     python3 -m pytest -m slow -n 2 -rP tests/files/test_damage.py  all of it, by two processes
 
 Every byte of the magic, of latches, lengths and checksums, and a sample of the records, is set to
 0, to 255 and to one flipped bit; runs of 4, 16 and 512 bytes are set to zeros; the file is cut at
 each length. At no place is an entry absent after a start that ends with 0, no form disagrees with
-`run` or `follow`, and each shows only the history that was served, from its beginning on.
+`run`, and each shows only the history that was served, from its beginning on.
 
 One that is cut within its magic may be left by a crash while a ledger is made: a start without
 --existing makes a new ledger in it.
@@ -28,14 +28,11 @@ from pathlib import Path
 import pytest
 from tb_client import HEADER, Account, Operation, Transfer, reply_length, request_frame
 
-from .kinds import item
-
 MAGIC = b"TBJRNL02"
 LATCH, LENGTH, CHECKSUM = 4, 3, 4  # bytes of each in a block, before its record
 BATCHES, SEED, SECONDS = 20, 7, 60
 SHARES = 4  # of all damages: each is a test of its own
 FORMS = ("check", "dump", "backup")  # that only read FILE
-MARKED = 25  # bytes of a file by which these forms distinguish a log from a ledger
 REFUSED = (5, 6)  # exit statuses: NotAJournal, Damaged
 KINDS = ("byte", "zeros", "cut")
 
@@ -46,14 +43,14 @@ def pair(number, operation, body=b"", session=1):
     return struct.pack("<Q", 10 + number) + frame
 
 
-def batches(many=60):
+def batches():
     """The requests of each batch: one transfer, many, or some requests at once."""
     accounts = b"".join(Account(id=it, ledger=700, code=10).to_bytes() for it in (1, 2))
     yield [pair(0, Operation.register, session=0)]
     yield [pair(1, Operation.create_accounts, accounts)]
     number, ids = 1, iter(range(100, 100000))
     for batch in range(BATCHES - 2):
-        requests, events = (3, 1) if batch % 3 == 2 else (1, many if batch % 3 else 1)
+        requests, events = (3, 1) if batch % 3 == 2 else (1, 60 if batch % 3 else 1)
         made = []
         for _ in range(requests):
             number += 1
@@ -81,12 +78,6 @@ def serve(tbd, path):
     assert process.wait(SECONDS) == 0
 
 
-def follow(tbd, path):
-    """Makes the file of a log, with an entry for each batch."""
-    log = b"".join(item(n + 1, b"".join(batch)) for n, batch in enumerate(batches(2)))
-    subprocess.run([tbd, "follow", path, "8"], input=log, capture_output=True, check=True)
-
-
 def places(data):
     """The offsets of the bytes of magic, latches, lengths and checksums, and those of records."""
     numbers, records, at = list(range(len(MAGIC))), [], len(MAGIC)
@@ -102,11 +93,9 @@ def places(data):
 
 @dataclass
 class Made:
-    """A folder for damaged files, the form that serves them, the bytes of a whole one, and its
-    history as a dump."""
+    """A folder for damaged files, the bytes of a whole one, and its history as a dump."""
 
     tbd: str
-    form: str
     folder: Path
     data: bytes
     dump: bytes
@@ -127,23 +116,18 @@ class Made:
         """Whether a dump is the whole history, or a part that it begins with."""
         return self.dump.startswith(dump)
 
-    def is_marked(self, data):
-        """Whether the forms that read take it for a ledger or a log, as it is."""
-        return self.form == "run" or data[:MARKED] == self.data[:MARKED]
-
     def tries(self, name, data):
         """Runs each form over such a file."""
         for it in self.folder.iterdir():
             it.unlink()
         (self.folder / "ledger").write_bytes(data)
         seen = {form: self.ran(form, "ledger", *["new"][: form == "backup"]) for form in FORMS}
-        status, _, said = self.ran(self.form, "ledger", "8", "--existing")
+        status, _, said = self.ran("run", "ledger", "8", "--existing")
         self.counts[name.split()[0].strip(":"), status] += 1
         assert status in (0, *REFUSED), (name, said)
         for form, (it, out, line) in seen.items():
             assert it == status, (name, form, it, status, said, line)
-            agree = line == said or not self.is_marked(data)
-            assert not status or agree, (name, form, said, line)
+            assert not status or line == said, (name, form, said, line)
             assert form != "dump" or self.begins(out), (name, form)
         if status == 0:
             assert self.ran("dump", "ledger")[1] == self.dump, name
@@ -160,19 +144,19 @@ class Made:
             assert self.begins(self.ran("dump", "new")[1]), name
 
 
-@pytest.fixture(scope="module", name="made", params=["run", "follow"])
-def fixture_made(program, request):
+@pytest.fixture(scope="module", name="made")
+def fixture_made(program):
     """In memory, if that is possible: a start syncs the file."""
     memory = "/dev/shm" if os.path.isdir("/dev/shm") else None
-    tbd, form = str(program("tbd").resolve()), request.param
+    tbd = str(program("tbd").resolve())
     with contextlib.ExitStack() as stack:
         room = Path(stack.enter_context(tempfile.TemporaryDirectory(dir=memory)))
-        {"run": serve, "follow": follow}[form](tbd, str(room / "whole"))
+        serve(tbd, str(room / "whole"))
         dump = subprocess.run([tbd, "dump", room / "whole"], capture_output=True, check=True)
         (room / "damaged").mkdir()
         data = (room / "whole").read_bytes()
         assert data.startswith(MAGIC), "the file has another format"
-        yield Made(tbd, form, room / "damaged", data, dump.stdout, collections.Counter())
+        yield Made(tbd, room / "damaged", data, dump.stdout, collections.Counter())
         shutil.rmtree(room / "damaged")
 
 
@@ -221,21 +205,18 @@ def tried(made, damages):
     for kind in KINDS:
         them = {status: count for (it, status), count in made.counts.items() if it == kind}
         if them:
-            print(f"{made.form}, {kind}: {sum(them.values())} damages, by exit status {them}")
+            print(f"{kind}: {sum(them.values())} damages, by exit status {them}")
 
 
-@pytest.mark.quick
 @pytest.mark.parametrize("length", range(1, len(MAGIC) + 1))
 def test_a_file_cut_within_its_magic(made, length):
     """A start that may make a ledger makes one."""
     made.tries("cut", MAGIC[:length])
     assert (made.folder / "ledger").read_bytes() == MAGIC[:length]
-    assert made.ran(made.form, "ledger", "8")[0] == 0
-    if made.form == "run":
-        assert made.ran("check", "ledger")[1].startswith(b"records 1\nentries 0\n")
+    assert made.ran("run", "ledger", "8")[0] == 0
+    assert made.ran("check", "ledger")[1].startswith(b"records 1\nentries 0\n")
 
 
-@pytest.mark.quick
 def test_a_sample_of_damages(made):
     rng = random.Random(SEED)
     every = list(all_damages(made, 100, 20, rng))
@@ -243,7 +224,7 @@ def test_a_sample_of_damages(made):
         tried(made, rng.sample([it for it in every if it[0].startswith(kind)], 25))
 
 
-@pytest.mark.slow
+@pytest.mark.slow(reason="damages each byte of a file", seconds=120)
 @pytest.mark.parametrize("share", range(SHARES))
 def test_every_damage(made, share):
     every = all_damages(made, 2000, 200, random.Random(SEED))

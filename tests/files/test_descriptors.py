@@ -29,19 +29,15 @@ FORMS = {
     "run": (["run", "ledger", "4"], SCRIPT, True),
     "run, progress": (["run", "ledger", "4", "--progress"], SCRIPT, True),
     "run, a torn end": (["run", "torn", "4"], SCRIPT, True),
-    "follow, a new file": (["follow", "new", "2"], LOG, True),
-    "follow": (["follow", "log", "2"], "question", True),
-    "follow-memory": (["follow-memory", "2"], LOG, True),
+    "follow": (["follow", "2"], LOG, True),
     "dump": (["dump", "ledger"], None, True),
     "dump, later entries": (["dump", "ledger", "--after", "1"], None, True),
-    "dump, a log": (["dump", "log"], None, True),
     "check": (["check", "ledger"], None, True),
     "salvage": (["salvage", "torn", "new"], None, True),
     "backup": (["backup", "ledger", "new"], None, True),
     "version": (["--version"], None, True),
     "words that are wrong": (["run"], None, False),
 }
-pytestmark = pytest.mark.quick
 
 
 def ran(words, folder, given=None, closed=()):
@@ -71,20 +67,17 @@ def fixture_tbd(program):
 
 @pytest.fixture(scope="module", name="made")
 def fixture_made(program, tmp_path_factory):
-    """A folder with a ledger of three entries, the same with a torn end, and a log."""
+    """A folder with a ledger of three entries, and the same with a torn end."""
     tbd, folder = str(program("tbd").resolve()), tmp_path_factory.mktemp("made")
     assert ran([tbd, "run", "ledger", "4"], folder, SCRIPT)[0] == 0
-    assert ran([tbd, "follow", "log", "2"], folder, LOG)[0] == 0
     (folder / "torn").write_bytes((folder / "ledger").read_bytes() + TORN)
-    (folder / "question").write_bytes(b"\2")
     return folder
 
 
 def is_whole(tbd, folder, name):
-    """Whether a file is a ledger, a log, or a journal without a record to its end."""
+    """Whether a file is a ledger, or a journal without a record to its end."""
     data = (folder / name).read_bytes()
-    form = "check" if b"TBK1" in data[:32] else "dump"
-    return data == EMPTY or ran([tbd, form, name], folder)[0] == 0
+    return data == EMPTY or ran([tbd, "check", name], folder)[0] == 0
 
 
 def tried(tbd, made, folder, form, closed):
@@ -92,9 +85,8 @@ def tried(tbd, made, folder, form, closed):
     words, given, _ = FORMS[form]
     shutil.copytree(made, folder)
     status, _ = ran([tbd, *words], folder, given and folder / given, closed)
-    for name in ("ledger", "log"):
-        assert (folder / name).read_bytes() == (made / name).read_bytes(), (name, closed)
     records = (made / "ledger").read_bytes()
+    assert (folder / "ledger").read_bytes() == records, closed
     assert (folder / "torn").read_bytes() in (records, records + TORN), closed
     assert not (folder / "new").exists() or is_whole(tbd, folder, "new"), closed
     return status

@@ -1,10 +1,9 @@
 """Lines of faults, each of which names the file, the cause and what to do next: over files that a
-crash or a cut leaves, files of the other kind, disks and limits of the system.
+crash or a cut leaves, files of another kind, disks and limits of the system.
 
-    python3 -m pytest -m quick tests/files/test_fault_lines.py
+    python3 -m pytest tests/files/test_fault_lines.py
 """
 
-import os
 import resource
 import shutil
 import subprocess
@@ -12,27 +11,22 @@ import subprocess
 import pytest
 
 from . import kinds
-from .kinds import CLOSED, LEDGER, MAGIC, SCRIPT, block, changed, none, ran
+from .calls import environment
+from .kinds import CLOSED, FILES, LEDGER, MAGIC, SCRIPT, block, changed, none, ran
 
-pytestmark = pytest.mark.quick
 BEGUN = none(
     "ends before its first record; restore a backup if it had one, or start without --existing"
 )
-NO_RECORD = none("has no record yet; tbd run makes a ledger in it, and tbd follow a log")
+NO_RECORD = none("has no record yet; tbd run makes a ledger in it")
 CLOSED_FIRST = none(
     "has a closed first latch at byte 8 and bytes after it; restore a backup if it had a record:"
     " tbd salvage finds none, and tbd run may cut these bytes off and begin a new ledger"
 )
 NO_HEAD = none("has a first record that is no ledger's head; restore a backup")
-A_LOG = none("is a log; tbd follow serves it")
-A_LEDGER = 5, "tbd: Plain: ledger is a ledger without positions; tbd run serves it\n"
-EMPTY = none("is empty; without --existing tbd run makes a ledger in it, and tbd follow a log")
-RUN, FOLLOW = "run ledger 2 --existing", "follow ledger 2 --existing"
+EMPTY = none("is empty; without --existing tbd run makes a ledger in it")
+RUN = "run ledger 2 --existing"
 READS = "check ledger", "dump ledger", "salvage ledger new", "backup ledger new"
-LOG_RECORD = b"TBF1\1\2" + (1).to_bytes(8, "little") + bytes(65)
-ROTTEN_LOG = changed(MAGIC + block(LOG_RECORD) + CLOSED, 60)
-# Its first record has its text, and neither a profile nor a number of clients.
-UNRULED_LOG = ROTTEN_LOG[:23] + bytes(16) + ROTTEN_LOG[39:]
+OTHERS_RECORD = FILES["another's record"]
 ROTTEN_LEDGER = changed(LEDGER, 23)
 # A whole file, except that the first latch reads closed.
 CLOSED_LEDGER = MAGIC + CLOSED + LEDGER[12:]
@@ -41,29 +35,19 @@ HEAD_AT = (
     "tbd: Damaged: ledger: the block at byte 8 (the head) is not what was written; restore a"
     " backup: tbd salvage needs the head\n",
 )
-FIRST_ENTRY_AT = (
-    6,
-    "tbd: Damaged: ledger: the block at byte 8 (entry 1) is not what was written; restore a backup:"
-    " no entry is before it\n",
-)
 # A file, what is asked for over it, and what is reported.
 ROWS = [
-    *((MAGIC[:5], words, BEGUN) for words in (RUN, FOLLOW, *READS)),
-    *((MAGIC, words, BEGUN) for words in (RUN, FOLLOW, *READS)),
-    *((MAGIC + CLOSED[:2], words, BEGUN) for words in (RUN, FOLLOW, *READS)),
+    *((MAGIC[:5], words, BEGUN) for words in (RUN, *READS)),
+    *((MAGIC, words, BEGUN) for words in (RUN, *READS)),
+    *((MAGIC + CLOSED[:2], words, BEGUN) for words in (RUN, *READS)),
     *((MAGIC + CLOSED, words, NO_RECORD) for words in READS),
     *((MAGIC + CLOSED + b"\0", words, CLOSED_FIRST) for words in READS),
     *((CLOSED_LEDGER, words, CLOSED_FIRST) for words in READS),
     *((MAGIC + block(b"\1\2\3") + CLOSED, words, NO_HEAD) for words in (RUN, *READS)),
-    (MAGIC + block(LOG_RECORD) + CLOSED, RUN, A_LOG),
-    (ROTTEN_LOG, RUN, HEAD_AT),
-    *((UNRULED_LOG, words, HEAD_AT) for words in (RUN, *READS)),
-    (UNRULED_LOG, FOLLOW, FIRST_ENTRY_AT),
-    (ROTTEN_LOG, FOLLOW, FIRST_ENTRY_AT),
-    (LEDGER, FOLLOW, A_LEDGER),
-    (ROTTEN_LEDGER, FOLLOW, A_LEDGER),
+    *((OTHERS_RECORD, words, NO_HEAD) for words in (RUN, *READS)),
+    *((changed(OTHERS_RECORD, 60), words, HEAD_AT) for words in (RUN, *READS)),
     *((ROTTEN_LEDGER, words, HEAD_AT) for words in (RUN, *READS)),
-    *((b"", words, EMPTY) for words in (RUN, FOLLOW)),
+    (b"", RUN, EMPTY),
 ]
 
 
@@ -73,7 +57,7 @@ def fixture_tbd(program):
 
 
 @pytest.mark.parametrize("data, words, told", ROWS)
-def test_files_without_a_record_or_of_the_other_kind(tbd, tmp_path, data, words, told):
+def test_files_without_a_record_or_of_another_kind(tbd, tmp_path, data, words, told):
     """The line says what the file is, and nothing is changed."""
     (tmp_path / "ledger").write_bytes(data)
     status, line = told
@@ -81,7 +65,7 @@ def test_files_without_a_record_or_of_the_other_kind(tbd, tmp_path, data, words,
     assert (tmp_path / "ledger").read_bytes() == data and not (tmp_path / "new").exists()
 
 
-@pytest.mark.parametrize("words", ["check ledger", "run ledger 2", "follow log 2"])
+@pytest.mark.parametrize("words", ["check ledger", "run ledger 2", "run other 2"])
 def test_too_many_open_files(tbd, tmp_path, words):
     """Each file takes one descriptor more for a moment."""
     kinds.made(tmp_path, "a ledger")
@@ -104,7 +88,6 @@ READ_ONLY = 'mount --bind "$1" "$1" && mount -o remount,bind,ro "$1" && shift &&
     [
         ("run shelf/ledger 2", "shelf/ledger"),
         ("run shelf/other 2", "shelf/other"),
-        ("follow shelf/log 2", "shelf/log"),
         ("backup shelf/ledger shelf/new", "shelf/new"),
     ],
 )
@@ -119,7 +102,7 @@ def test_a_disk_that_is_read_only(tbd, tmp_path, words, file):
         not shutil.which("unshare")
         or subprocess.run(probe, capture_output=True, check=False).returncode
     ):
-        pytest.skip("no read-only mount can be made here")
+        pytest.skip("needs root, or a namespace of its own, to mount a disk read-only")
     told = ran(mounted[0], tmp_path, [*mounted[1:], tbd, *words.split()])
     line = "is on a disk that is read-only; mount it for writing, or name a file on another disk"
     assert told == (1, b"", f"tbd: Device: {file} {line}\n")
@@ -145,7 +128,7 @@ def test_a_request_that_is_refused(tbd, tmp_path, given, name):
 def test_a_new_file_that_is_not_whole(tbd, shim, tmp_path, form):
     """The line says what the next try needs, and after that it is made."""
     kinds.made(tmp_path, "a ledger")
-    env = {**os.environ, "LD_PRELOAD": shim, "KEEP_FILE": "new", "KEEP_FAULT": "full 90"}
+    env = environment(shim, "new", fault="full 90")
     told = ran(tbd, tmp_path, [form, "ledger", "new"], env=env)
     line = (
         "tbd: Full: new: the disk is full, or the file has its greatest length; remove it, free"

@@ -2,21 +2,19 @@
 and the ledger or log loses nothing. If a call takes a part or is interrupted, nothing is reported.
 Calls fail by shim.c, which needs gcc.
 
-    python3 -m pytest -m quick tests/files/test_form_faults.py
+    python3 -m pytest tests/files/test_form_faults.py
 """
 
 import errno
 import itertools
-import os
 import re
-import struct
 
 import pytest
 
 from . import kinds
+from .calls import environment
 from .kinds import AGAIN, REPLIES, SCRIPT
 
-pytestmark = pytest.mark.quick
 FAILED = 1, "tbd: Device: {}: a read or write failed; look at the disk, and start again\n"
 FULL = (
     8,
@@ -69,11 +67,11 @@ class Failing:
 
     def __init__(self, tbd, shim, folder, words, file="ledger", given=SCRIPT):
         self.tbd, self.folder, self.words, self.given = tbd, folder, words.split(), given
-        self.env = {**os.environ, "LD_PRELOAD": shim, "KEEP_FILE": file}
+        self.shim, self.file = shim, file
 
     def ran(self, call, number, why):
         """The form with this call failing; without a failure if the number is 0."""
-        env = {**self.env, "KEEP_FAULT": f"{call} {number} {why}" if number else ""}
+        env = environment(self.shim, self.file, fault=f"{call} {number} {why}" if number else "")
         return kinds.ran(self.tbd, self.folder, self.words, self.given, env=env)
 
     def fresh(self, kind):
@@ -102,7 +100,7 @@ def is_told(told, fault, file, news=("",)):
 @pytest.mark.parametrize("call, why, fault", FAULTS)
 @pytest.mark.parametrize("words", ["check ledger", "dump ledger", "dump ledger --after 1"])
 def test_a_form_that_reads(tbd, shim, tmp_path, words, call, why, fault):
-    """It syncs and writes nothing. The first read looks whether the file is a log's."""
+    """It syncs and writes nothing."""
     failing = Failing(tbd, shim, tmp_path, words)
     told = list(failing.turns("a ledger", call, why))
     assert bool(told) == (call == "read")
@@ -110,24 +108,6 @@ def test_a_form_that_reads(tbd, shim, tmp_path, words, call, why, fault):
     for number, it in told:
         assert is_told(it, fault, "ledger") and whole.startswith(it[1]), (number, it)
     assert (tmp_path / "ledger").read_bytes() == kinds.LEDGER
-
-
-@pytest.mark.parametrize(
-    "words", ["check ledger", "dump ledger", "salvage ledger new", "backup ledger new"]
-)
-def test_a_form_that_reads_a_log(tbd, shim, tmp_path, words):
-    """Whichever read fails, the line says that, and nothing of what the file is."""
-    assert kinds.ran(tbd, tmp_path, ["follow", "ledger", "2"], kinds.item(1, SCRIPT))[0] == 0
-    log = (tmp_path / "ledger").read_bytes()
-    failing = Failing(tbd, shim, tmp_path, words)
-    for number in itertools.count(1):
-        told = failing.ran("read", number, errno.EIO)
-        assert (tmp_path / "ledger").read_bytes() == log
-        if told[0] == 0:
-            break
-        assert is_told(told, FAILED, "ledger"), (number, told)
-        (tmp_path / "new").unlink(missing_ok=True)
-    assert number > 3
 
 
 @pytest.mark.parametrize("call, why, fault", FAULTS)
@@ -186,35 +166,9 @@ def test_a_disk_that_is_full_after_each_number_of_bytes(tbd, shim, tmp_path):
         assert (tmp_path / "ledger").read_bytes() == kinds.LEDGER
 
 
-ITEMS = [kinds.item(number, it) for number, it in enumerate(kinds.PAIRS, 1)]
-LOG = b"".join(ITEMS)
-QUESTION = b"\2"
-
-
-@pytest.mark.parametrize("call, why, fault", FAULTS)
-def test_a_log_that_is_followed(tbd, shim, tmp_path, call, why, fault):
-    """What went out begins the answers. The next start names the position that it goes on from."""
-    words = ["follow", "ledger", "2"]
-    whole = kinds.ran(tbd, tmp_path, words, LOG)[1]
-    data = (tmp_path / "ledger").read_bytes()
-    failing = Failing(tbd, shim, tmp_path, " ".join(words), given=LOG)
-    count = 0
-    for number, told in failing.turns("nothing", call, why):
-        news = "", MADE, f"{MADE}tbd: has the log up to position 0\n"
-        assert is_told(told, fault, "ledger", news), (number, told)
-        position = struct.unpack_from("<Q", kinds.ran(tbd, tmp_path, words, QUESTION)[1], 1)[0]
-        more = kinds.ran(tbd, tmp_path, words, b"".join(ITEMS[position:]))[1]
-        assert whole.startswith(told[1]) and whole.endswith(more), (number, told, more)
-        assert len(told[1]) + len(more) <= len(whole), (number, told, more)
-        assert (tmp_path / "ledger").read_bytes() == data
-        count = number
-    assert count
-
-
 @pytest.mark.parametrize("call, why, fault", [FAULTS[0], FAULTS[3]])
 @pytest.mark.parametrize("form", ["salvage", "backup"])
 def test_a_copy_whose_file_fails(tbd, shim, tmp_path, form, call, why, fault):
-    """The first read looks whether the file is a log's."""
     failing = Failing(tbd, shim, tmp_path, f"{form} ledger new")
     count = 0
     for number, told in failing.turns("a ledger", call, why):

@@ -1,7 +1,7 @@
 """Each form of `tbd` over each kind of file: the exit status, standard output, the lines of
 standard error, and whether a file is made or changed.
 
-    python3 -m pytest -m quick tests/files/test_forms.py
+    python3 -m pytest tests/files/test_forms.py
 """
 
 import os
@@ -11,14 +11,13 @@ import subprocess
 import pytest
 
 from . import kinds
-from .kinds import A_DUMP, A_SCRIPT, A_TEXT, AGAIN, DUMP, EMPTY_DUMP, ENTRIES, FILES, FORMER
+from .calls import environment
+from .kinds import A_DUMP, A_SCRIPT, A_TEXT, AGAIN, DUMP, EMPTY_DUMP, ENTRIES, FILES
 from .kinds import OTHERS, REPLIES, SCRIPT, none
 
-pytestmark = pytest.mark.quick
 CLIENTS = "CLIENTS_MAX is 1 to 64"
 COMMIT = "COMMIT is 0 to 9223372036854775807"
 OPTIONS = "unknown option; those of run are --existing, --progress and --drop-torn"
-LOG_OPTIONS = "unknown option; those of follow are --existing and --drop-torn"
 NO_FILE = "FILE is a number; write ./FILE"
 MANY = "too many words"
 UNKNOWN = "unknown; --help shows the forms"
@@ -41,17 +40,12 @@ WRONG = [
     ("run ledger 65 --progress", CLIENTS, 3),
     ("run ledger 64 3 --progress", "PROFILE is 1 or 2", 4),
     ("run ledger 64 --progress 3", "PROFILE is 1 or 2", 5),
-    ("follow", "FILE and CLIENTS_MAX are missing", 1),
-    ("follow ledger", "CLIENTS_MAX is missing, 1 to 64", 2),
-    ("follow ledger 65", CLIENTS, 3),
-    ("follow ledger 2 3", "PROFILE is 1 or 2", 4),
-    ("follow ledger 2 1 --progress", LOG_OPTIONS, 5),
-    ("follow ledger 2 1 --existing x", MANY, 6),
-    ("follow-memory", "CLIENTS_MAX is missing, 1 to 64", 1),
-    ("follow-memory 65", CLIENTS, 2),
-    ("follow-memory 8 3", "PROFILE is 1 or 2", 3),
-    ("follow-memory 8 2 1", MANY, 4),
-    ("follow-memory 8 --existing", "unknown option; follow-memory has none", 3),
+    ("follow", "CLIENTS_MAX is missing, 1 to 64", 1),
+    ("follow 65", CLIENTS, 2),
+    ("follow ledger 2", CLIENTS, 2),
+    ("follow 8 3", "PROFILE is 1 or 2", 3),
+    ("follow 8 2 1", MANY, 4),
+    ("follow 8 --existing", "unknown option; follow has none", 3),
     ("dump", "FILE is missing", 1),
     ("dump ledger 65", MANY, 3),
     ("dump ledger --after", "COMMIT is missing, 0 to 9223372036854775807", 3),
@@ -74,7 +68,6 @@ WRONG = [
     ("run 64 1", NO_FILE, 2),
     ("run 0 64 2", NO_FILE, 2),
     ("run - 64", OPTIONS, 2),
-    ("follow 64 2", NO_FILE, 2),
     (f"dump {'9876543210' * 4}", NO_FILE, 2),
     ("check 1 2", NO_FILE, 2),
     ("salvage 64 new", NO_FILE, 2),
@@ -228,7 +221,7 @@ def test_a_dump_that_goes_on(tbd, tmp_path, kind, options, out):
 
 
 NO_HEAD = none("has a first record that is no ledger's head; restore a backup")
-NO_RECORD = none("has no record yet; tbd run makes a ledger in it, and tbd follow a log")
+NO_RECORD = none("has no record yet; tbd run makes a ledger in it")
 EMPTY = none("is empty; tbd run makes a ledger in it")
 RULES = "tbd: OtherRules: ledger was made with CLIENTS_MAX 2 and PROFILE 1, not with"
 FORMS = ("run ledger 2", "dump ledger", "check ledger")
@@ -237,8 +230,9 @@ REFUSED = [
     *((form, "a dump", *A_DUMP) for form in FORMS),
     *((form, "a script", *A_SCRIPT) for form in FORMS),
     *((form, "other bytes", *OTHERS) for form in FORMS),
-    *((form, "the former format", *FORMER) for form in FORMS),
+    *((form, "another version", *OTHERS) for form in FORMS),
     *((form, "no head", *NO_HEAD) for form in FORMS),
+    *((form, "another's record", *NO_HEAD) for form in FORMS),
     *((form, "torn long", 6, TORN_LONG) for form in FORMS),
     *((form, "second entry changed", 6, CHANGED) for form in FORMS),
     *((form, "no byte", *EMPTY) for form in FORMS[1:]),
@@ -248,7 +242,7 @@ REFUSED = [
     (
         "run ledger 2 --existing",
         "no byte",
-        *none("is empty; without --existing tbd run makes a ledger in it, and tbd follow a log"),
+        *none("is empty; without --existing tbd run makes a ledger in it"),
     ),
     (
         "run ledger 2 --progress",
@@ -284,20 +278,16 @@ def test_a_file_that_cannot_be_opened(tbd, tmp_path, words):
     assert kinds.ran(tbd, tmp_path, words.split()) == (1, b"", line)
 
 
-@pytest.mark.parametrize("word", ["run", "follow"])
-def test_one_program_serves_a_file(tbd, tmp_path, word):
-    kinds.made(tmp_path, "a ledger" if word == "run" else "no record")
-    words = [tbd, word, "ledger", "2"]
+def test_one_program_serves_a_file(tbd, tmp_path):
+    kinds.made(tmp_path, "a ledger")
+    words = [tbd, "run", "ledger", "2"]
     first = subprocess.Popen(
         words, cwd=tmp_path, stdin=subprocess.PIPE, stdout=subprocess.PIPE, stderr=subprocess.PIPE
     )
     try:
-        if word == "run":
-            first.stdin.write(SCRIPT)
-            first.stdin.flush()
-            assert first.stdout.read(len(AGAIN)) == AGAIN
-        else:
-            assert first.stderr.readline() == b"tbd: has the log up to position 0\n"
+        first.stdin.write(SCRIPT)
+        first.stdin.flush()
+        assert first.stdout.read(len(AGAIN)) == AGAIN
         line = "tbd: Locked: ledger is open in another program; end that one first\n"
         assert kinds.ran(tbd, tmp_path, words[1:]) == (4, b"", line)
     finally:
@@ -383,7 +373,7 @@ OUTPUTS = [
 def test_an_output_that_fails(tbd, shim, tmp_path, words, kind, room, whole, said):
     """What went out is a prefix, and no more than it takes; what was kept or copied stays."""
     kinds.made(tmp_path, kind)
-    env = {**os.environ, "LD_PRELOAD": shim, "KEEP_FILE": "ledger", "KEEP_FAULT": f"out {room}"}
+    env = environment(shim, "ledger", fault=f"out {room}")
     status, out, told = kinds.ran(tbd, tmp_path, words.split(), SCRIPT, env=env)
     assert (status, told) == (1 if said.endswith(LOST) else 5, said)
     assert whole.startswith(out) and len(out) <= room

@@ -13,16 +13,13 @@ import struct
 import subprocess
 import threading
 import time
-from pathlib import Path
 
 import pytest
 from tb_client import HEADER, Account, Operation, Transfer, reply_length, request_frame
-from tb_host.checksums import crc32c
 
 GONE, MISSING, EMPTY = 10, 1, 5  # exit statuses
 CLIENTS = range(1, 13)
 SECONDS = 60
-pytestmark = pytest.mark.quick
 
 
 def pair(client, session, number, operation, body=b""):
@@ -187,25 +184,3 @@ def test_no_file_is_made_where_one_is_wanted(tbd, tmp_path):
     again = Served(tbd, path, "1", "--existing")
     again.opens()
     assert again.ended() == (0, "")
-
-
-def item(position, pairs):
-    """An entry as a log has it."""
-    numbers = struct.pack("<QI", position, len(pairs))
-    return b"\1" + numbers + struct.pack("<I", crc32c(numbers + pairs)) + pairs
-
-
-def test_a_log_notices_too(tbd, tmp_path):
-    path = tmp_path / "log"
-    words = [tbd, "follow", path, "64"]
-    assert subprocess.run([*words, "--existing"], capture_output=True).returncode == MISSING
-    process = subprocess.Popen(words, stdin=subprocess.PIPE, stdout=subprocess.PIPE)
-    process.stdin.write(item(1, pair(7, 0, 0, Operation.register)))
-    process.stdin.flush()
-    assert process.stdout.read(1)
-    moved(Path(path))
-    body = Account(id=1, ledger=700, code=10).to_bytes()
-    process.stdin.write(item(2, pair(7, 1, 1, Operation.create_accounts, body)))
-    process.stdin.close()
-    process.stdout.read()
-    assert process.wait(SECONDS) == GONE

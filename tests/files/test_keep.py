@@ -35,6 +35,7 @@ from tb_client import (
 )
 
 from ..conftest import ROOT
+from .calls import calls_of, environment
 from .cases import case, drop_copies
 
 pytestmark = pytest.mark.usefixtures("counted")
@@ -140,21 +141,13 @@ class Ledger:
         self.answered = 0
         self.opener = Client(7)
 
-    def start(self, fault=None, log=None, shim=None):
-        """The program over the file."""
+    def start(self, shim=None, **how):
+        """The program over the file; how the shim of its calls is given is in calls.py."""
         drop_copies(self.file)
-        env = dict(os.environ)
-        if shim:
-            env.update(LD_PRELOAD=shim, KEEP_FILE=self.file, KEEP_FAULT=fault or "")
-            if log:
-                env["KEEP_LOG"] = log
-        return subprocess.Popen(
-            [self.tbd, "run", self.file, "64"],
-            stdin=subprocess.PIPE,
-            stdout=subprocess.PIPE,
-            stderr=subprocess.PIPE,
-            env=env,
-        )
+        words = [self.tbd, "run", self.file, "64"]
+        env = environment(shim, self.file, **how) if shim else None
+        streams = dict.fromkeys(("stdin", "stdout", "stderr"), subprocess.PIPE)
+        return subprocess.Popen(words, env=env, **streams)
 
     def pair(self, frame):
         self.moment += 1
@@ -264,9 +257,7 @@ class Ledger:
 
 def check(tbd, file, shim=None, fault=""):
     """What `tbd check` prints, and its status."""
-    env = dict(os.environ)
-    if shim:
-        env.update(LD_PRELOAD=shim, KEEP_FILE=file, KEEP_FAULT=fault)
+    env = environment(shim, file, fault=fault) if shim else None
     ran = subprocess.run(
         [tbd, "check", file], capture_output=True, text=True, env=env, timeout=SECONDS
     )
@@ -280,7 +271,7 @@ def check(tbd, file, shim=None, fault=""):
 # Cases
 
 
-@pytest.mark.slow
+@pytest.mark.slow(reason="kills the server a thousand times", seconds=600)
 def test_kills(tbd, folder, rng, pytestconfig):
     """The program is killed amid rounds, at random moments."""
     count = pytestconfig.getoption("kills") or 1000
@@ -312,7 +303,7 @@ def faulty(tbd, folder, shim, fault, status, name):
     """A life with a fault, and then one without."""
     ledger = Ledger(tbd, folder, name.replace(" ", "_"))
     ledger.open_accounts()
-    process = ledger.start(fault, shim=shim)
+    process = ledger.start(shim, fault=fault)
     for _ in range(40):
         if not ledger.round(process, ledger.clients):
             break
@@ -330,7 +321,7 @@ def faulty(tbd, folder, shim, fault, status, name):
     os.unlink(ledger.file)
 
 
-@pytest.mark.slow
+@pytest.mark.slow(reason="fails each call of a run under load", seconds=120)
 def test_faults(tbd, folder, shim):
     """Calls on the file that fail once, or take a part."""
     for number in range(1, 51):
@@ -373,7 +364,7 @@ def unread(path):
     return f"tbd: Device: {path}", f"tbd: Device: {path}{FAILED}"
 
 
-@pytest.mark.slow
+@pytest.mark.slow(reason="fails each read of a start", seconds=20)
 def test_reads(tbd, folder, shim, data):
     """Reads of the file that fail once, are interrupted once, or give few bytes."""
     path = os.path.join(folder, "read.tbk")
@@ -407,16 +398,8 @@ def test_reads(tbd, folder, shim, data):
 
 
 def logged(log):
-    """The calls that the shim wrote down: a letter each, and whether it is the write that opens a latch."""
-    with open(log, "rb") as file:
-        data = file.read()
-    at = 0
-    while at < len(data):
-        letter, length = chr(data[at]), struct.unpack_from("<Q", data, at + 9)[0]
-        at += 17
-        if letter != "F":
-            yield letter, letter == "W" and data[at : at + length] == b"\xff" * 4
-        at += length if letter in "WO" else 0
+    """The calls that the shim wrote down: a letter each, and whether it opens a latch."""
+    return [(it.kind, it.opens_a_latch) for it in calls_of(log) if it.kind in "WTSO"]
 
 
 def traced(log):
@@ -450,30 +433,23 @@ def told_early(calls):
     return early, told
 
 
-def order(tbd, folder, shim, fault, name):
-    """Serves some rounds, and reads the calls as they came."""
-    ledger = Ledger(tbd, folder, name)
+CONTROLS = {"no sync": {"mutant": "no-sync"}, "a reply before": {"fault": "early 1"}}
+
+
+@pytest.mark.parametrize("control", [None, *CONTROLS])
+@pytest.mark.slow(reason="serves 20 rounds under a library that writes its calls down", seconds=5)
+def test_orders(tbd, folder, shim, control):
+    """Each reply comes after the sync of its entry; a control that does not has to be caught."""
+    ledger = Ledger(tbd, folder, "order")
     ledger.open_accounts()
-    log = os.path.join(folder, f"{name}.log")
-    process = ledger.start(fault, log=log, shim=shim)
+    log = os.path.join(folder, "order.log")
+    process = ledger.start(shim, log=log, **CONTROLS.get(control, {}))
     for _ in range(20):
         ledger.round(process, ledger.clients)
     process.stdin.close()
     ended(process)
-    return told_early(logged(log))
-
-
-@pytest.mark.slow
-def test_orders(tbd, folder, shim):
-    early, told = order(tbd, folder, shim, None, "order")
-    case(
-        "each reply comes behind the sync of its entry",
-        early == 0 and told >= 20,
-        f"{early} of {told}",
-    )
-    for fault in ("nosync", "early 1"):
-        early, told = order(tbd, folder, shim, fault, fault.replace(" ", "_"))
-        case(f"a control that must be caught: {fault}", early > 0, f"{early} of {told}")
+    early, told = told_early(logged(log))
+    case(f"{early} of {told} replies", told >= 20 and (early > 0) == (control is not None))
 
 
 # Mutants: the program's own body, in which nothing is to be caught, one that replies before it commits, and one that does not sync.
@@ -499,14 +475,13 @@ BUILDS = (
 )
 
 
-@pytest.mark.quick
 def test_texts_of_builds():
     """Whether the text of each is in its file once."""
     for name, path, old, _ in BUILDS:
         case(f"{name}: its text is in {path} once", (ROOT / path).read_text().count(old) == 1)
 
 
-@pytest.mark.slow
+@pytest.mark.slow(reason="builds two mutants of `tbd`", seconds=300)
 def test_builds(tbd, folder):
     """Builds them in a copy, unproved, and serves the first script over a file without entries."""
     copy, log = os.path.join(folder, "copy"), os.path.join(folder, "calls")
@@ -654,7 +629,6 @@ def pair_of_a_register():
     return struct.pack("<Q", 5) + request_frame(7, 0, 0, Operation.register)
 
 
-@pytest.mark.quick
 def test_told_of_words(tbd, folder):
     """What is reported of wrong words, of output that is lost, and of a file that this user may not read."""
     for words, line in WORDS:
@@ -674,7 +648,7 @@ def test_told_of_words(tbd, folder):
         told == (2, b"", "tbd: Usage: serve?: unknown; --help shows the forms\n"),
         told,
     )
-    for form in ("run", "dump", "follow", "check", "salvage", "backup"):
+    for form in ("run", "dump", "check", "salvage", "backup"):
         status, page, reported = told_of(tbd, folder, [form, "words.tbk", "--help"])
         first = f"Usage: tbd FORM\n\n  {form} FILE"
         well = (status, reported) == (0, "") and page.decode().startswith(first)
@@ -705,7 +679,6 @@ def test_told_of_words(tbd, folder):
         )
 
 
-@pytest.mark.quick
 def test_lost_replies(tbd, folder):
     """A `run` whose output is lost ends at the first reply, though more input may come."""
     with open("/dev/full", "wb") as full:
@@ -727,7 +700,6 @@ def test_lost_replies(tbd, folder):
     process.stdin.close()
 
 
-@pytest.mark.quick
 @pytest.mark.usefixtures("words_file")
 def test_told_of_ends(tbd, folder):
     """What is reported of torn bytes that are cut off, and that nothing is written of a file that is damaged."""
@@ -758,23 +730,17 @@ def test_told_of_ends(tbd, folder):
     case("nothing is served over a damaged file", told[:2] == (6, b""), told)
 
 
-@pytest.mark.slow
+@pytest.mark.slow(reason="fails each read of a dump", seconds=20)
 @pytest.mark.usefixtures("words_file")
 def test_failing_dumps(tbd, folder, shim):
-    """A read that fails, at each place in turn, ends a dump in Device; once no read is left to fail, the dump is whole. Before them one read looks
-    whether the file is a ledger's or a log's: if it fails, the file is read as a ledger's.
-    """
-    path, number = os.path.join(folder, "words.tbk"), 1
+    """A read that fails, at each place in turn, ends a dump in Device; once no read is left to
+    fail, the dump is whole."""
+    path, number = os.path.join(folder, "words.tbk"), 0
     whole = told_of(tbd, folder, ["dump", path])
     status = 1
     while status:
         number += 1
-        env = {
-            **os.environ,
-            "LD_PRELOAD": shim,
-            "KEEP_FILE": path,
-            "KEEP_FAULT": f"read {number} {EIO}",
-        }
+        env = environment(shim, path, fault=f"read {number} {EIO}")
         told = told_of(tbd, folder, ["dump", path], env=env)
         status = told[0]
         case(
@@ -785,7 +751,6 @@ def test_failing_dumps(tbd, folder, shim):
     case("a dump whose reads do not fail is whole", told == whole and number > 3, (number, told))
 
 
-@pytest.mark.quick
 def test_told_by_check(tbd, folder):
     """What is reported of a file that is not there, and of one of each profile, with a register."""
     absent = os.path.join(folder, "absent.tbk")
@@ -842,7 +807,7 @@ def dumped(tbd, folder, path, **how):
     return dump if status == 0 and said == "" else None
 
 
-@pytest.mark.slow
+@pytest.mark.slow(reason="waits for looks at a file that grows", seconds=30)
 def test_looks(tbd, folder):
     """Dumps and checks next to a server under load: no form is refused, and each dump is a prefix of the next."""
     ledger = Ledger(tbd, folder, "live")
@@ -891,7 +856,6 @@ def on_a_read_only_mount(tbd, place, wanted):
     case("a check on a read-only mount", told[0] == 0 and told[2] == "", told)
 
 
-@pytest.mark.quick
 def test_read_only(tbd, folder):
     """A file and a folder that may only be read, by a user that may not write to them."""
     place = os.path.join(folder, "shelf")
@@ -939,7 +903,6 @@ def test_read_only(tbd, folder):
     on_a_read_only_mount(tbd, place, wanted)
 
 
-@pytest.mark.quick
 @pytest.mark.usefixtures("words_file")
 def test_names(tbd, folder):
     """Names of what is no regular file."""
@@ -970,13 +933,6 @@ def test_names(tbd, folder):
                 told == (1, b"", f"tbd: Device: {name} is no regular file; give the name of one\n"),
                 told,
             )
-    for word in ("run", "follow"):
-        told = told_of(tbd, folder, [word, "folder.tbk", "3"])
-        case(
-            f"a folder is not served: {word}",
-            told == (1, b"", "tbd: Device: folder.tbk is no regular file; give the name of one\n"),
-            told,
-        )
     os.symlink(os.path.join(folder, "words.tbk"), os.path.join(folder, "good.tbk"))
     told = told_of(tbd, folder, ["check", "good.tbk"])
     case("a link to a file", told[0] == 0, told)
@@ -998,7 +954,6 @@ def test_names(tbd, folder):
     case("other rules are reported", told == (7, b"", line), told)
 
 
-@pytest.mark.quick
 def test_reported(tbd, folder):
     """Starts that are reported."""
     told = told_of(tbd, folder, ["run", "reported.tbk", "3", "--progress"], pair_of_a_register())
@@ -1011,7 +966,7 @@ def test_reported(tbd, folder):
     case("a start that is not", told == (0, b"", ""), told)
 
 
-@pytest.mark.slow
+@pytest.mark.slow(reason="starts over files of hundreds of megabytes", seconds=60)
 def test_long_starts(tbd, folder):
     """A start over more than some megabytes: its progress is reported if that is asked for, and otherwise nothing."""
     wrong = Transfer(1, CASH, SALES, 1, ledger=700, code=10).to_bytes() * 8190
@@ -1061,7 +1016,7 @@ def terminal():
     return master, slave
 
 
-@pytest.mark.slow
+@pytest.mark.slow(reason="starts over a long file at a terminal", seconds=30)
 def test_on_terminals(tbd, folder):
     """What is reported if requests would be typed, and if lines are seen on a terminal."""
     master, slave = terminal()
@@ -1097,7 +1052,6 @@ def test_on_terminals(tbd, folder):
     os.close(master)
 
 
-@pytest.mark.quick
 def test_told_at_once(tbd, folder):
     """A line goes out in one write: it stays whole if several programs write to one file."""
     ours, theirs = socket.socketpair(socket.AF_UNIX, socket.SOCK_SEQPACKET)
@@ -1157,7 +1111,6 @@ def followers(tbd, folder, path, after):
     return going
 
 
-@pytest.mark.quick
 def test_follows(tbd, folder):
     """What is written of a file that is served, killed and served again: each entry once."""
     ledger = Ledger(tbd, folder, "followed")
@@ -1238,7 +1191,7 @@ def copied(tbd, form, path, new, **how):
     return told, dumped(tbd, os.path.dirname(path), new) if os.path.exists(new) else None
 
 
-@pytest.mark.slow
+@pytest.mark.slow(reason="salvages damaged files", seconds=60)
 def test_salvages(tbd, folder, data, latches, rng):
     """A file with a bit flipped at many places: what is before the damage is copied, and all if it is in a length; what is lost is reported."""
     count = 40
@@ -1275,7 +1228,6 @@ def test_salvages(tbd, folder, data, latches, rng):
     case("its backup holds a prefix", kept is None or dump.startswith(kept), kept and len(kept))
 
 
-@pytest.mark.quick
 def test_sound_copies(tbd, folder, data):
     """Copies of a whole file and of one with a torn end are equal to it, only for the owner, and can be served."""
     whole = os.path.join(folder, "sound.tbk")
@@ -1309,7 +1261,6 @@ def test_sound_copies(tbd, folder, data):
             case(f"{form}: it can be served", told == (0, b"", ""), told)
 
 
-@pytest.mark.quick
 @pytest.mark.usefixtures("words_file")
 def test_copies_of_no_ledger(tbd, folder):
     """Nothing is made of what is no ledger, or of names that cannot be."""
@@ -1388,7 +1339,7 @@ def test_copies_of_no_ledger(tbd, folder):
         case("a file that exists is not overwritten", file.read() == b"another file")
 
 
-@pytest.mark.slow
+@pytest.mark.slow(reason="fills the disk at each byte of a copy", seconds=30)
 def test_copies_on_a_full_disk(tbd, folder, shim, data):
     """A disk that is full amid a copy, and a sync of it that fails, are reported by their status; the file is as before."""
     path = os.path.join(folder, "sound.tbk")
@@ -1397,14 +1348,14 @@ def test_copies_on_a_full_disk(tbd, folder, shim, data):
     ):
         for form in ("salvage", "backup"):
             new = os.path.join(folder, f"full{number}{form}.tbk")
-            env = {**os.environ, "LD_PRELOAD": shim, "KEEP_FILE": new, "KEEP_FAULT": fault}
+            env = environment(shim, new, fault=fault)
             told = told_of(tbd, folder, [form, path, new], env=env)
             case(f"{form}: {fault}", told[:2] == (status, b"") and told[2].count("\n") == 1, told)
     with open(path, "rb") as file:
         case("the file is as before", file.read() == data)
 
 
-@pytest.mark.slow
+@pytest.mark.slow(reason="copies files next to a server under load", seconds=30)
 def test_backups(tbd, folder):
     """Backups of a file that is served are prefixes of it, the later ones longer, and can be served."""
     ledger = Ledger(tbd, folder, "backed")
@@ -1424,7 +1375,7 @@ def test_backups(tbd, folder):
     case("a backup can be served", served == (0, b"", ""), served)
 
 
-@pytest.mark.slow
+@pytest.mark.slow(reason="cuts a file at each of its last 1,000 bytes", seconds=60)
 def test_cuts(tbd, folder, data, latches, entries, pytestconfig):
     """The file cut at each of its last bytes, a number of them."""
     count = pytestconfig.getoption("cuts")
@@ -1437,7 +1388,7 @@ def test_cuts(tbd, folder, data, latches, entries, pytestconfig):
     case(f"cut at each of the last {count} bytes", not wrong, wrong[:2])
 
 
-@pytest.mark.slow
+@pytest.mark.slow(reason="changes 10,000 bits of a file", seconds=300)
 def test_flips(tbd, folder, data, latches, entries, rng, pytestconfig):
     """Bits that are turned, each reported as damage except those of open latches, which stay open."""
     count = pytestconfig.getoption("flips")

@@ -19,7 +19,6 @@ MAGIC, OPEN, CLOSED = b"TBJRNL02", bytes([255] * 4), bytes([90, 195, 150, 105])
 HEAD = b"TBK1\1\2"  # of profile 1, for 2 clients
 NOTE = b"not replayed: only checksums, commit numbers and times were checked\n"
 TORN_MAX = 1 << 22
-pytestmark = pytest.mark.quick
 
 
 def block(record):

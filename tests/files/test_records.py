@@ -1,7 +1,7 @@
 """Files whose records are no ledger's, or not in their order: `tbd` names the first one refused,
 and a salvage takes what is before it. Each checksum is right unless a row says otherwise.
 
-    python3 -m pytest -m quick tests/files/test_records.py
+    python3 -m pytest tests/files/test_records.py
 """
 
 import pytest
@@ -10,7 +10,6 @@ from frames import dump_entry, ids, pair
 from . import kinds
 from .kinds import CLOSED, HEAD_END, LEDGER, LOOK_UP, MAGIC, REGISTER, block, changed, ran
 
-pytestmark = pytest.mark.quick
 HEAD = b"TBK1\1\2"
 FRAME = pair(10, *REGISTER)[8:]
 FIRST = dump_entry(1, 10, FRAME)  # the entry of a register of client 7

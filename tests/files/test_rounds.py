@@ -1,12 +1,11 @@
 """What `tbd run` and `tbd follow` answer, and when: replies leave before more is waited for, pairs
 that are there at once share a commit, and the folder of a new file is synced.
 
-    python3 -m pytest -m quick tests/files/test_rounds.py
+    python3 -m pytest tests/files/test_rounds.py
 """
 
 import os
 import select
-import struct
 import subprocess
 
 import pytest
@@ -15,9 +14,9 @@ from tb_client import Operation
 
 from ..conftest import ROOT
 from . import kinds
+from .calls import calls_of, environment
 from .kinds import ran
 
-pytestmark = pytest.mark.quick
 ACCOUNTS = account(1) + account(2)
 MOVED = transfer(11, 1, 2, 128)
 # A register, two accounts, a transfer, the same again, the request before it, and a lookup.
@@ -90,18 +89,12 @@ def test_replies_leave_before_it_waits(tbd, tbs, tmp_path, piece):
 @pytest.mark.parametrize("piece", [1, 16, 385, 386, 387, 600, 1000])
 def test_answers_to_a_log_leave_before_it_waits(tbd, tmp_path, piece):
     wanted = (ROOT / "examples/first.answers").read_bytes()
-    for words in (["follow", "ledger", "2"], ["follow-memory", "2"]):
-        assert conversed([tbd, *words], tmp_path, LOG, ITEMS, piece) == wanted
+    assert conversed([tbd, "follow", "2"], tmp_path, LOG, ITEMS, piece) == wanted
 
 
-STARTS = [
-    (["run", "ledger", "2", "--progress"], b"tbd: made ledger\ntbd: ready: commit 0, time 0\n"),
-    (["follow", "ledger", "2"], b"tbd: made ledger\ntbd: has the log up to position 0\n"),
-]
-
-
-@pytest.mark.parametrize("words, lines", STARTS)
-def test_a_start_is_reported_before_the_first_request(tbd, tmp_path, words, lines):
+def test_a_start_is_reported_before_the_first_request(tbd, tmp_path):
+    words = ["run", "ledger", "2", "--progress"]
+    lines = b"tbd: made ledger\ntbd: ready: commit 0, time 0\n"
     streams = dict.fromkeys(("stdin", "stdout", "stderr"), subprocess.PIPE)
     with subprocess.Popen([tbd, *words], cwd=tmp_path, **streams) as process:
         said, more = b"", True
@@ -142,28 +135,18 @@ def test_a_fault_ends_serving_behind_those_before_it(tbd, tmp_path, change, faul
     assert b"entries 2\n" in ran(tbd, tmp_path, ["check", "ledger"])[1]
 
 
-def calls_of(log):
-    """The calls that the shim wrote down, a letter each, and the numbers of each."""
-    data, at, found = log.read_bytes(), 0, []
-    while at < len(data):
-        letter, (where, length) = chr(data[at]), struct.unpack_from("<QQ", data, at + 1)
-        found.append((letter, where))
-        at += 17 + (length if letter in "WO" else 0)
-    return found
-
-
 def watched(tbd, shim, folder, words, path, given=b""):
     """The calls of a program on a file, on standard output, and on folders."""
     log = folder / "calls"
     log.unlink(missing_ok=True)
-    env = {**os.environ, "LD_PRELOAD": shim, "KEEP_FILE": path, "KEEP_LOG": str(log)}
+    env = environment(shim, path, log=log)
     status = ran(tbd, folder, words, given, env=env)[0]
     assert status == 0
-    return calls_of(log)
+    return list(calls_of(log))
 
 
 def count(calls, letter):
-    return sum(it[0] == letter for it in calls)
+    return sum(it.kind == letter for it in calls)
 
 
 def test_pairs_that_are_there_share_a_commit(tbd, shim, tmp_path):
@@ -174,7 +157,7 @@ def test_pairs_that_are_there_share_a_commit(tbd, shim, tmp_path):
     (tmp_path / "ledger").unlink()
     log = tmp_path / "calls"
     log.unlink()
-    env = {**os.environ, "LD_PRELOAD": shim, "KEEP_FILE": "ledger", "KEEP_LOG": str(log)}
+    env = environment(shim, "ledger", log=log)
     with subprocess.Popen(
         [tbd, *words],
         cwd=tmp_path,
@@ -188,7 +171,7 @@ def test_pairs_that_are_there_share_a_commit(tbd, shim, tmp_path):
             process.stdin.write(one)
             assert len(process.stdout.read(length)) == length
         process.stdin.close()
-    by_turns = calls_of(log)
+    by_turns = list(calls_of(log))
     for letter in "WS":
         assert count(by_turns, letter) - count(at_once, letter) == 2 * (ENTRIES - 1)
     assert (tmp_path / "ledger").read_bytes() == data
@@ -206,7 +189,7 @@ def test_the_folder_of_a_new_file_is_synced(tbd, shim, tmp_path, path):
     target.parent.mkdir(parents=True, exist_ok=True)
     for _ in range(2):
         calls = watched(tbd, shim, tmp_path, ["run", path, "2"], path)
-        synced = [where for letter, where in calls if letter == "F"]
+        synced = [it.place for it in calls if it.kind == "F"]
         assert target.parent.stat().st_ino in synced
 
 

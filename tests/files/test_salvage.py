@@ -1,7 +1,7 @@
 """What `tbd salvage` gets of a ledger's file of twenty batches that is damaged at one place: the
 entries before it, and those after it that still are the next ones.
 
-    python3 -m pytest -m quick tests/files/test_salvage.py
+    python3 -m pytest tests/files/test_salvage.py
 """
 
 import subprocess
@@ -63,7 +63,6 @@ def lines_of(printed):
 BLOCKS = (10, -1)
 
 
-@pytest.mark.quick
 @pytest.mark.parametrize("block", BLOCKS)
 @pytest.mark.parametrize(
     "at, values",
@@ -92,7 +91,6 @@ def test_no_entry_is_lost_with_a_latch_or_a_length(whole, tmp_path, block, at, v
     assert printed.endswith(read_on) == (values != bytes(4)), printed
 
 
-@pytest.mark.quick
 @pytest.mark.parametrize("change", ["in", "out"])
 def test_no_entry_is_lost_with_bytes_between_blocks(whole, tmp_path, change):
     place = whole.blocks[10]
@@ -101,14 +99,12 @@ def test_no_entry_is_lost_with_bytes_between_blocks(whole, tmp_path, change):
     assert (status, dump) == (0, whole.dump), printed
 
 
-@pytest.mark.quick
 def test_nothing_is_lost_with_the_last_latch(whole, tmp_path):
     data = put(whole.data, len(whole.data) - LATCH, b"\0")
     status, printed, dump = whole.salvaged(tmp_path, data)
     assert (status, dump) == (0, whole.dump), printed
 
 
-@pytest.mark.quick
 @pytest.mark.parametrize("at", [LATCH + LENGTH, FIXED, FIXED + 8, FIXED + 70])
 @pytest.mark.parametrize("count", [1, 4, 16, 512])
 def test_an_entry_that_is_lost_takes_the_later_ones(whole, tmp_path, at, count):
@@ -122,7 +118,6 @@ def test_an_entry_that_is_lost_takes_the_later_ones(whole, tmp_path, at, count):
     assert f"bytes lost {len(data) - place - LATCH} after byte {place}: Damaged: " in printed
 
 
-@pytest.mark.quick
 @pytest.mark.parametrize("at, values", [(it, b"\0") for it in range(8)] + [(0, bytes(8))])
 def test_nothing_is_lost_with_the_magic(whole, tmp_path, at, values):
     data = put(whole.data, at, values)
@@ -131,7 +126,6 @@ def test_nothing_is_lost_with_the_magic(whole, tmp_path, at, values):
     assert printed.endswith("\ndamaged magic: the first 8 bytes are not a journal's\n"), printed
 
 
-@pytest.mark.quick
 def test_a_magic_and_a_latch_lose_nothing(whole, tmp_path):
     data = put(put(whole.data, 0, b"\0"), whole.blocks[10], CLOSED)
     status, printed, dump = whole.salvaged(tmp_path, data)
@@ -140,14 +134,12 @@ def test_a_magic_and_a_latch_lose_nothing(whole, tmp_path):
     assert f"read on {more} of the entries from byte {whole.blocks[10]}\ndamaged magic" in printed
 
 
-@pytest.mark.quick
 def test_a_file_of_another_magic_is_not_backed_up(whole, tmp_path):
     (tmp_path / "old").write_bytes(put(whole.data, 0, b"\0"))
     done = subprocess.run([whole.tbd, "backup", "old", "new"], cwd=tmp_path, check=False)
     assert done.returncode == 5 and not (tmp_path / "new").exists()
 
 
-@pytest.mark.quick
 @pytest.mark.parametrize("at", [len(MAGIC) + LATCH, len(MAGIC) + FIXED])
 @pytest.mark.parametrize("first", [MAGIC[:1], b"\0"])
 def test_no_rules_no_new_file(whole, tmp_path, at, first):

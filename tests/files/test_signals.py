@@ -8,7 +8,6 @@ strace has every other write fail with EINTR: each reply goes out once.
 import subprocess
 from pathlib import Path
 
-import pytest
 
 EXAMPLES = Path(__file__).resolve().parent.parent.parent / "examples"
 INTERRUPTED = [
@@ -20,7 +19,6 @@ INTERRUPTED = [
     "-e",
     "inject=write:error=EINTR:when=1+2",
 ]
-pytestmark = pytest.mark.quick
 
 
 def test_interrupted_writes(program, tmp_path):

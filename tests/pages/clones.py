@@ -1,5 +1,5 @@
 """A folder that looks like a clone whose programs are built, in which lines of pages are run, and
-the blocks of pages."""
+the pages and their blocks."""
 
 import os
 import re
@@ -25,6 +25,13 @@ esac
 SECONDS = 300  # that a line may take on a busy computer
 
 
+def pages() -> list[Path]:
+    """The pages that are tracked or new, except those that other people made."""
+    words = ["git", "ls-files", "--cached", "--others", "--exclude-standard", "*.md"]
+    listed = subprocess.run(words, cwd=ROOT, capture_output=True, text=True, check=True)
+    return [ROOT / it for it in listed.stdout.split() if (ROOT / it).exists()]
+
+
 def blocks(page: str, kind: str) -> list[str]:
     """The blocks of a kind in a page, in their order."""
     text = (ROOT / page).read_text()
@@ -41,7 +48,7 @@ class Clone:
 
     def __init__(self, folder: Path, program: Callable[[str], Path]) -> None:
         self.folder, self.program = folder, program
-        for name in ("apps", "bench", "clients", "examples", "tests", "tools"):
+        for name in ("apps", "bench", "clients", "examples", "server", "tests", "tools"):
             (folder / name).symlink_to(ROOT / name)
         commands = folder / "bin"
         commands.mkdir()
@@ -49,10 +56,8 @@ class Clone:
         (commands / "rt").chmod(0o755)
         self.env = {**os.environ, "PATH": f"{commands}:{os.environ['PATH']}"}
         self.env["PYTHONPATH"] = str(ROOT / "clients/python/src")
-        for name in ("telovamish", "books/tb-sql", "host/tb-listen"):
-            path = ROOT / "apps" / name
-            path = path / name if path.is_dir() else path
-            (commands / path.name).symlink_to(path)
+        for name in ("apps/telovamish/telovamish", "apps/books/tb-sql", "server/out/tb-listen"):
+            (commands / Path(name).name).symlink_to(ROOT / name)
 
     def build(self, *names: str) -> None:
         """Puts built programs into their places in a clone, and on PATH."""

@@ -13,10 +13,10 @@ import sqlite3
 
 import pytest
 
+from ..cluster.processes import free_ports
 from ..conftest import ROOT
 from .clones import blocks, lines, until
 
-pytestmark = pytest.mark.quick
 PLACE = {"LOG": "etcd://m1/ledger", "POSITION": "7", "..": "-- tb_script run 64"}
 
 
@@ -53,11 +53,32 @@ def test_the_lines_of_tbd(clone):
 def test_the_listener_and_a_client(clone):
     clone.build("tbd")
     listener = next(it for it in blocks("docs/use/CLIENTS.md", "sh") if "tb-listen" in it)
-    (client,) = blocks("docs/use/CLIENTS.md", "python")
+    client = blocks("docs/use/CLIENTS.md", "python")[1]
     (clone.folder / "client.py").write_text(client)
     with clone.started(listener):
         until((clone.folder / "ledger.sock").exists)
         assert clone.run("/usr/bin/python3 client.py") == "[]\n"
+
+
+def test_one_program_over_a_file_and_over_sockets(clone):
+    """The program of CLIENTS, in which a line of its table takes the place of the first."""
+    clone.build("tbd")
+    page = (ROOT / "docs/use/CLIENTS.md").read_text()
+    program = blocks("docs/use/CLIENTS.md", "python")[0]
+    file, *sockets = re.findall(r"`(with tb\.\w+\(.*?\) as ledger:)`", page)
+    assert file in program and len(sockets) == 3
+    (clone.folder / "client.py").write_text(program)
+    run = "/usr/bin/python3 client.py"
+    assert clone.run(run, f"tbd: made {clone.folder}/books.tbk\n") == "10\n"
+    assert clone.run(run) == "10\n"  # the transfer exists
+    (port,) = free_ports(1)
+    places = f"--unix ledger.sock --tcp 127.0.0.1:{port}"
+    with clone.started(f"server/out/tb-listen {places} -- tbd run ledger.tbk 64"):
+        until((clone.folder / "ledger.sock").exists)
+        for line in sockets:
+            there = re.sub(r"10\.0\.0\.[123]", "127.0.0.1", line).replace("3001", str(port))
+            (clone.folder / "client.py").write_text(program.replace(file, there))
+            assert clone.run(run) == "10\n"
 
 
 def test_the_status_of_the_listener(clone):
@@ -66,7 +87,7 @@ def test_the_status_of_the_listener(clone):
     (ranges,) = blocks("docs/use/LISTENER.md", "text")
     (clone.folder / "ranges").write_text(ranges.replace("user         alice", "user  root"))
     words = "--unix ledger.sock --status status.sock --clients ranges"
-    with clone.started(f"apps/host/tb-listen {words} -- tbd run ledger.tbk 64"):
+    with clone.started(f"server/out/tb-listen {words} -- tbd run ledger.tbk 64"):
         until((clone.folder / "status.sock").exists)
         asked = "import socket; it = socket.socket(socket.AF_UNIX); it.connect('status.sock'); "
         said = clone.run(f'/usr/bin/python3 -c "{asked}print(it.makefile().read())"')

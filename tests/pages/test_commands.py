@@ -15,14 +15,14 @@ from pathlib import Path
 import pytest
 
 from ..conftest import ROOT
-from .clones import blocks, lines
-from .test_links import pages
+from .clones import blocks, lines, pages
 
 APPS = {"telovamish": "apps/telovamish", "tb-sql": "apps/books"}
-APPS |= {"tb-listen": "apps/host", "tb-replica": "apps/host"}
+APPS |= {"tb-listen": "server/out", "tb-replica": "apps/host"}
 # Commands of the shell, the system, other languages and the kit; and what a block has made.
-OTHERS = """for done sleep cmp mv install man editor curl rsync sh apt systemctl journalctl runuser
-    cc rustc javac java go npm node tsc pip mypy sqlite3 etcdctl cd rt make tbs tbd
+OTHERS = """for done sleep cmp mv install man editor curl rsync sh grep tail apt systemctl
+    journalctl runuser cc
+    rustc javac java go npm node tsc pip mypy sqlite3 etcdctl cd rt make tbs tbd
     $OUT/first $OUT/first_rs $OUT/script"""
 
 
@@ -80,13 +80,11 @@ def wrong(page: Path) -> list[str]:
     return found
 
 
-@pytest.mark.quick
 @pytest.mark.parametrize("page", pages(), ids=lambda it: str(it.relative_to(ROOT)))
 def test_commands_of(page: Path) -> None:
     assert wrong(page) == []
 
 
-@pytest.mark.quick
 def test_an_option_that_is_gone_is_found(monkeypatch: pytest.MonkeyPatch) -> None:
     monkeypatch.setattr(f"{__name__}.blocks", lambda *_: ["tools/tables.py --gone --write\n"])
     assert wrong(ROOT / "README.md") == ["--gone"]

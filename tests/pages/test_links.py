@@ -1,23 +1,16 @@
 """Every link of every page leads somewhere: a file of the repository, and a heading in it."""
 
 import re
-import subprocess
 from pathlib import Path
 
 import pytest
 
 from ..conftest import ROOT
+from .clones import pages
 
 LINK = re.compile(r"!?\[[^\]\n]*\]\(([^)\s]+)\)")
 CODE = re.compile(r"^(```.*?^```|    .*?$)|`[^`\n]*`", re.M | re.S)
 HEADING = re.compile(r"^#+ (.+?)\s*$", re.M)
-
-
-def pages() -> list[Path]:
-    """The pages that are tracked or new, except those that other people made."""
-    words = ["git", "ls-files", "--cached", "--others", "--exclude-standard", "*.md"]
-    listed = subprocess.run(words, cwd=ROOT, capture_output=True, text=True, check=True)
-    return [ROOT / it for it in listed.stdout.split() if (ROOT / it).exists()]
 
 
 def anchors(page: Path) -> set[str]:
@@ -47,13 +40,11 @@ def broken(page: Path) -> list[str]:
     return wrong
 
 
-@pytest.mark.quick
 @pytest.mark.parametrize("page", pages(), ids=lambda it: str(it.relative_to(ROOT)))
 def test_links_of(page: Path) -> None:
     assert broken(page) == []
 
 
-@pytest.mark.quick
 def test_a_broken_link_is_found(tmp_path: Path) -> None:
     page = tmp_path / "page.md"
     page.write_text("# One\n[a](page.md#one) [b](page.md#two) [c](gone.md) `[d](gone.md)`\n")

@@ -8,7 +8,9 @@ import pytest
 from ..conftest import ROOT
 from .clones import blocks, lines
 
-pytestmark = pytest.mark.slow
+pytestmark = pytest.mark.slow(
+    reason="money over sockets during kills; builds callers of the embedded library", seconds=60
+)
 
 
 def test_money_over_sockets(clone):

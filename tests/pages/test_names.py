@@ -29,7 +29,7 @@ CRATES = ROOT / "crates"
 BLOCK = re.compile(r"```rust\n(.*?)```", re.S)
 NAME = re.compile(r"`([A-Za-z_]+(?:::[A-Za-z_]+)+)`|\b(tb_\w+|avl_tree|tbs|tbd)\b")
 PATH = re.compile(
-    r"(?<![\w/.*])((?:docs|apps|bench|clients|crates|packaging|tables|tests|tools)/"
+    r"(?<![\w/.*-])((?:docs|apps|bench|clients|crates|packaging|server|tables|tests|tools)/"
     r"[\w./-]*\w)(?![\w*/])"
 )
 # What is in a folder out/, and what a page says may be missing.
@@ -37,9 +37,11 @@ ABSENT = re.compile(r"/out(?:/|$)|^crates/NAME")
 FILE = re.compile(r"`([\w./-]+\.(?:antt|rt|py|rs|h|md|txt))`")
 OPTION = re.compile(r"(?<![\w-])--[a-z][a-z-]*")
 STRING = re.compile(r'"(--[a-z][a-z-]*)"')
+NAMED = re.compile(r'\bname: "([a-z][a-z-]*)"')
 # The files that have the options of the programs that users start.
 OPTIONS = (
     "crates/*/src/help.rt",
+    "server/internal/config/config.go",
     "apps/host/src/tb_host/*.py",
     "apps/telovamish/src/telovamish/*.py",
     "apps/books/src/tb_sql/commands.py",
@@ -196,8 +198,9 @@ def options():
     pages = [page.read_text() for page in ROOT.glob("docs/use/*.md")]
     named = {it for page in pages for it in OPTION.findall(page)}
     for path in sorted(it for pattern in OPTIONS for it in ROOT.glob(pattern)):
-        words = OPTION if path.suffix == ".rt" else STRING
-        for option in sorted({*words.findall(path.read_text())} - named):
+        words = {".rt": OPTION, ".go": NAMED}.get(path.suffix, STRING)
+        found = {f"--{it.removeprefix('--')}" for it in words.findall(path.read_text())}
+        for option in sorted(found - named):
             yield path.relative_to(ROOT), f"{option} is on no page of docs/use/"
         yield path.relative_to(ROOT), None
 
@@ -242,7 +245,6 @@ CHECKS = (
 )
 
 
-@pytest.mark.quick
 @pytest.mark.parametrize("check", CHECKS, ids=lambda it: it.__name__)
 def test_what_pages_say(check):
     cases = list(check())

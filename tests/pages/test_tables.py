@@ -11,7 +11,6 @@ from frames import pair
 
 from ..conftest import ROOT, ran
 
-pytestmark = pytest.mark.quick
 ALL = ["run", "dump", "replay", "storm"]
 # The places where the code has the names of faults.
 FAULTS = (

@@ -682,23 +682,22 @@ def count(pytestconfig):
     return pytestconfig.getoption("frames")
 
 
-@pytest.mark.slow
+@pytest.mark.slow(reason="needs the readers of a test crate as a program", seconds=5)
 def test_worked_frames(program):
     program("tb_test_refusals")
     assert read_worked() == 0
 
 
-@pytest.mark.slow
+@pytest.mark.slow(reason="damages 20,000 frames", seconds=60)
 def test_damaged_frames_through_readers(program, chance, count):
     program("tb_test_refusals")
     assert through_readers(chance, count) == 0
 
 
-@pytest.mark.slow
+@pytest.mark.slow(reason="damages 20,000 frames", seconds=60)
 def test_damaged_frames_through_the_program(tbs, chance, count):
     assert through_program(chance, count) == 0
 
 
-@pytest.mark.quick
 def test_a_few_damaged_frames_through_the_program(tbs, chance):
     assert through_program(chance, 200) == 0

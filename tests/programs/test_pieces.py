@@ -1,6 +1,6 @@
 """Inputs of `tbs` that come in pieces: what answers all that came is out before more is waited for.
 
-    python3 -m pytest -m quick tests/programs/test_pieces.py
+    python3 -m pytest tests/programs/test_pieces.py
 
 A conversation that waits for an answer which is held back would not go on: it fails after a minute.
 """
@@ -15,7 +15,6 @@ from frames import dump_entry, dump_head, mark, pair, reply
 
 from ..conftest import ROOT
 
-pytestmark = pytest.mark.quick
 SECONDS = 60
 REGISTER, LOOK_UP, SHORT = 2, 131, b"tbs: Short\n"
 FIRST = [(ROOT / "examples" / name).read_bytes() for name in ("first.script", "first.replies")]

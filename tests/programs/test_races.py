@@ -144,7 +144,7 @@ def run(program, words):
     return status, output, said.count(b"WARNING: ThreadSanitizer")
 
 
-@pytest.mark.slow
+@pytest.mark.slow(reason="builds `tbs` with ThreadSanitizer", seconds=300)
 def test_races(tbs, tmp_path):
     for command in ("rt", "cc"):
         assert shutil.which(command), f"{command} is not installed"

@@ -21,7 +21,6 @@ CODES = {
     for kind in ("account", "transfer")
 }
 SECONDS = 60
-pytestmark = pytest.mark.quick
 LINKED = FLAGS["transfer"]["linked"]
 CLOSING = FLAGS["transfer"]["pending"] | FLAGS["transfer"]["closing_debit"]
 VOID = FLAGS["transfer"]["void_pending_transfer"]

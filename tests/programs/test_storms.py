@@ -19,7 +19,6 @@ def totals(clients, transfers):
     return "".join(f"{name} {count}\n" for name, count in counts.items()).encode()
 
 
-@pytest.mark.quick
 @pytest.mark.parametrize("clients, transfers", [(16, 1000), (2, 3)])
 def test_totals(tbs, request, clients, transfers):
     for _ in range(request.config.getoption("--storms")):
@@ -37,7 +36,6 @@ def limited(room):
     return limit
 
 
-@pytest.mark.quick
 @pytest.mark.parametrize("room", [0, 30, 44])
 def test_an_output_that_is_full(tbs, tmp_path, room):
     """It has the first bytes of the lines, as many as it takes."""

@@ -61,8 +61,8 @@ PLANTED = {
     ),
     "an entry that a disk has changed is taken": (
         "entries.py",
-        '                raise ValueError("it does not have its SHA-256")\n',
-        "                pass\n",
+        '            raise ValueError("it does not have its SHA-256")\n',
+        "            pass\n",
     ),
     "what waits stays when a server ends": (
         "command.py",

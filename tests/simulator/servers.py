@@ -1,7 +1,8 @@
 """Stand-ins for the proved server programs, as processes of a simulated machine.
 
 The ledger is that of stand_in_tbd.py, which has the rules of sessions. `run FILE CLIENTS_MAX` keeps
-its entries on the machine's disk, `run CLIENTS_MAX` keeps nothing.
+its entries on the machine's disk; `run CLIENTS_MAX`, and `follow CLIENTS_MAX`, which reads entries
+with their positions, keep nothing.
 """
 
 from __future__ import annotations
@@ -9,13 +10,16 @@ from __future__ import annotations
 import asyncio
 import signal
 import struct
-from typing import Any, Callable, Optional
+from typing import Any, Callable, Iterator, Optional
 
 from stand_in_tbd import Ledger
+from tb_host.entries import NOTHING, chained, chained_all
+from tb_host.follower import ENTRY, HASHES, NUMBERS, QUESTION, REPLIED
 from tb_host.process import WATCH
 
 REFUSAL = struct.Struct("<QIBB2xIQ4x")
 PAIR = 56  # bytes of a moment and a header
+HEAD = len(ENTRY) + NUMBERS.size + 4  # bytes before the pairs of an entry: with a checksum
 
 
 def replied(ledger: Ledger, moment: int, frame: bytes) -> tuple[bytes, bool]:
@@ -115,7 +119,8 @@ class Process:
         self.data, self.is_due = b"", False
         self.ends_amid = False  # it ends amid the next replies that it writes
         self.is_ready = self.is_closing = False
-        self.ledger = Ledger(int(self.words[-1]) if self.words[1] == "run" else 64)
+        self.ledger = Ledger(int(self.words[-1]) if self.words[1] in ("run", "follow") else 64)
+        self.position, self.log, self.replies = 0, NOTHING, NOTHING  # of a log that is followed
         self.disk = world.disk(host) if len(self.words) > 3 or self.words[1] == "check" else None
         self._later(self._begin, "start")
 
@@ -152,20 +157,50 @@ class Process:
         self.is_due = False
         if self.returncode is not None or not self.is_ready:
             return
-        replies = []
-        while len(self.data) >= PAIR:
-            size = PAIR + int.from_bytes(self.data[40:44], "little")
-            if len(self.data) < size:
-                break
-            moment, frame = int.from_bytes(self.data[:8], "little"), self.data[8:size]
-            self.data = self.data[size:]
-            reply, is_new = replied(self.ledger, moment, frame)
-            if is_new and self.disk is not None:
-                self.disk.append((moment, frame))
-            replies.append(reply)
-        self._write(b"".join(replies))
+        self._write(b"".join(self._followed() if self.words[1] == "follow" else self._served()))
         if self.is_closing and not self.data:
             self.end(0)
+
+    def _pair(self) -> Optional[bytes]:
+        """The reply to the next pair, if that is whole."""
+        size = PAIR + int.from_bytes(self.data[40:44], "little")
+        if len(self.data) < max(PAIR, size):
+            return None
+        moment, frame = int.from_bytes(self.data[:8], "little"), self.data[8:size]
+        self.data = self.data[size:]
+        reply, is_new = replied(self.ledger, moment, frame)
+        if is_new and self.disk is not None:
+            self.disk.append((moment, frame))
+        return reply
+
+    def _served(self) -> Iterator[bytes]:
+        """The replies to the pairs that are whole."""
+        while (reply := self._pair()) is not None:
+            yield reply
+
+    def _followed(self) -> Iterator[bytes]:
+        """The replies to the entries that are whole, and to the questions after them."""
+        while self.data:
+            if self.data.startswith(QUESTION):
+                self.data = self.data[len(QUESTION) :]
+                yield QUESTION + HASHES.pack(self.position, self.log, self.replies)
+                continue
+            if len(self.data) < HEAD:
+                return
+            position, length = NUMBERS.unpack_from(self.data, len(ENTRY))
+            if len(self.data) < HEAD + length:
+                return
+            assert self.data.startswith(ENTRY) and position == self.position + 1
+            yield from self._entry(position, self.data[HEAD : HEAD + length])
+
+    def _entry(self, position: int, pairs: bytes) -> Iterator[bytes]:
+        """The replies to an entry, each with its place."""
+        rest = self.data[HEAD + len(pairs) :]
+        self.position, self.log, self.data = position, chained(self.log, pairs), pairs
+        replies = list(self._served())
+        self.replies, self.data = chained_all(self.replies, replies), rest
+        for index, reply in enumerate(replies):
+            yield ENTRY + REPLIED.pack(position, index) + reply
 
     def _write(self, data: bytes) -> None:
         """The replies come in two pieces, so that some are cut."""

@@ -19,12 +19,11 @@ def simulated(*words):
     return ran.returncode, ran.stdout
 
 
-@pytest.mark.quick
 def test_a_thousand_seeds():
     assert simulated("--seeds", "1000") == (0, "1000 passed, 0 failed\n")
 
 
-@pytest.mark.slow
+@pytest.mark.slow(reason="10,000 schedules", seconds=150)
 def test_many_seeds(request):
     count = request.config.getoption("--seeds")
     first = request.config.getoption("--first-seed")
@@ -32,7 +31,7 @@ def test_many_seeds(request):
     assert found == (0, f"{count} passed, 0 failed\n")
 
 
-@pytest.mark.slow
+@pytest.mark.slow(reason="schedules until a planted bug is found", seconds=15)
 @pytest.mark.parametrize("name", planted.PLANTED)
 def test_a_planted_bug_is_found(name, tmp_path):
     line = planted.found(name, tmp_path, 10_000)

@@ -120,7 +120,7 @@ class Machine:
 def _words_of(name: str) -> Any:
     words = ["--log", "etcd://n1,n2,n3/bank", "--copy", "FOLDER", "--name", name]
     words += ["--patience", "5", "--slow", "5", "--ahead", "10"]
-    return machines._run_words([*words, "--", "tb_script", "run", str(CLIENTS_MAX)])
+    return machines._run_words([*words, "--", "tbd", "follow", str(CLIENTS_MAX)])
 
 
 def given_to_replica(name: str) -> Any:
