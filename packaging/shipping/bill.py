@@ -7,7 +7,8 @@ from typing import Any
 
 import jsonschema
 
-from .programs import Record
+from .programs import Record, sha256
+from .server import NAMES, Linked, linked
 
 SCHEMA = Path(__file__).with_name("spdx.schema.json")
 OWN = "Apache-2.0"
@@ -107,6 +108,19 @@ def bill(root: Path, kit_crates: Path, record: Record) -> dict[str, Any]:
     }
 
 
+def add_server(document: dict[str, Any], programs: list[Path], parts: list[Linked]) -> None:
+    """Adds the programs of server/, and what is linked into them."""
+    packages, relations = document["packages"], document["relationships"]
+    packages += [package(it.name, it.version, it.licence, "Of Debian.") for it in parts]
+    for it in programs:
+        row = package(it.name, document["name"].rpartition("-")[2], OWN)
+        row["checksums"] = [{"algorithm": "SHA256", "checksumValue": sha256(it)}]
+        packages.append(row)
+        relations += [related(it.name, "DEPENDS_ON", other.name) for other in parts]
+        described = related(it.name, "DESCRIBES", it.name)
+        relations.append({**described, "spdxElementId": "SPDXRef-DOCUMENT"})
+
+
 def check(document: dict[str, Any]) -> None:
     """By the schema; and each relation is between packages that are listed."""
     jsonschema.validate(document, json.loads(SCHEMA.read_text()))
@@ -116,8 +130,10 @@ def check(document: dict[str, Any]) -> None:
             raise ValueError(f"a relation of what is not listed: {it}")
 
 
-def write(root: Path, kit_crates: Path, record: Record, path: Path) -> None:
+def write(root: Path, kit_crates: Path, record: Record, built: Path, path: Path) -> None:
+    """Writes the bill of a build, whose programs of server/ are in a folder."""
     document = bill(root, kit_crates, record)
+    add_server(document, [built / it for it in NAMES], linked(root))
     try:
         check(document)
     except jsonschema.ValidationError as why:

@@ -7,16 +7,15 @@ from datetime import datetime, timezone
 from email.utils import format_datetime
 from pathlib import Path
 
-from . import completion, ecosystems, manuals, units
+from . import completion, ecosystems, manuals, server, units
 from .programs import LIBRARY, Record
 from .running import Failed, run
 from .table import Program
 
-PACKAGES = 6
+PACKAGES = 7
 # The commands of Python packages: a module and its function.
 SCRIPTS = {
     "telovamish": ("telovamish.early", "main"),
-    "tb-listen": ("tb_host.early", "listen"),
     "tb-replica": ("tb_host.early", "replica"),
     "tb-sql": ("tb_sql.early", "main"),
 }
@@ -95,6 +94,14 @@ def scripts(top: Path, dist: Path) -> None:
         path.chmod(0o755)
 
 
+def listener(tree: Path, top: Path) -> None:
+    """The programs of server/."""
+    built = server.build(tree)
+    (top / "server").mkdir()
+    for name in server.NAMES:
+        shutil.copy(built / name, top / "server" / name)
+
+
 def changelog(version: str, epoch: int) -> str:
     when = format_datetime(datetime.fromtimestamp(epoch, timezone.utc))
     return CHANGELOG.format(version, when)
@@ -110,6 +117,7 @@ def stage(
     libraries(tree, top, built, record.version)
     pages(tree, top, record)
     scripts(top, dist)
+    listener(tree, top)
     manuals.write(table, top / "man", record.version, record.date[:10])
     completion.write(table, top / "completion")
     units.write(top / "units")

@@ -1,16 +1,18 @@
 """The one table of programs, forms and options: manual pages and completion are made from it.
 
-Rows of the proved programs are in forms.toml. A Python program's are those of its own parser, so
-that each option has its words in one place."""
+Rows of the proved programs are in forms.toml. A Python program's are those of its own parser, and
+those of a program of server/ are read from its help, so that each option has its words in one
+place."""
 
 import argparse
 import importlib
 import re
+import subprocess
 import sys
 import tomllib
 from collections.abc import Callable, Iterator
 from contextlib import contextmanager
-from dataclasses import dataclass, field
+from dataclasses import dataclass, field, replace
 from pathlib import Path
 from typing import Any, NoReturn
 
@@ -122,17 +124,49 @@ def of_books() -> tuple[list[Form], list[Option]]:
 
 
 def of_host(module: str, parts: list[str]) -> tuple[list[Form], list[Option]]:
-    """The listener and the replica: the part that serves has the program's own options."""
+    """The replica: the part that serves has the program's own options."""
     loaded = importlib.import_module(module)
-    if not parts:
-        served = caught(lambda: loaded.words([]))
-        return [Form("[OPTIONS] -- COMMAND [WORD ..]", "")], of_argparse(served)
     served = caught(lambda: loaded.run("", []))
     forms = [Form("[OPTIONS] --log LOG --copy FOLDER -- COMMAND [WORD ..]", "")]
     for part in parts:
         parser = caught(lambda name=part: loaded.run(name, []))  # type: ignore[misc]
         forms.append(Form(words_of(parser), "", of_argparse(parser)))
     return forms, of_argparse(served)
+
+
+HEAD = re.compile(r"  ((?:-\w, )?--[\w-]+)(?: ([A-Z][A-Z:]*))?(?: {2,}(.*))?")
+
+
+def of_help(page: str) -> list[Option]:
+    """The options of a help page: a line of two spaces, its flags and value, and lines of its text
+    that have more spaces."""
+    found: list[Option] = []
+    for line in page.partition("\noptions:\n")[2].splitlines():
+        if head := HEAD.fullmatch(line):
+            found.append(Option(head[1].split(", "), head[3] or "", head[2] or ""))
+        elif line.startswith(" " * 4) and found:
+            last = found.pop()
+            found.append(replace(last, text=f"{last.text} {line.strip()}".strip()))
+        elif line.strip():
+            raise ValueError(f"no option: {line}")
+    if not found:
+        raise ValueError("the help has no options")
+    return found
+
+
+def of_server(name: str) -> list[Option]:
+    """The options of a program of server/, which is built for that if it is not there."""
+    program = ROOT / "server" / "out" / name
+    if not program.exists():
+        subprocess.run([ROOT / "server" / "build"], check=True)
+    words = [str(program), "--help"]
+    return of_help(subprocess.run(words, capture_output=True, text=True, check=True).stdout)
+
+
+def of_rows(rows: list[dict[str, Any]]) -> list[Form]:
+    return [
+        Form(it["words"], it["text"], [Option(**o) for o in it.get("options", [])]) for it in rows
+    ]
 
 
 def of_click() -> tuple[list[Form], list[Option]]:
@@ -173,14 +207,13 @@ def of_row(name: str, row: dict[str, Any]) -> Program:
         forms, options = of_click()
     elif parser == "tb_sql.commands":
         forms, options = of_books()
+    elif parser == "server":
+        forms, options = of_rows(row["forms"]), of_server(name)
     elif parser:
-        forms, options = of_host(parser, row.get("parts", []))
+        forms, options = of_host(parser, row["parts"])
     else:
+        forms = of_rows(row["forms"])
         options = [Option(**it) for it in row.get("options", [])]
-        forms = [
-            Form(it["words"], it["text"], [Option(**o) for o in it.get("options", [])])
-            for it in row["forms"]
-        ]
     return Program(name, forms=forms, options=options, **own)
 
 

@@ -1,11 +1,12 @@
-"""systemd's units of the package: those of apps/host with the package's paths and configuration."""
+"""systemd's units of the package, with its paths and configuration: the listener's of server, the
+replica's of apps/host."""
 
 import re
 from pathlib import Path
 
 from .table import ROOT
 
-UNITS = ROOT / "apps" / "host" / "systemd"
+FOLDERS = (ROOT / "server" / "systemd", ROOT / "apps" / "host" / "systemd")
 # What a unit has for a copy by hand, and what the package has.
 COMMON = (
     (r"^# .*Copy it to /etc/systemd/system.*$", "# See /etc/telovamish."),
@@ -25,7 +26,6 @@ LISTEN = (
         r"^# the ledger's file is made once, by hand: .*$",
         "# the ledger's file is made once, by hand: see /etc/telovamish/tb-listen.conf",
     ),
-    (r"/usr/bin/python3 -m tb_host\.listen", "/usr/bin/tb-listen"),
     (r" -- (/usr/bin/tbd run) /var/lib/ledger/\S+ \d+", r" $OPTIONS -- \1 ${LEDGER} $PLACES"),
     (r"^ExecStart=", "EnvironmentFile=/etc/telovamish/tb-listen.conf\nExecStart="),
 )
@@ -35,7 +35,7 @@ REPLICA = (
         "/usr/bin/tb-replica \\\\\n    $LOG_OPTIONS --copy /var/lib/telovamish $OPTIONS \\\\\n"
         "    --status",
     ),
-    (r" -- (/usr/bin/tb_script run) \d+", r" -- \1 $PLACES"),
+    (r" -- (/usr/bin/tbd follow) \d+", r" -- \1 $PLACES"),
     (r"^ExecStart=", "EnvironmentFile=/etc/telovamish/tb-replica.conf\nExecStart="),
 )
 REPLACED = {
@@ -46,9 +46,14 @@ REPLACED = {
 }
 
 
+def source(name: str) -> Path:
+    """The file of a unit."""
+    return next(it / name for it in FOLDERS if (it / name).exists())
+
+
 def packaged(name: str) -> str:
     """A unit of the package. Raises ValueError if a path of a copy by hand is left in it."""
-    text = (UNITS / name).read_text()
+    text = source(name).read_text()
     for pattern, replacement in REPLACED[name]:
         text = re.sub(pattern, replacement, text, flags=re.M | re.S if ".*?" in pattern else re.M)
     left = re.findall(r"/opt/\S*|/var/lib/ledger\S*|/etc/ledger\S*|python3 -m \S+", text)
@@ -58,7 +63,7 @@ def packaged(name: str) -> str:
 
 
 def write(folder: Path) -> None:
-    """Writes all units of apps/host. One that has no row here is an error."""
+    """Writes all units. One that has no row here is an error."""
     folder.mkdir(parents=True, exist_ok=True)
-    for path in sorted(UNITS.iterdir()):
+    for path in (it for of in FOLDERS for it in sorted(of.iterdir())):
         (folder / path.name).write_text(packaged(path.name))

@@ -3,4 +3,6 @@
 import sys
 from pathlib import Path
 
-sys.path.insert(0, str(Path(__file__).resolve().parents[1]))
+PACKAGING = Path(__file__).resolve().parents[1]
+sys.path[:0] = map(str, (PACKAGING, PACKAGING.parent / "tools/testing"))
+pytest_plugins = ["marks"]

@@ -8,16 +8,16 @@ from pathlib import Path
 
 import jsonschema
 import pytest
-from shipping import bill, completion, debs, ecosystems, library, manuals, notes, table
-from shipping import units, versions
+from shipping import bill, completion, debs, ecosystems, image, library, manuals, notes, server
+from shipping import table, units, versions
 from shipping.programs import Record
+from shipping.running import Failed
 from shipping.table import ROOT
 from trying import watching
 
 PROGRAMS = table.whole()
 SUMS = {it: "0" * 64 for it in ("tbs", "tb_script", "tbd", "libtb_embed.a")}
 RECORD = Record("0.1.0", "c" * 40, "2026-11-29T00:00:00Z", "kit", "left by rt ci", True, SUMS)
-pytestmark = pytest.mark.quick
 
 
 def copied(tmp_path: Path) -> Path:
@@ -92,8 +92,10 @@ def test_forms_of_tbs_are_those_of_its_page(name: str) -> None:
     assert {it.words for it in PROGRAMS[name].forms} == wanted
 
 
-def test_python_programs_have_their_parsers_options() -> None:
+def test_programs_have_the_options_of_their_help_or_parser() -> None:
     assert "--metrics" in completion.flags(PROGRAMS["tb-listen"].options)
+    assert "--json" in completion.flags(completion.own_options(PROGRAMS["tb-listen"], "status"))
+    assert "--copy" in completion.flags(PROGRAMS["tb-replica"].options)
     assert {it.name() for it in PROGRAMS["tb-sql"].forms} == {"ask", "check", "load", "serve"}
     run = next(it for it in PROGRAMS["telovamish"].forms if it.name() == "run")
     assert {"--file", "--connect", "--json"} <= set(completion.flags(run.options))
@@ -155,11 +157,15 @@ def test_the_bill_lists_crates_and_their_licences(tmp_path: Path) -> None:
     (kit / "byteorder").mkdir(parents=True)
     granted = "Permission is hereby granted, free of charge, to any person"
     (kit / "byteorder/LICENSE-MIT").write_text(granted)
-    bill.write(ROOT, kit, RECORD, tmp_path / "bill.json")
+    (tmp_path / "tb-listen").write_bytes(b"a listener")
+    bill.write(ROOT, kit, RECORD, tmp_path, tmp_path / "bill.json")
     rows = {it["name"]: it for it in json.loads((tmp_path / "bill.json").read_text())["packages"]}
     assert rows["crate-byteorder"]["licenseDeclared"] == "MIT"
     assert rows["crate-tb_ledger"]["licenseDeclared"] == "Apache-2.0"
     assert rows["tbd"]["checksums"][0]["checksumValue"] == "0" * 64
+    assert rows["tb-listen"]["checksums"][0]["checksumValue"][:8] == "f256cb16"
+    go = [it for name, it in rows.items() if name.startswith("golang-")]
+    assert {it["licenseDeclared"] for it in go} == {"BSD-3-Clause", "MIT"}
 
 
 @pytest.mark.parametrize(
@@ -203,7 +209,7 @@ def test_each_alert_is_on_the_operators_page() -> None:
 @pytest.mark.parametrize("unit, page", [("listen", "TBD"), ("replica", "CLUSTER")])
 def test_each_status_that_ends_a_unit_is_on_its_page(unit: str, page: str) -> None:
     """Those of the server that it starts are on TBD."""
-    text = (units.UNITS / f"tb-{unit}.service").read_text()
+    text = units.source(f"tb-{unit}.service").read_text()
     ends = re.search(r"^RestartPreventExitStatus=(.*)$", text, re.M)
     assert ends
     for name in {"TBD", page}:
@@ -214,8 +220,9 @@ def test_each_status_that_ends_a_unit_is_on_its_page(unit: str, page: str) -> No
 
 
 def test_each_metric_of_a_query_is_one_of_the_listener() -> None:
-    source = (ROOT / "apps/host/src/tb_host/reports.py").read_text()
-    served = set(re.findall(r'"(tb_[a-z_]+)"', source))
+    source = (ROOT / "server/internal/metrics/metrics.go").read_text()
+    named = {*re.findall(r'"(tb_[a-z_]+)"', source), *watching.REPLICA}
+    served = {it.removesuffix("_total") for it in named}
     for query in watching.queries():
         for name in watching.METRIC.findall(query):
             assert re.sub(r"_(total|bucket|sum|count)$", "", name) in served, query
@@ -236,3 +243,79 @@ def test_an_archive_is_the_same_whenever_it_was_made(tmp_path: Path) -> None:
         ecosystems.steady(path, 7)
         found.append(path.read_bytes())
     assert found[0] == found[1]
+
+
+HELP = """usage: it [OPTIONS]
+
+options:
+  --unix PATH
+                        listen on a Unix socket, which
+                        its owner alone may use
+  --log-json
+                        lines as JSON
+  -h, --help            print this page
+"""
+
+
+def test_options_are_read_from_a_help_page() -> None:
+    wanted = [
+        table.Option(["--unix"], "listen on a Unix socket, which its owner alone may use", "PATH"),
+        table.Option(["--log-json"], "lines as JSON"),
+        table.Option(["-h", "--help"], "print this page"),
+    ]
+    assert table.of_help(HELP) == wanted
+
+
+@pytest.mark.parametrize("page", ["", HELP.replace("options:", "more:"), HELP + "some words\n"])
+def test_a_help_page_without_options_is_refused(page: str) -> None:
+    with pytest.raises(ValueError, match="no option"):
+        table.of_help(page)
+
+
+@pytest.fixture
+def programs(tmp_path: Path) -> list[Path]:
+    """Programs of an image: one that needs libraries, and another one."""
+    found = [tmp_path / "tbd", tmp_path / "tb-listen"]
+    shutil.copy("/bin/true", found[0])
+    found[1].write_bytes(b"a listener")
+    return found
+
+
+def test_an_image_is_the_same_whenever_it_is_made(programs: list[Path], tmp_path: Path) -> None:
+    paths = [tmp_path / "one.tar", tmp_path / "two.tar"]
+    for path in paths:
+        image.write(programs, RECORD, 7, path)
+    assert paths[0].read_bytes() == paths[1].read_bytes()
+    programs[1].write_bytes(b"another one")
+    image.write(programs, RECORD, 7, paths[1])
+    assert paths[0].read_bytes() != paths[1].read_bytes()
+
+
+def test_what_is_in_an_image(programs: list[Path], tmp_path: Path) -> None:
+    """The programs, the libraries of tbd, and no shell; its user owns two folders."""
+    path, top = tmp_path / "it.tar", tmp_path / "top"
+    image.write(programs, RECORD, 7, path)
+    config = image.unpacked(path, top)["config"]
+    assert sorted(it.name for it in (top / "usr/bin").iterdir()) == ["tb-listen", "tbd"]
+    libraries = {it.name for it in top.rglob("*.so*")}
+    assert libraries == {"libc.so.6", "ld-linux-x86-64.so.2"}
+    assert config["Entrypoint"] == ["/usr/bin/tb-listen"] and "--existing" in config["Cmd"]
+    with tarfile.open(path) as archive:
+        assert {"oci-layout", "index.json"} < set(archive.getnames())
+    own = [it for it in ("var/lib/telovamish", "run/telovamish") if (top / it).is_dir()]
+    assert [oct((top / it).stat().st_mode & 0o777) for it in own] == ["0o700"] * 2
+
+
+def test_a_blob_that_was_changed_is_refused(programs: list[Path], tmp_path: Path) -> None:
+    path = tmp_path / "it.tar"
+    image.write(programs, RECORD, 7, path)
+    data = bytearray(path.read_bytes())
+    data[data.index(b'"architecture"') + 2] ^= 1
+    path.write_bytes(data)
+    with pytest.raises(ValueError, match="is another one"):
+        image.unpacked(path, tmp_path / "top")
+
+
+def test_a_program_of_server_that_needs_a_library_is_refused() -> None:
+    with pytest.raises(Failed, match="needs libc.so.6"):
+        server.test(Path("/bin/true"))

@@ -87,7 +87,6 @@ def watched(root: Root, room: Path) -> str:
         raise Failed("prometheus is not installed")
     run(["promtool", "check", "rules", WATCH / "telovamish.rules.yml"])
     explained()
-    root.apt("install", "python3-prometheus-client")
     metrics, port = free_port(), free_port()
     folder = room / "prometheus"
     folder.mkdir()
