@@ -18,6 +18,7 @@ from typing import NamedTuple
 ROOT = Path(__file__).resolve().parent.parent
 PYTHON = "/usr/bin/python3"
 TARGETS = ("try", "run", "check", "slow")
+PATIENT = ["-o", "DPkg::Lock::Timeout=600"]  # another apt-get may be at work
 # The targets that need a package, by what its row ends in.
 NEEDED_BY = {"": ("check", "slow"), "all": TARGETS, "slow": ("slow",)}
 
@@ -62,8 +63,8 @@ def install(target: str) -> bool:
         print(f"make {target} needs Debian packages. Run: sudo {' '.join(words)}", file=sys.stderr)
         return False
     quietly = {**os.environ, "DEBIAN_FRONTEND": "noninteractive"}
-    for each in (["apt-get", "update", "-q"], [*words, "-q"]):
-        subprocess.run(each, env=quietly, check=False, stdout=sys.stderr)
+    for each in (["apt-get", "update"], words):
+        subprocess.run([*each, "-q", *PATIENT], env=quietly, check=False, stdout=sys.stderr)
     left = missing(target)
     if left:
         print(f"not installed: {' '.join(left)}", file=sys.stderr)
