@@ -106,16 +106,13 @@ class Money(unittest.TestCase):
 class WrongClients(unittest.TestCase):
     @staticmethod
     def said(*words):
-        """By each language's script: its words before these, its status, and what it says."""
-        programs = [
-            [sys.executable, "-B", f"{TOP}/clients/{it}/wrong_clients.py"]
-            for it in ("conformance", "go", "java")
-        ]
-        if shutil.which("node"):
-            programs.append(["node", f"{TOP}/clients/node/wrong-clients.js"])
-        for program in programs:
-            it = subprocess.run([*program, *words], capture_output=True, text=True, timeout=60)
-            yield program, it.returncode, it.stdout + it.stderr
+        """For each language: its name, the status, and what is said."""
+        program = [sys.executable, "-B", f"{HERE}/wrong_clients.py"]
+        for language in wrong_clients.LANGUAGES:
+            it = subprocess.run(
+                [*program, language, *words], capture_output=True, text=True, timeout=60
+            )
+            yield language, it.returncode, it.stdout + it.stderr
 
     def test_a_name_that_none_has(self):
         for program, status, said in self.said("--only", "none such"):
@@ -123,19 +120,22 @@ class WrongClients(unittest.TestCase):
             self.assertIn("no wrong client has such a name: none such", said)
 
     def test_from_one_of_them_on(self):
-        everyone = {tuple(program): said for program, _, said in self.said("--list")}
+        everyone = {program: said for program, _, said in self.said("--list")}
         for program, status, said in self.said("--list", "--from", "21"):
-            names = everyone[tuple(program)].splitlines()
+            names = everyone[program].splitlines()
             self.assertEqual((status, said.splitlines()), (0, names[20:]), program)
             self.assertTrue(names[0].startswith("1 ") and names[20].startswith("21 "), names)
         for program, status, said in self.said("--from", "99"):
             self.assertEqual((status, said), (1, "no wrong client is there from number 99 on\n"))
 
     def test_no_jobs(self):
-        for name in ("conformance", "go"):
-            status, said, faults = ran(f"../{name}/wrong_clients.py", "--jobs", "0")
-            self.assertNotEqual(status, 0, said)
-            self.assertIn("--jobs must be 1 or more", faults)
+        status, said, faults = ran("wrong_clients.py", "go", "--jobs", "0")
+        self.assertNotEqual(status, 0, said)
+        self.assertIn("--jobs must be 1 or more", faults)
+
+    def test_each_can_be_made(self):
+        for language, status, said in self.said("--texts"):
+            self.assertEqual(status, 0, f"{language}: {said}")
 
 
 class Drawn(unittest.TestCase):
@@ -182,17 +182,16 @@ class Drawn(unittest.TestCase):
     def test_a_crowd_of_a_wrong_client(self):
         with tempfile.TemporaryDirectory() as folder:
             name = "a session that two threads use at once"
-            wrong_clients.edited(folder, wrong_clients.WRONG[name])
-            runner = ["--", sys.executable, "-B", f"{folder}/conformance_runner.py"]
-            status, said, faults = ran("crowds.py", "--first", "--count", "200", *runner)
+            runner = wrong_clients.edited("python", folder, wrong_clients.wrong("python")[name])
+            status, said, faults = ran("crowds.py", "--first", "--count", "200", "--", *runner)
         self.assertEqual((status, faults), (1, ""), said)
         self.assertRegex(said, r"(?m)^FAILED: --seed \d+ --count 1: ask \d+ is told InDoubt")
 
     def test_a_wrong_client_is_caught_and_its_seed_told(self):
         with tempfile.TemporaryDirectory() as folder:
-            wrong_clients.edited(folder, wrong_clients.WRONG["a refusal ends the doubt"])
-            runner = ["--", sys.executable, "-B", f"{folder}/conformance_runner.py"]
-            status, said, faults = ran("kit.py", "--first", "--drawn", "100", *runner)
+            edits = wrong_clients.wrong("python")["a refusal ends the doubt"]
+            runner = wrong_clients.edited("python", folder, edits)
+            status, said, faults = ran("kit.py", "--first", "--drawn", "100", "--", *runner)
         self.assertEqual((status, faults), (1, ""), said)
         self.assertRegex(said, r"(?m)^FAILED: drawn-(\d+): .*\n.*--drawn 1 --seed \1$")
 

@@ -90,10 +90,6 @@ def test_the_status_and_the_output_of_a_command(tmp_path):
     assert ran(["sh", "-c", "echo said; echo told >&2; exit 3"], tmp_path) == (3, "said\ntold\n")
 
 
-def test_wrong_clients_can_be_made():
-    assert passes(script("wrong_clients.py", "--texts"), ROOT)
-
-
 @pytest.mark.slow(reason="builds each client, and runs its own tests once more", seconds=120)
 @of_each
 def test_own_tests(folder):

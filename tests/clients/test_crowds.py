@@ -22,19 +22,23 @@ MANY = "1000"  # seeds within which a wrong client is caught
 
 sys.path.append(str(CONFORMANCE))
 
-from wrong_clients import WRONG, edited  # noqa: E402
+from wrong_clients import edited, wrong  # noqa: E402
 
 # What the calls of a shared client have to find: edits of clients/python/src/tb_client.
 WRONG_CALLS = {
     "a request in doubt is answered to the next list": (
-        "pools.py",
-        "            if not isinstance(why, NotSent) or self._is_in_doubt():\n",
-        "            if not isinstance(why, NotSent):\n",
+        (
+            "pools.py",
+            "            if not isinstance(why, NotSent) or self._is_in_doubt():\n",
+            "            if not isinstance(why, NotSent):\n",
+        ),
     ),
     "a list that may be executed is reported as not sent": (
-        "pools.py",
-        "                if not is_lost and not is_doubtful:\n                    raise\n",
-        "                raise\n",
+        (
+            "pools.py",
+            "                if not is_lost and not is_doubtful:\n                    raise\n",
+            "                raise\n",
+        ),
     ),
 }
 WRONG_CROWDS = (
@@ -73,7 +77,7 @@ def wrong_client(tmp_path):
     """Makes a copy of the Python client with an edit."""
 
     def made(edit):
-        edited(tmp_path, edit)
+        edited("python", tmp_path, edit)
         (tmp_path / "tests").mkdir()
         shutil.copy(CALLS, tmp_path / "tests")
         return tmp_path
@@ -114,7 +118,7 @@ def test_wrong_shared_clients_are_caught(name, wrong_client, seeds):
 @pytest.mark.parametrize("name", WRONG_CROWDS)
 def test_wrong_sharing_is_caught(name, wrong_client, seeds):
     words = [*crowds(MANY, seeds["seed"], "--first"), *RUNNER]
-    assert is_caught(words, wrong_client(WRONG[name]))
+    assert is_caught(words, wrong_client(wrong("python")[name]))
 
 
 @pytest.mark.slow(reason="draws schedules until a wrong client is caught", seconds=60)
@@ -122,4 +126,4 @@ def test_wrong_sharing_is_caught(name, wrong_client, seeds):
 def test_wrong_sessions_are_caught(name, wrong_client, seeds):
     drawn = ["--first", "--seed", seeds["seed"], "--drawn", MANY]
     words = [CONFORMANCE / "kit.py", *drawn, "--", *RUNNER]
-    assert is_caught(words, wrong_client(WRONG[name]))
+    assert is_caught(words, wrong_client(wrong("python")[name]))

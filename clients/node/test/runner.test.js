@@ -3,7 +3,7 @@
 // The runner for the conformance kit, if the order of calls at once is known.
 
 const assert = require("node:assert/strict");
-const { spawn, spawnSync } = require("node:child_process");
+const { spawn } = require("node:child_process");
 const { mkdtempSync, rmSync } = require("node:fs");
 const net = require("node:net");
 const { tmpdir } = require("node:os");
@@ -59,10 +59,4 @@ test("a retry beside a call is told what the call left in doubt", async (t) => {
     const told = await call({ do: "parallel", calls: [ask, { do: "retry", session: "s" }] });
     assert.deepEqual(told?.map((it) => it.error?.name ?? it.ok), ["ReplyLost", said]);
   }
-});
-
-test("each wrong client can be made", () => {
-  const words = [path.join(__dirname, "..", "wrong-clients.js"), "--texts"];
-  const ran = spawnSync(process.execPath, words, { encoding: "utf8" });
-  assert.equal(ran.status, 0, ran.stdout + ran.stderr);
 });
