@@ -7,9 +7,13 @@ Quick tests are those that are not marked slow. Lines and branches of the packag
 [tool.setuptools] in its pyproject.toml) are counted by Debian's python3-coverage, also in the
 processes that tests start. The list is tests/unreached.txt: a reason in brackets, then a line for
 each place, as `src/x.py, function: text of the line`. A branch is `text -> text of the next line`;
-`*` in place of a text is whatever of this function or class is not reached. Fails for what is not
-in the list, and for what is in it and is reached: --write prints a list as it would be. The last
-line is 'N passed, M failed', over tests and places.
+`*` in place of a text is whatever of this function or class is not reached. A place whose reason
+begins with "Sometimes: " is reached by the order of threads, by time or by a signal: it may be
+reached or not.
+
+Fails for what is not in the list, for what is in it and is reached, and for a place that the file
+does not have: a line for each that begins with 'differs: '. --write prints a list as it would be.
+The last line is 'N passed, M failed', over tests and places.
 """
 
 import argparse
@@ -22,11 +26,12 @@ import subprocess
 import sys
 import tempfile
 import tomllib
-from dataclasses import dataclass
+from dataclasses import dataclass, field
 from pathlib import Path
 
 ROOT = Path(__file__).resolve().parent.parent
 PYTHON = "/usr/bin/python3"
+SOMETIMES = "Sometimes: "  # begins the reason of places that are reached or not, by chance
 STARTS = "import coverage\n\ncoverage.process_startup()\n"
 SETTINGS = """[run]
 branch = True
@@ -65,7 +70,7 @@ def measure(folder: Path, room: Path, words: list[str]) -> tuple[str, dict[str, 
     folders = [str(room), str(ROOT / "tools/testing"), os.environ.get("PYTHONPATH")]
     path = os.pathsep.join(filter(None, folders))
     env = {**os.environ, "COVERAGE_PROCESS_START": str(settings), "PYTHONPATH": path}
-    tests = [PYTHON, "-m", "pytest", "-q", "-rs", "-p", "marks", "-m", "not slow", *words]
+    tests = [PYTHON, "-m", "pytest", "-q", "-rfEs", "-p", "marks", "-m", "not slow", *words]
     with subprocess.Popen(tests, cwd=folder, env=env, stdout=subprocess.PIPE, text=True) as ran:
         lines = []
         for line in ran.stdout or []:
@@ -114,18 +119,43 @@ def unreached(folder: Path, files: dict[str, dict]) -> list[Place]:
     return found
 
 
-def listed(path: Path) -> tuple[list[Place], list[str]]:
-    """The places of the list, and its lines that are none or have no reason."""
-    places, wrong, reason = [], [], ""
+@dataclass
+class Kept:
+    """The places of the list: those that no test reaches, those that are reached sometimes, and
+    its lines that are no place or have no reason."""
+
+    never: list[Place] = field(default_factory=list)
+    sometimes: list[Place] = field(default_factory=list)
+    wrong: list[str] = field(default_factory=list)
+
+
+def listed(path: Path) -> Kept:
+    """The places of the list."""
+    kept, reason = Kept(), ""
     for line in path.read_text().splitlines() if path.exists() else []:
         found = re.fullmatch(r"(\S+), ([\w.]+): (.+)", line)
         if line.startswith("["):
             reason = line.strip("[]")
         elif found and reason:
+            places = kept.sometimes if reason.startswith(SOMETIMES) else kept.never
             places.append(Place(*found.groups()))
         elif line and not line.startswith("#"):
-            wrong.append(f"no place with a reason: {line}")
-    return places, wrong
+            kept.wrong.append(f"no place with a reason: {line}")
+    return kept
+
+
+def is_in(folder: Path, place: Place) -> bool:
+    """Whether the file has such a line in this function or class."""
+    path = folder / place.file
+    if not path.is_file():
+        return False
+    text = path.read_text()
+    scopes, wanted = scopes_of(text), place.text.partition(" -> ")[0]
+    if place.text == "*":
+        return place.scope == "module" or place.scope in scopes.values()
+    lines = enumerate(map(str.strip, text.splitlines()), 1)
+    of_scope = [it for line, it in lines if scopes.get(line, "module") == place.scope]
+    return place.text in of_scope or wanted in of_scope
 
 
 def has(place: Place, it: Place) -> bool:
@@ -136,22 +166,27 @@ def has(place: Place, it: Place) -> bool:
     return place.file == it.file and within
 
 
-def differences(found: list[Place], kept: list[Place]) -> list[str]:
+def differences(found: list[Place], kept: Kept) -> list[str]:
     """What is not in the list, how often, and what is in it and is reached."""
-    counts = collections.Counter(it for it in kept if it.text != "*")
-    wide = [it for it in kept if it.text == "*"]
-    rest = [it for it in found if not any(has(of, it) for of in wide)]
-    said = [
-        f"is in the list, and is reached: {of}"
-        for of in wide
-        if not any(has(of, it) for it in found)
-    ]
-    for it, count in (collections.Counter(rest) - counts).items():
-        said.append(
-            f"is not reached, and not in the list: {it}" + (f" ({count})" if count > 1 else "")
-        )
-    said += [f"is in the list, and is reached: {it}" for it in counts - collections.Counter(rest)]
+    counts = collections.Counter(it for it in kept.never if it.text != "*")
+    wide = [it for it in kept.never if it.text == "*"]
+    rest = collections.Counter(
+        it for it in found if not any(has(of, it) for of in wide + kept.sometimes)
+    )
+    said = []
+    for it, count in (rest - counts).items():
+        more = f" ({count})" if count > 1 else ""
+        said.append(f"is not reached, and not in the list: {it}{more}")
+    reached = [of for of in wide if not any(has(of, it) for it in found)]
+    said += [f"is in the list, and is reached: {it}" for it in [*reached, *(counts - rest)]]
     return said
+
+
+def compared(folder: Path, found: list[Place]) -> list[str]:
+    """What differs between the package's list and what was not reached."""
+    kept = listed(folder / "tests" / "unreached.txt")
+    gone = [f"is not in the file: {it}" for it in kept.sometimes if not is_in(folder, it)]
+    return [*kept.wrong, *differences(found, kept), *gone]
 
 
 def main() -> int:
@@ -167,12 +202,11 @@ def main() -> int:
     found = unreached(folder, files)
     if given.write:
         print("\n".join(map(str, found)))
-    kept, wrong = listed(folder / "tests" / "unreached.txt")
-    wrong += differences(found, kept)
+    wrong = compared(folder, found)
     last = text.strip().rpartition("\n")[2]
     passed = sum(map(int, re.findall(r"(\d+) passed", last)))
     failed = sum(map(int, re.findall(r"(\d+) (?:failed|errors?)", last)))
-    print("\n".join(wrong))
+    print("\n".join(f"differs: {it}" for it in wrong))
     print(f"{len(found)} lines and branches are not reached; {len(wrong)} differ from the list")
     print(f"{passed} passed, {failed + len(wrong)} failed")
     return 1 if wrong or failed or not passed else 0

@@ -2,6 +2,8 @@
 
 tools/check.py has those of CI, tools/slow.py the others. Each runs with CI=true: a test that is
 skipped, because something is not installed or not built, has failed (tools/testing/marks.py).
+Right before the last line stands what failed, by part and by name, in at most 30 lines: who keeps
+only the end of the output has the names.
 """
 
 import os
@@ -18,7 +20,14 @@ PYTHON = "/usr/bin/python3"
 PYTEST = ["env", f"PYTHONPATH={ROOT}/tools/testing", PYTHON, "-m", "pytest", "-q", "-rfEs"]
 PYTEST += ["-p", "marks", "-m"]  # and which marks
 NOTED = re.compile(r"^(?:left out as slow|SKIPPED).*$", re.M)
-FAILED = re.compile(r"^(?:FAILED|ERROR) (\S+)", re.M)
+FAILED = (
+    re.compile(  # what failed, as pytest, scripts of ours and rt, covered.py, Go, JUnit, Node say
+        r"^(?:(?:FAILED|ERROR) (.+?)(?: - .*)?|(?:rt: )?FAILED: (.+)|(differs: .+)"
+        r"|\s*--- (?:FAIL|SKIP): (\S+).*|FAIL\t(.+)|\d+\) (\w+\([\w.]+\))|\s*not ok \d+ - (.+))$",
+        re.M,
+    )
+)
+MOST = 30  # lines on what failed
 
 
 class Counts(NamedTuple):
@@ -57,6 +66,18 @@ class Result:
     def noted(self) -> list[str]:
         """Its lines on tests that did not run, and on those that ran twice."""
         return [*NOTED.findall(self.output), *([self.again] if self.again else [])]
+
+    @property
+    def wrong(self) -> list[str]:
+        """The lines on what failed, by name; without such a line the last three."""
+        named = [it.group().strip() for it in FAILED.finditer(self.output)]
+        lines = named or [it for it in self.output.splitlines() if it.strip()][-3:]
+        return list(dict.fromkeys(lines))
+
+
+def names_of(text: str) -> list[str]:
+    """What an output says that failed, each once."""
+    return list(dict.fromkeys("".join(it) for it in FAILED.findall(text)))
 
 
 def number(pattern: str, text: str) -> int:
@@ -140,7 +161,7 @@ def settled(first: Result) -> Result:
     print(f"== {first.part.name}, once more\n{second.output}== {second.line}", flush=True)
     if second.counts.failed:
         return first
-    names = ", ".join(FAILED.findall(first.output)) or str(failed)
+    names = ", ".join(names_of(first.output)) or str(failed)
     said = f"failed while other parts ran, and passed alone: {names}"
     return replace(first, counts=Counts(passed + failed, 0), again=said)
 
@@ -151,11 +172,26 @@ def summed(results: list[Result]) -> Counts:
     return Counts(*sums) if sums else Counts(0, 1)
 
 
+def failures(results: list[Result]) -> list[str]:
+    """A line for each part that failed, and after it what failed there. If these are too many, each
+    part has as many as the others."""
+    parts = [it for it in results if it.counts.failed]
+    each = max(MOST // max(len(parts), 1) - 2, 0)
+    lines = []
+    for it in parts:
+        wrong = [f"    {line[:200]}" for line in it.wrong]
+        rest = [f"    and {len(wrong) - each} more"] if len(wrong) > each and each else []
+        lines += [f"FAILED: {it.line}, status {it.status}", *wrong[:each], *rest]
+    return lines[:MOST]
+
+
 def ended(results: list[Result]) -> int:
-    """Prints what was not run and the last line. The exit status."""
+    """Prints what was not run, what failed and the last line. The exit status."""
     for result in results:
         for line in result.noted:
             print(f"{result.part.name}: {line}")
+    for line in failures(results):
+        print(line)
     passed, failed = summed(results)
     print(f"{passed} passed, {failed} failed", flush=True)
     return 1 if failed else 0

@@ -1,8 +1,8 @@
 """How a check counts what its parts print: tools/parts.py."""
 
 import pytest
-from parts import Counts, Part, by_status, closing_line, ended, go_counts, java_counts, node_counts
-from parts import pytest_counts, run, settled, summed
+from parts import MOST, PYTEST, Counts, Part, by_status, closing_line, ended, failures, go_counts
+from parts import java_counts, node_counts, pytest_counts, run, settled, summed
 
 GO = "=== RUN A\n--- PASS: A (0.0s)\n    --- PASS: A/b (0.0s)\n--- FAIL: C (0s)\n--- SKIP: D (0s)\n"
 COUNTED = {
@@ -56,11 +56,76 @@ def test_the_end_says_what_was_left_out(capsys):
         run(Part("format", ".", ["true"], by_status)),
     ]
     assert ended(results) == 1
-    assert capsys.readouterr().out == (
-        "files: left out as slow: 2 (6 s): kills\n"
-        "files: SKIPPED [1] a.py:1: needs root\n"
-        "4 passed, 1 failed\n"
-    )
+    lines = capsys.readouterr().out.splitlines()
+    assert lines[:2] == [
+        "files: left out as slow: 2 (6 s): kills",
+        "files: SKIPPED [1] a.py:1: needs root",
+    ]
+    assert lines[2].startswith("FAILED: files: 3 passed, 1 failed in ")
+    assert lines[-1] == "4 passed, 1 failed"
+
+
+NAMED = {
+    "pytest": "FAILED tests/test_a.py::test_b[one, two] - assert 1 == 2",
+    "pytest, amid a fixture": "ERROR tests/test_a.py::test_b - OSError: no",
+    "a place that differs": "differs: is not reached, and not in the list: src/x.py, f: return 1",
+    "a script": "FAILED: session/one: no reply",
+    "proofs": "rt: FAILED: tb_file/an_edit",
+    "Go": "    --- FAIL: TestA/b (0.00s)",
+    "a package in Go": "FAIL\ttelovamish.org/tbclient [build failed]",
+    "JUnit": "1) saved(org.telovamish.tbclient.SavedTest)",
+    "Node": "    not ok 3 - a session is saved",
+    "a script without names": "expected 1, found 2",
+}
+
+
+@pytest.mark.parametrize("line", NAMED.values(), ids=NAMED)
+def test_what_failed_is_named_at_the_end(line, capsys):
+    text = f"ok 1 - a\n--- PASS: TestB (0.0s)\n{line}\n2 passed, 1 failed"
+    result = run(Part("it", ".", ["printf", "%s\n", text], closing_line))
+    assert ended([result]) == 1
+    lines = capsys.readouterr().out.splitlines()
+    assert lines[0].startswith("FAILED: it: 2 passed, 1 failed in ")
+    assert f"    {line.strip()}" in lines and len(lines) <= 5
+
+
+TESTS = """
+import pytest
+
+@pytest.fixture
+def server():
+    yield
+    raise OSError("it did not end")
+
+def test_that_fails():
+    assert False
+
+def test_ends(server):
+    pass
+"""
+
+
+def test_failures_of_each_kind_are_within_the_last_lines(tmp_path, capsys):
+    """A test that fails, one whose fixture fails at its end, and a command that fails."""
+    (tmp_path / "test_it.py").write_text(TESTS)
+    tests = Part("tests", str(tmp_path), [*PYTEST, "not slow"], pytest_counts)
+    results = [run(tests), run(Part("format", ".", ["sh", "-c", "echo a.py; exit 3"], by_status))]
+    assert ended(results) == 1
+    lines = capsys.readouterr().out.splitlines()
+    assert lines[-1] == "1 passed, 3 failed" and len(lines) < MOST
+    assert any(it.startswith("    FAILED test_it.py::test_that_fails - ") for it in lines)
+    assert "    ERROR test_it.py::test_ends - OSError: it did not end" in lines
+    assert lines[-3].startswith("FAILED: format: 0 passed, 1 failed") and lines[-2] == "    a.py"
+
+
+@pytest.mark.parametrize("parts, each", [(1, 100), (5, 100), (40, 1)])
+def test_no_more_lines_than_the_end_has(parts, each):
+    words = "".join(f"FAILED: case {it}\\n" for it in range(each))
+    part = Part("it", ".", ["printf", f"{words}0 passed, {each} failed\\n"], closing_line)
+    lines = failures([run(part)] * parts)
+    assert len(lines) <= MOST
+    assert len([it for it in lines if it.startswith("FAILED: it: ")]) == min(parts, MOST)
+    assert (each == 1) or lines[-1].endswith(" more")
 
 
 AGAIN = {
