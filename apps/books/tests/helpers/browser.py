@@ -1,15 +1,10 @@
-"""Chromium over the pages of a small shop. It needs Debian's chromium-driver, python3-selenium."""
+"""Chromium over the pages of a small shop. It needs Debian's chromium-driver and python3-selenium,
+which is imported by who starts it: CI collects these tests without it."""
 
 import pathlib
 import signal
 import subprocess
 import time
-
-from selenium import webdriver
-from selenium.common.exceptions import WebDriverException
-from selenium.webdriver.chrome.options import Options
-from selenium.webdriver.chrome.service import Service
-from selenium.webdriver.common.by import By
 
 from tb_sql.sqlite_store import SqliteStore
 
@@ -19,6 +14,20 @@ from .tables import COMMAND, entered
 DRIVER = pathlib.Path("/usr/bin/chromedriver")
 WINDOW = ("--headless=new", "--no-sandbox", "--disable-gpu", "--disable-dev-shm-usage")
 A4 = 702  # pixels between the margins
+CSS, TAG = "css selector", "tag name"  # how elements are found, by the standard's words
+TAB, ENTER = "\ue004", "\ue007"  # keys, by the standard's codes
+
+
+def chromium():
+    """A window without a screen."""
+    from selenium.webdriver import Chrome
+    from selenium.webdriver.chrome.options import Options
+    from selenium.webdriver.chrome.service import Service
+
+    options = Options()
+    for word in (*WINDOW, "--window-size=1200,900", "--hide-scrollbars", "--lang=en-GB"):
+        options.add_argument(word)
+    return Chrome(service=Service(str(DRIVER)), options=options)
 
 
 class Browser:
@@ -30,10 +39,7 @@ class Browser:
         words = [*COMMAND, "serve", path, "--port", "0"]
         self.server = subprocess.Popen(words, stdout=subprocess.PIPE, text=True)
         self.base = self.server.stdout.readline().split()[0].rstrip("/")
-        options = Options()
-        for word in (*WINDOW, "--window-size=1200,900", "--hide-scrollbars", "--lang=en-GB"):
-            options.add_argument(word)
-        self.driver = webdriver.Chrome(service=Service(str(DRIVER)), options=options)
+        self.driver = chromium()
         self.driver.set_page_load_timeout(120)
 
     def close(self):
@@ -59,10 +65,12 @@ class Browser:
         self.driver.get(self.base + address)
 
     def text(self):
-        return " ".join(self.driver.find_element(By.TAG_NAME, "body").text.split())
+        return " ".join(self.driver.find_element(TAG, "body").text.split())
 
     def wait_for(self, words):
         """Waits until a page with these words is there: a click may return before it is."""
+        from selenium.common.exceptions import WebDriverException
+
         deadline = time.monotonic() + 60
         while time.monotonic() < deadline:
             try:
@@ -74,7 +82,7 @@ class Browser:
         assert words in self.text()
 
     def all(self, chosen):
-        return self.driver.find_elements(By.CSS_SELECTOR, chosen)
+        return self.driver.find_elements(CSS, chosen)
 
     def one(self, chosen):
-        return self.driver.find_element(By.CSS_SELECTOR, chosen)
+        return self.driver.find_element(CSS, chosen)

@@ -7,15 +7,9 @@ import urllib.request
 
 import pytest
 
+from helpers.browser import A4, CSS, DRIVER, ENTER, TAB, TAG, Browser
 from helpers.made import MAX
 from helpers.sample import BANK, GREAT, HOLDS, SALES
-
-webdriver = pytest.importorskip("selenium.webdriver")
-
-from selenium.webdriver.common.by import By  # noqa: E402
-from selenium.webdriver.common.keys import Keys  # noqa: E402
-
-from helpers.browser import A4, DRIVER, Browser  # noqa: E402
 
 pytestmark = [
     pytest.mark.slow(reason="a browser", seconds=120),
@@ -193,8 +187,8 @@ def test_controls_are_labelled(browser, address):
         shown = it.get_attribute("outerHTML")[:300]
         assert not it.is_displayed() or it.accessible_name.strip(), shown
     for table in browser.all("table"):
-        assert table.find_elements(By.TAG_NAME, "caption")
-        assert table.find_elements(By.CSS_SELECTOR, "thead th[scope=col]")
+        assert table.find_elements(TAG, "caption")
+        assert table.find_elements(CSS, "thead th[scope=col]")
 
 
 def test_links_lead_to_pages(browser):
@@ -241,7 +235,7 @@ def test_a_person_looks(browser):
     transfer.click()
     browser.wait_for(f"Transfer {id}")
     field = browser.one("#search-id")
-    field.send_keys(str(HOLDS), Keys.ENTER)
+    field.send_keys(str(HOLDS), ENTER)
     browser.wait_for("Account 4")
 
 
@@ -257,13 +251,13 @@ def test_dates(browser):
 
 def test_keyboard(browser):
     browser.open("/")
-    browser.one("body").send_keys(Keys.TAB)
+    browser.one("body").send_keys(TAB)
     first = browser.driver.switch_to.active_element
     assert first.text == "Skip to the content"
     assert first.rect["x"] >= 0
-    first.send_keys(Keys.ENTER)
+    first.send_keys(ENTER)
     assert browser.driver.current_url.endswith("#main")
-    browser.driver.switch_to.active_element.send_keys(Keys.TAB)
+    browser.driver.switch_to.active_element.send_keys(TAB)
     inside = browser.driver.switch_to.active_element
     assert browser.driver.execute_script("return arguments[0].closest('main') !== null", inside)
     outline = inside.value_of_css_property("outline-style")
