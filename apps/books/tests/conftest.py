@@ -1,14 +1,20 @@
 """Fixtures of the tests: a folder with a file of tables, its pages, and a built program."""
 
 import pytest
-from hypothesis import settings
+from hypothesis import HealthCheck, settings
 from telovamish.programs import found
 
 from helpers.pages import Pages
 from helpers.tables import Tables
 
 # the same examples in each run, and no limit of time on a busy machine
-settings.register_profile("books", max_examples=100, deadline=None, derandomize=True)
+settings.register_profile(
+    "books",
+    max_examples=100,
+    deadline=None,
+    derandomize=True,
+    suppress_health_check=[HealthCheck.too_slow],
+)
 settings.load_profile("books")
 
 

@@ -7,7 +7,7 @@ import subprocess
 from typing import TYPE_CHECKING, Iterator, Optional
 
 import pytest
-from hypothesis import settings
+from hypothesis import HealthCheck, settings
 
 from telovamish.programs import found
 
@@ -16,7 +16,13 @@ if TYPE_CHECKING:
 
 pytest_plugins = ["marks"]
 # the same examples in each run, and no limit of time on a busy machine
-settings.register_profile("telovamish", max_examples=100, deadline=None, derandomize=True)
+settings.register_profile(
+    "telovamish",
+    max_examples=100,
+    deadline=None,
+    derandomize=True,
+    suppress_health_check=[HealthCheck.too_slow],
+)
 settings.load_profile("telovamish")
 
 APP = pathlib.Path(__file__).resolve().parent.parent

@@ -13,7 +13,13 @@ from tb_client.frames import HEADER, reply_fault, request_fault
 from tb_client.names import CreateAccountResult, CreateTransferResult
 
 EXAMPLES = 300
-drawn = hypothesis.settings(max_examples=EXAMPLES, derandomize=True, deadline=None, database=None)
+drawn = hypothesis.settings(
+    max_examples=EXAMPLES,
+    derandomize=True,
+    deadline=None,
+    database=None,
+    suppress_health_check=[hypothesis.HealthCheck.too_slow],
+)
 FAULTS = {"Short", "ClientZero", "UnknownOperation", "Reserved", "RegisterNumbers", "RequestZero"}
 FAULTS |= {"ReplyNumbers", "BadLength", "TooMany"}
 

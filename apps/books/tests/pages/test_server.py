@@ -19,6 +19,8 @@ from helpers.tables import COMMAND
 from tb_sql.pages import queries, server
 from tb_sql.pages.site import Site
 
+SECONDS = 240  # on a busy machine: a table of 300,000 rows is written as CSV
+
 
 @pytest.mark.parametrize("kind", [TypeError, ValueError, OverflowError])
 def test_a_fault_of_a_page_itself(pages, monkeypatch, caplog, kind):
@@ -69,14 +71,15 @@ def test_without_standard_output(pages, port):
     pages.load(Made())
     words = " ".join([*COMMAND, "serve", pages.path, "--port", str(port)])
     with subprocess.Popen(["sh", "-c", f"exec {words} >&-"], stderr=subprocess.PIPE) as process:
-        deadline = time.monotonic() + 60
-        while time.monotonic() < deadline:
+        is_served, deadline = False, time.monotonic() + SECONDS
+        while not is_served and time.monotonic() < deadline:
             with contextlib.suppress(OSError):
-                urllib.request.urlopen(f"http://127.0.0.1:{port}/", timeout=60).close()
-                break
+                urllib.request.urlopen(f"http://127.0.0.1:{port}/", timeout=SECONDS).close()
+                is_served = True
             time.sleep(0.02)
         process.terminate()
-        assert (process.wait(60), process.stderr.read()) == (0, b"")
+        assert (process.wait(SECONDS), process.stderr.read()) == (0, b"")
+    assert is_served, "a signal before the first reply is of test_early.py"
 
 
 class Served:
@@ -92,7 +95,7 @@ class Served:
 
     def sent(self, data):
         """A connection to which this was sent."""
-        connection = socket.create_connection(("127.0.0.1", self.port), timeout=60)
+        connection = socket.create_connection(("127.0.0.1", self.port), timeout=SECONDS)
         self.connections.append(connection)
         connection.sendall(data)
         return connection
@@ -130,7 +133,7 @@ def test_a_table_that_nobody_reads(pages, served):
     connection = served.sent(b"GET /csv/postings.csv HTTP/1.1\r\nHost: localhost\r\n\r\n")
     assert connection.recv(8) == b"HTTP/1.1"
     pages.change("UPDATE position SET time = time + 1")
-    deadline = time.monotonic() + 60
+    deadline = time.monotonic() + SECONDS
     while pages.rows("PRAGMA wal_checkpoint(TRUNCATE)")[0][0] == 1:
         assert time.monotonic() < deadline, "the rows are still held"
         time.sleep(0.1)
@@ -140,13 +143,12 @@ def test_bounds_of_threads_and_connections(served):
     """Others wait: no request is served beyond them, and no request is lost."""
     before = threading.active_count()
     held = [served.sent(b"GET / HTTP/1.1\r\n") for _ in range(12)]
-    deadline = time.monotonic() + 60
+    deadline = time.monotonic() + SECONDS
     while len(served.server.active_channels) < 5 and time.monotonic() < deadline:
         time.sleep(0.02)
     assert threading.active_count() <= before + server.THREADS
     assert 5 <= len(served.server.active_channels) <= 8
     last = served.sent(b"GET /pending HTTP/1.1\r\nHost: localhost\r\nConnection: close\r\n\r\n")
-    last.settimeout(60)
     assert last.recv(15) == b"HTTP/1.1 200 OK"
     del held
 
