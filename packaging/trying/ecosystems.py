@@ -31,7 +31,7 @@ def wheels(dist: Path, room: Path, version: str) -> None:
     for name in ("telovamish", "tb-sql"):
         said = run([str(room / "env/bin" / name), "--version"])
         check(said.strip() == f"{name} {version}", said)
-    run([str(room / "env/bin/tb-listen"), "--help"])
+    run([str(room / "env/bin/tb-replica"), "--help"])
     unpacked = room / "sdist"
     words = [*pip, "--no-build-isolation", "--target", str(unpacked)]
     run([*words, *dist.glob("*.tar.gz")])

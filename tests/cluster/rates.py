@@ -16,8 +16,9 @@ from tb_host.entries import MOMENT, NOTHING, Claim, Entry
 from tb_host.log import Access, opened
 
 from .load import transfers
-from .processes import HERE, HOST, PYTHON, Process, free_ports, slowed, until
+from .processes import HERE, TOP, Process, free_ports, slowed, until
 
+LISTENER = os.environ.get("LISTENER") or f"{TOP}/server/out/tb-listen"
 LOADS = (("24 clients with single transfers", 24, 1), ("1 client with batches of 8190", 1, 8190))
 
 
@@ -27,7 +28,7 @@ def listener(program, sync=0.0, options=()):
     that keeps its ledger in memory."""
     with tempfile.TemporaryDirectory(prefix="listener-") as folder:
         (port,) = free_ports(1)
-        words = [PYTHON, "-B", f"{HOST}/tb-listen", "--tcp", f"127.0.0.1:{port}", *options, "--"]
+        words = [LISTENER, "--tcp", f"127.0.0.1:{port}", *options, "--"]
         keeps = [f"{folder}/ledger.tbk"] if program.name == "tbd" else []
         words = slowed([*words, str(program), "run", *keeps, "64"], sync)
         it = Process("listener", words, folder)

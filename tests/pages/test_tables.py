@@ -8,6 +8,7 @@ import sys
 import frames
 import pytest
 from frames import pair
+from tabled import compared
 
 from ..conftest import ROOT, ran
 
@@ -20,9 +21,6 @@ FAULTS = (
     "tb_edge_commands/src/commands.rt",
     "tb_edge_storm/src/faults.rt",
 )
-# The place where the listener has the names that it sends.
-HOST = ("access", "command", "connections", "lines", "process", "serving", "shares")
-SENT = re.compile(r'(?:Told\(|given\.(?:idle|slow), |stop\(|return |else )"([A-Z]\w+)"')
 
 
 def test_the_table_of_names_and_layouts():
@@ -39,10 +37,8 @@ def test_a_row_for_each_name_that_a_closed_connection_is_sent():
     rows = section("docs/use/CLIENTS.md", "### What a closed connection gets")
     named = re.findall(r"^\| ([A-Z][A-Za-z, ]+) \|", rows, re.M)
     shown = {it for names in named for it in names.split(", ")} - {"Name"}
-    client = (ROOT / "clients/python/src/tb_client/frames.py").read_text()
-    of_frames = client.split("def request_fault")[1].split("\ndef ")[0]
-    host = "".join((ROOT / f"apps/host/src/tb_host/{it}.py").read_text() for it in HOST)
-    assert shown == {*re.findall(r'\("(\w+)", ', of_frames), *SENT.findall(host)}
+    listener = "".join((ROOT / it).read_text() for it in compared.LISTENER)
+    assert shown == {*compared.told(listener)}
 
 
 def statuses():

@@ -23,8 +23,6 @@ AHEAD = 10 + LATE
 
 def pairs_of(world: World) -> list[tuple[int, bytes]]:
     """The moments and frames of the one history, in order."""
-    if not world.has_replicas:
-        return list(world.machines[0].disk)
     found = []
     for data in entries_of(world):
         pairs, at = Entry.from_bytes(data).pairs, 0
@@ -50,8 +48,7 @@ def entries_of(world: World) -> list[bytes]:
 def test_calls(world: World) -> None:
     """A call that returned is in the history once, and its reply is the one of its entry. One that
     did not return is there at most once."""
-    clients_max = CLIENTS_MAX if world.has_replicas else 8
-    ledger = Ledger(clients_max)
+    ledger = Ledger(CLIENTS_MAX)
     executed: dict[bytes, list[bytes]] = collections.defaultdict(list)
     for moment, frame in pairs_of(world):
         reply, is_new = replied(ledger, moment, frame)
@@ -84,8 +81,6 @@ def test_order(world: World) -> None:
 
 def test_logs(world: World) -> None:
     """Each machine has taken the whole log."""
-    if not world.has_replicas:
-        return
     hashes = [NOTHING]
     for data in entries_of(world):
         hashes.append(chained(hashes[-1], Entry.from_bytes(data).pairs))

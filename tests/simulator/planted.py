@@ -1,4 +1,4 @@
-"""Wrong listeners and replicas: edits of apps/host/src/tb_host that the simulator finds."""
+"""Wrong replicas: edits of apps/host/src/tb_host that the simulator finds."""
 
 from __future__ import annotations
 
@@ -63,12 +63,6 @@ PLANTED = {
         "entries.py",
         '            raise ValueError("it does not have its SHA-256")\n',
         "            pass\n",
-    ),
-    "what waits stays when a server ends": (
-        "command.py",
-        "        while self.waiting:\n"
-        '            self._tell(self.waiting.popleft()[1], b"", self.ended_as)\n',
-        "        pass\n",
     ),
     "a connection that is closed keeps its place": (
         "connections.py",

@@ -1,8 +1,7 @@
-"""Stand-ins for the proved server programs, as processes of a simulated machine.
+"""A stand-in for the proved server program, as processes of a simulated machine.
 
-The ledger is that of stand_in_tbd.py, which has the rules of sessions. `run FILE CLIENTS_MAX` keeps
-its entries on the machine's disk; `run CLIENTS_MAX`, and `follow CLIENTS_MAX`, which reads entries
-with their positions, keep nothing.
+The ledger is that of stand_in_tbd.py, which has the rules of sessions. `follow CLIENTS_MAX` reads
+entries with their positions, and keeps nothing.
 """
 
 from __future__ import annotations
@@ -37,7 +36,6 @@ class Incoming:
     """What a process writes, as its parent reads it."""
 
     def __init__(self) -> None:
-        self.count = 0
         self.stream = asyncio.StreamReader(limit=1 << 18)
         self.stream.set_transport(self)  # type: ignore[arg-type]
         self.take: Callable[[bytes], None] = self.stream.feed_data
@@ -45,7 +43,6 @@ class Incoming:
 
     def come(self, data: bytes) -> None:
         if self.is_open:
-            self.count += len(data)
             self.take(data)
 
     def pause_reading(self) -> None:
@@ -53,9 +50,6 @@ class Incoming:
 
     def resume_reading(self) -> None:
         pass
-
-    def written(self) -> int:
-        return self.count
 
     def close(self) -> None:
         if self.is_open:
@@ -115,13 +109,11 @@ class Process:
         self.stdin = Outgoing(self._take, self._close)
         self.returncode: Optional[int] = None
         self.ended = asyncio.Event()
-        self.at_end: Callable[[], None] = lambda: None
         self.data, self.is_due = b"", False
         self.ends_amid = False  # it ends amid the next replies that it writes
         self.is_ready = self.is_closing = False
-        self.ledger = Ledger(int(self.words[-1]) if self.words[1] in ("run", "follow") else 64)
+        self.ledger = Ledger(int(self.words[-1]))
         self.position, self.log, self.replies = 0, NOTHING, NOTHING  # of a log that is followed
-        self.disk = world.disk(host) if len(self.words) > 3 or self.words[1] == "check" else None
         self._later(self._begin, "start")
 
     def _later(self, work: Callable[..., None], what: str) -> None:
@@ -131,14 +123,6 @@ class Process:
     def _begin(self) -> None:
         if self.returncode is not None:
             return
-        for moment, frame in self.disk or ():
-            replied(self.ledger, moment, frame)
-        if self.words[1] == "check":
-            self.output.come(f"last time {self.ledger.time}\n".encode())
-            self.end(0)
-            return
-        if self.disk is not None:
-            self.told.come(b"tbd: ready\n")
         self.is_ready = True
         self._work()
 
@@ -157,7 +141,7 @@ class Process:
         self.is_due = False
         if self.returncode is not None or not self.is_ready:
             return
-        self._write(b"".join(self._followed() if self.words[1] == "follow" else self._served()))
+        self._write(b"".join(self._followed()))
         if self.is_closing and not self.data:
             self.end(0)
 
@@ -168,10 +152,7 @@ class Process:
             return None
         moment, frame = int.from_bytes(self.data[:8], "little"), self.data[8:size]
         self.data = self.data[size:]
-        reply, is_new = replied(self.ledger, moment, frame)
-        if is_new and self.disk is not None:
-            self.disk.append((moment, frame))
-        return reply
+        return replied(self.ledger, moment, frame)[0]
 
     def _served(self) -> Iterator[bytes]:
         """The replies to the pairs that are whole."""
@@ -213,7 +194,6 @@ class Process:
 
     def end(self, status: int) -> None:
         if self.returncode is None:
-            self.at_end()
             self.returncode = status
             self.ended.set()
             self.stdin.is_open = False

@@ -1,5 +1,5 @@
 #!/usr/bin/python3
-"""Runs the listener and the replicas over seeds, in virtual time.
+"""Runs the replicas over seeds, in virtual time.
 
     python3 -m tests.simulator.simulate [--first SEED] [--seeds N] [--jobs N] [--stop]
         [--host FOLDER]

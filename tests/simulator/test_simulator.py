@@ -1,5 +1,4 @@
-"""The listener's and the replica's own code over seeds, in virtual time, with and without planted
-bugs."""
+"""The replica's own code over seeds, in virtual time, with and without planted bugs."""
 
 import re
 import subprocess

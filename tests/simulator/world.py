@@ -15,10 +15,9 @@ import time
 from typing import Any, Callable, Iterator, Optional
 from unittest import mock
 
-from tb_host import command, entries, lines, listen, local_copy, machines, pipes, process, serving
+from tb_host import entries, lines, local_copy, machines, pipes, process, serving
 from tb_host.connections import Listener
 from tb_host.counts import Counts
-from tb_host.evictions import Evictions
 from tb_host.faults import Fault
 from tb_host.lines import Ended
 from tb_host.local_copy import Copy
@@ -64,7 +63,6 @@ class Machine:
     def __init__(self, world: World, number: int) -> None:
         self.world, self.name = world, f"r{number}"
         self.ahead = 0
-        self.disk: list[tuple[int, bytes]] = []
         self.folder = os.path.join(world.folder, self.name)
         self.host: Optional[Host] = None
         self.listener: Any = None
@@ -129,12 +127,6 @@ def given_to_replica(name: str) -> Any:
     return copy.copy(_words_of(name))
 
 
-@functools.lru_cache(None)
-def given_to_listener() -> Any:
-    words = ["--tcp", "127.0.0.1:1", "--slow", "5", "--", "tbd", "run", "FILE", "8"]
-    return listen.words(words)
-
-
 class World:
     """One run."""
 
@@ -149,7 +141,6 @@ class World:
         self.is_over = self.is_closed = False
         self.is_quiet = False
         self.injected: list[str] = []
-        self.has_replicas = self.drawn.random() < 0.8
         self.engine = Engine(self)
         self.machines: list[Machine] = []
         self.clients: list[Client] = []
@@ -181,9 +172,6 @@ class World:
         pid = NO_PID + len(self.processes)
         self.processes[pid] = process
         return pid
-
-    def disk(self, host: Host) -> list[tuple[int, bytes]]:
-        return next(it.disk for it in self.machines if it.name == host.name)
 
     def end_processes(self, host: Host) -> None:
         for it in self.processes.values():
@@ -220,15 +208,7 @@ class World:
     # the programs
 
     async def serve(self, machine: Machine) -> None:
-        """Runs the machine's program until it is stopped."""
-        if self.has_replicas:
-            await self._serve_replica(machine)
-        else:
-            given = given_to_listener()
-            server = command.Command(given.command, given.slow, 1.0)
-            await self._take_connections(machine, server, given)
-
-    async def _serve_replica(self, machine: Machine) -> None:
+        """Runs a replica until it is stopped."""
         log = SimulatedLog(self, self.engine)
         given = given_to_replica(machine.name)
         mine = machine.copy = Copy(machine.folder)
@@ -243,8 +223,8 @@ class World:
             mine.close()
 
     async def _take_connections(self, machine: Machine, server: Any, given: Any) -> None:
-        counts = Counts(None, server.is_serving, server.committed, server.numbers)
-        listener = Listener(server, given, AnyPeer(), counts, Evictions(None))
+        counts = Counts(server.is_serving, server.numbers)
+        listener = Listener(server, given, AnyPeer(), counts)
         machine.listener, machine.server = listener, server
         await serving._serve_until([], server, listener, machine.stopping)
 
@@ -253,8 +233,7 @@ class World:
     async def _hurt(self) -> None:
         """Draws faults until the run is quiet."""
         kinds = [self._crash, self._crash, self._cut, self._cut, self._kill]
-        if self.has_replicas:
-            kinds += [self._away, self._late_node, self._full, self._rot, self._clock]
+        kinds += [self._away, self._late_node, self._full, self._rot, self._clock]
         count = self.drawn.randrange(8) if self.steps is None else self.steps
         for _ in range(count):
             await asyncio.sleep(self.drawn.uniform(0.2, 3.0))
@@ -319,8 +298,7 @@ class World:
 
     async def _run(self) -> None:
         self.context = contextvars.copy_context()
-        count = 3 if self.has_replicas else 1
-        self.machines = [Machine(self, it) for it in range(count)]
+        self.machines = [Machine(self, it) for it in range(3)]
         for it in self.machines:
             it.start()
         clients = self.drawn.randint(1, 6)
@@ -358,8 +336,7 @@ class World:
             if listener is None:
                 continue
             self.see(not listener.open, f"{machine.name} has open connections")
-            names = ("queue", "sent", "own", "claims") if self.has_replicas else ("waiting",)
-            for name in names:
+            for name in ("queue", "sent", "own", "claims"):
                 self.see(not getattr(server, name), f"{machine.name} keeps {name}")
         self.see(not self.wires, "a connection is neither answered nor closed")
 
@@ -399,8 +376,6 @@ class World:
                 (pipes, "started", started),
                 (process, "exited", exited),
                 (os, "killpg", kill),
-                (command, "is_asleep", lambda _: True),
-                (command, "Commits", NoCommits),
                 (lines, "_takes_a_line", lambda: False),
                 # what took the system's clocks when its module was loaded
                 (Moments.__init__, "__defaults__", (0, time.time_ns, running_ns)),
@@ -414,19 +389,6 @@ class World:
             finally:
                 self.discard()
                 shutil.rmtree(self.folder, ignore_errors=True)
-
-
-class NoCommits:
-    """No system counts what these processes write."""
-
-    def __init__(self, _: Optional[str]) -> None:
-        pass
-
-    def begin(self, _: Any) -> None:
-        pass
-
-    def look(self) -> None:
-        return None
 
 
 __all__ = ["Machine", "World"]

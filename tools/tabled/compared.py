@@ -279,9 +279,19 @@ def reply_tests(text):
 
 # What the listener serves connections with.
 LISTENER = [
-    f"apps/host/src/tb_host/{it}.py"
-    for it in ("access", "command", "connections", "lines", "process", "serving", "shares")
+    f"server/internal/{it}.go"
+    for it in (
+        "access/access",
+        "backend/queue",
+        "conns/accept",
+        "conns/conn",
+        "frames/frames",
+        "serve/serve",
+        "shares/shares",
+    )
 ]
+# A name that a connection is sent, as these have it.
+SENT = re.compile(r'(?:\breturn (?:0, )?|stop\(|(?:why|programEnded|starting) *:?= )"([A-Z]\w+)"')
 RECORDS = {"account": "Account", "transfer": "Transfer", "result": "EventResult"}
 SPELLINGS = {
     "account": "account_bytes",
@@ -410,7 +420,7 @@ def clients(table, sources):
     yield (
         "told: the names in the listener",
         sorted(row["name"] for row in table["told"]),
-        lambda: told("".join(map(sources.read, LISTENER)), sources.read(frames)),
+        lambda: told("".join(map(sources.read, LISTENER))),
     )
     refusals = [row["name"] for row in table["statuses"] if row["number"]]
     yield (
@@ -427,10 +437,9 @@ def clients(table, sources):
     )
 
 
-def told(listener, frames):
-    """The names that the listener gives before it closes a connection: its own, and faults."""
-    own = r'(?:Told\(|given\.(?:idle|slow), |stop\(|return |else )"([A-Z]\w+)"'
-    return sorted({*re.findall(own, listener), *order_in_python(frames, "request_fault")})
+def told(listener):
+    """The names that the listener sends before it closes a connection: its own, and faults."""
+    return sorted({*SENT.findall(listener)} - {"ReplyNumbers"})  # which is of replies
 
 
 def order_in_python(text, name):

@@ -6,12 +6,16 @@ status that it has for that signal later.
 import os
 import re
 import signal
+import socket
 import subprocess
 import sys
 import tempfile
 import unittest
 
-from paths import HOST, LISTENER, PYTHONPATH
+from helpers.records import header
+from hosts import STAND_IN, told
+from paths import HOST, PYTHONPATH
+from tb_client import Session, Socket
 
 # Sends this process a signal when a module is looked for.
 SENDS = """
@@ -24,9 +28,9 @@ class Sends:
 sys.meta_path.insert(0, Sends)
 sys.argv[1:] = {words}
 """
-FIRST, LATE = "argparse", "uvloop"
+FIRST, LATE = "argparse", "etcd3"
 AS_MODULE = "runpy.run_module({!r}, run_name='__main__', alter_sys=True)"
-LISTENS = ["--unix", "it.sock", "--", "true", "run", "1"]
+REPLICA = os.path.join(HOST, "tb-replica")
 REPLICATES = ["--log", "etcd://127.0.0.1:1/bank", "--copy", "copy", "--", "true", "follow", "1"]
 
 
@@ -42,14 +46,13 @@ class Loading(unittest.TestCase):
     def ends(self, code, words, name, number):
         """How a program ends that gets a signal amid its imports; it leaves nothing."""
         script = SENDS.format(name=name, number=int(number), words=words) + code
-        kept = {it: value for it, value in os.environ.items() if it != "TB_LOOP"}
         with tempfile.TemporaryDirectory() as folder:
             ran = subprocess.run(
                 [sys.executable, "-c", script],
                 capture_output=True,
                 text=True,
                 cwd=folder,
-                env={**kept, "PYTHONPATH": PYTHONPATH, "PYTHONDONTWRITEBYTECODE": "1"},
+                env={**os.environ, "PYTHONPATH": PYTHONPATH, "PYTHONDONTWRITEBYTECODE": "1"},
             )
             left = os.listdir(folder)
         return ran.returncode, ran.stderr, left
@@ -57,18 +60,16 @@ class Loading(unittest.TestCase):
     def test_hosts(self):
         """SIGINT and SIGTERM end them as later; SIGHUP does nothing."""
         commands = scripts()
-        listener = f"runpy.run_path({LISTENER!r}, run_name='__main__')"
+        checkout = f"runpy.run_path({REPLICA!r}, run_name='__main__')"
         for code, words in (
-            (commands["tb-listen"], LISTENS),
-            (listener, LISTENS),
-            (AS_MODULE.format("tb_host.listen"), LISTENS),
             (commands["tb-replica"], REPLICATES),
+            (checkout, REPLICATES),
             (AS_MODULE.format("tb_host.machines"), ["run", *REPLICATES]),
         ):
             for number, name in ((signal.SIGINT, FIRST), (signal.SIGTERM, LATE)):
                 with self.subTest(code, number=number):
                     self.assertEqual(self.ends(code, words, name, number), (0, "", []))
-        status, said, _ = self.ends(commands["tb-listen"], ["--nothing"], FIRST, signal.SIGHUP)
+        status, said, _ = self.ends(commands["tb-replica"], ["--nothing"], FIRST, signal.SIGHUP)
         self.assertEqual((status, said.count("error: ")), (2, 1))
 
     def test_parts_that_serve_nothing(self):
@@ -88,9 +89,9 @@ class Loading(unittest.TestCase):
     def test_a_second_signal(self):
         """One that comes when a host has ended changes nothing about its status."""
         code = """
-from tb_host import early, listen
-listen.main = lambda: 8
-status = early.listen()
+from tb_host import early, machines
+machines.main = lambda: 8
+status = early.replica()
 for number in (signal.SIGTERM, signal.SIGINT, signal.SIGHUP):
     os.kill(os.getpid(), number)
 sys.exit(status)
@@ -101,26 +102,34 @@ sys.exit(status)
         """A page of usage or a version that cannot be written is a fault of a device; a message
         that cannot be written does not change the status."""
         env = {**os.environ, "PYTHONUNBUFFERED": ""}  # as people run it
-        replica = os.path.join(os.path.dirname(LISTENER), "tb-replica")
-        for path, name in ((LISTENER, "tb_listen"), (replica, "tb_replica")):
-            command = [sys.executable, "-B", path]
-            with self.subTest(name), open("/dev/full", "wb") as full:
-                for word in ("--help", "--version"):
-                    ran = subprocess.run(
-                        [*command, word], stdout=full, stderr=subprocess.PIPE, env=env
-                    )
-                    wanted = f"{name}: standard output: No space left on device\n".encode()
-                    self.assertEqual((ran.returncode, ran.stderr), (1, wanted))
-                closed = ["sh", "-c", 'exec "$@" >&-', "sh", *command, "--version"]
-                ran = subprocess.run(closed, stderr=subprocess.PIPE)
-                wanted = f"{name}: standard output is closed\n".encode()
+        command = [sys.executable, "-B", REPLICA]
+        with open("/dev/full", "wb") as full:
+            for word in ("--help", "--version"):
+                ran = subprocess.run([*command, word], stdout=full, stderr=subprocess.PIPE, env=env)
+                wanted = b"tb_replica: standard output: No space left on device\n"
                 self.assertEqual((ran.returncode, ran.stderr), (1, wanted))
-                for words in (["--none"], ["--log", "etcd://a/b", "--copy", "c", "x"]):
-                    ran = subprocess.run([*command, *words], stderr=full, env=env)
-                    self.assertEqual(ran.returncode, 2)
-                closed = ["sh", "-c", 'exec "$@" >&- 2>&-', "sh", *command, "--none"]
-                self.assertEqual(subprocess.run(closed).returncode, 2)
+            closed = ["sh", "-c", 'exec "$@" >&-', "sh", *command, "--version"]
+            ran = subprocess.run(closed, stderr=subprocess.PIPE)
+            wanted = b"tb_replica: standard output is closed\n"
+            self.assertEqual((ran.returncode, ran.stderr), (1, wanted))
+            for words in (["--none"], ["--log", "etcd://a/b", "--copy", "c", "x"]):
+                ran = subprocess.run([*command, *words], stderr=full, env=env)
+                self.assertEqual(ran.returncode, 2)
+            closed = ["sh", "-c", 'exec "$@" >&- 2>&-', "sh", *command, "--none"]
+            self.assertEqual(subprocess.run(closed).returncode, 2)
 
-
-if __name__ == "__main__":
-    unittest.main()
+    def test_nothing_is_open(self):
+        """Standard input, output and error may be closed: what is opened takes their numbers, and
+        gets nothing that was meant for them."""
+        with tempfile.TemporaryDirectory() as folder:
+            path = os.path.join(folder, "it.sock")
+            words = ["sh", "-c", 'exec "$@" <&- >&- 2>&-', "sh", *STAND_IN, "--unix", path]
+            host = subprocess.Popen(words)
+            with Session.register(Socket(path, timeout=60)) as session:
+                with socket.socket(socket.AF_UNIX, socket.SOCK_STREAM) as it:
+                    it.connect(path)
+                    it.sendall(header(client=0))
+                    self.assertEqual(told(it), b"tb_listen: ClientZero\n")
+                self.assertEqual(session.lookup_accounts([1]), [])
+            host.terminate()
+            self.assertEqual((host.wait(60), os.listdir(folder)), (0, []))

@@ -2596,7 +2596,7 @@ class Words(unittest.TestCase):
     def test_a_part_that_is_interrupted(self):
         """It ends without a traceback."""
         words = ["tb-replica", "status", "--log", "etcd://127.0.0.1:1/bank"]
-        with mock.patch.object(sys, "argv", words), mock.patch.object(machines, "speak_as"):
+        with mock.patch.object(sys, "argv", words):
             with mock.patch.object(machines, "_with_log", mock.Mock(side_effect=KeyboardInterrupt)):
                 self.assertEqual(machines.main(), 130)
 

@@ -1,4 +1,3 @@
-#!/usr/bin/env python3
 """What one peer may take of a listener: connections, sessions, and requests in a second."""
 import argparse
 import collections
@@ -6,16 +5,13 @@ import contextlib
 import socket
 import time
 import unittest
-import unittest.mock
 
 import tb_client as tb
-from helpers.listeners import Running, told
 from helpers.records import register
+from hosts import Running, told
 from tb_client import Session, Socket
-from tb_host import lines
 from tb_host.access import network_of
 from tb_host.lines import Told
-from tb_host.refusals import COST, MOMENT, MOST, WHOLE, Refusals
 from tb_host.shares import PIECE, Shares, Turns
 
 
@@ -134,38 +130,6 @@ class OfAPeer(unittest.TestCase):
         ):
             self.assertEqual(network_of(host), found)
 
-    def test_lines_of_a_kind(self):
-        """Ten in a minute, whatever they say. The rest are counted."""
-        lines.said.clear()
-        self.addCleanup(lines.said.clear)
-        with unittest.mock.patch.object(lines, "say") as say:
-            for number in range(500):
-                lines.say_of("p", f"client {number} was evicted", kind="evicted")
-        self.assertEqual(say.call_count, 10)
-        self.assertEqual(lines.left_out(), 490)
-
-
-class InAMoment(unittest.TestCase):
-    """Refusals that go the long way, short ones, and no refusals until the moment is over."""
-
-    def test_refusals(self):
-        clock = Clock()
-        it = Refusals(clock)
-        for count in range(WHOLE):
-            self.assertFalse(it.are_many(), count)
-            it.add(COST)
-        self.assertTrue(it.are_many())
-        for _ in range(MOST - WHOLE * COST):
-            self.assertEqual(it.wait(), 0.0)
-            it.add(1)
-        self.assertAlmostEqual(it.wait(), MOMENT)
-        clock.now += MOMENT / 2
-        self.assertAlmostEqual(it.wait(), MOMENT / 2)
-        clock.now += MOMENT
-        self.assertEqual((it.are_many(), it.wait()), (False, 0.0))
-        it.add(1)
-        self.assertEqual(it.count, 1)
-
 
 class OverSockets(unittest.TestCase):
     def call(self, listener, host="127.0.0.1"):
@@ -180,7 +144,9 @@ class OverSockets(unittest.TestCase):
             with self.call(listener, "127.0.0.2") as it:
                 self.assertEqual(told(it), b"tb_listen: TooManyConnections\n")
             line = listener.tells()
-            self.assertRegex(line, r"^tb_listen: 127\.0\.0\.2:\d+: a connection is closed: TooMany")
+            self.assertRegex(
+                line, r"^tb_replica: 127\.0\.0\.2:\d+: a connection is closed: TooMany"
+            )
             held.close()
             reply = b""
             for _ in range(100):  # their ends are seen one after another
@@ -206,7 +172,7 @@ class OverSockets(unittest.TestCase):
             self.assertEqual(lines.total(), 1000)
             other.lookup_accounts([1])
             self.assertEqual(listener.end(), 0)
-        self.assertIn("1002 connections", listener.news[-1])
+        self.assertIn("1002 connections", listener.notes[-1])
 
     def test_sessions(self):
         with Running("--tcp", "127.0.0.1:0", "--sessions-per-range", "2") as listener:
@@ -252,9 +218,5 @@ class OverSockets(unittest.TestCase):
             with Session.register(Socket(listener.address)) as session:
                 session.lookup_accounts([1])
             self.assertEqual(listener.end(), 0)
-            said = "tb_listen: has stopped: Stopping; 2 requests were answered on 1 connections\n"
-            self.assertEqual(listener.news[-1], said)
-
-
-if __name__ == "__main__":
-    unittest.main()
+            said = "tb_replica: has stopped: Stopping; 2 requests were answered on 1 connections\n"
+            self.assertEqual(listener.notes[-1], said)

@@ -10,13 +10,12 @@ import time
 from typing import Any, Callable, List, Optional, Protocol, Set, Tuple
 
 from tb_client.frames import request_fault
-from tb_client.layout import HEADER, REPLY
+from tb_client.layout import HEADER
 from tb_client.names import Operation
 from tb_client.records import u128_at
 
 from .access import Access, Peer, caller_of
 from .counts import Counts
-from .evictions import Evictions
 from .lines import TOLD, Told, say_of
 from .process import came
 from .refusals import COST, Refusals
@@ -31,7 +30,7 @@ LOOK = 0.05  # seconds after which it is looked for connections that take too lo
 # what a connection is at: it waits for a request's header, for its body, for its reply; the client
 # is to read the reply; it was told why it is closed, and may still send; it is being closed
 REST, BODY, ASKED, WRITING, LEAVING, CLOSING = range(6)
-# ends that are no fault to be said: of who is gone amid a frame, of the server and of the listener
+# ends that are no fault to be said: of who is gone amid a frame, of the server and of the host
 UNSAID = ("", "Short", "Starting", "Stopping", "ProgramEnded")
 
 Answered = Callable[[bytes, str], None]
@@ -198,7 +197,7 @@ class Connection(asyncio.Protocol):
         self.abandon = nothing
         if reply:
             now = time.monotonic()
-            self.listener.count_later(reply, now - self.began, self.peer)
+            self.listener.count_later(reply, now - self.began)
             self._use_session(reply)
         if self.is_lost:
             return
@@ -285,10 +284,9 @@ class Listener:
         given: argparse.Namespace,
         access: Access,
         counts: Counts,
-        evictions: Evictions,
     ) -> None:
         self.command, self.given, self.access = command, given, access
-        self.counts, self.evictions = counts, evictions
+        self.counts = counts
         self.shares, self.refusals = Shares(given), Refusals()
         self.open: Set[Connection] = set()
         self.served: Set[Connection] = set()  # those that are not told why they are closed
@@ -296,8 +294,7 @@ class Listener:
         self.none_is_open, self.one_is_open = asyncio.Event(), asyncio.Event()
         self.none_is_open.set()
         self.why = ""  # why no more requests are taken
-        # replies, the seconds that they took, and whose they are
-        self.uncounted: List[Tuple[bytes, float, Optional[Peer]]] = []
+        self.uncounted: List[Tuple[bytes, float]] = []  # replies, and the seconds that they took
 
     def enter(self, it: Connection) -> bool:
         """Takes a connection. Says whether it is served: there may be too many."""
@@ -375,32 +372,16 @@ class Listener:
             self.none_is_open.set()
             self.one_is_open.clear()
 
-    def count_later(self, reply: bytes, seconds: float, peer: Optional[Peer]) -> None:
+    def count_later(self, reply: bytes, seconds: float) -> None:
         """Counts a reply once those that came with it have left."""
         if not self.uncounted:
             asyncio.get_running_loop().call_soon(self._count)
-        self.uncounted.append((reply, seconds, peer))
+        self.uncounted.append((reply, seconds))
 
     def _count(self) -> None:
         counted, self.uncounted = self.uncounted, []
-        for reply, seconds, peer in counted:
-            self.count(reply, seconds, peer.shown if peer else "")
-
-    def count(self, reply: bytes, seconds: float, peer: str) -> None:
-        """Counts a reply, and follows the sessions."""
-        _, _, operation, status, _, commit = REPLY.unpack_from(reply, 16)
-        self.counts.answered(operation, status, seconds)
-        if status == 0 and self.evictions.clients_max is not None:
-            client = u128_at(reply, 0)
-            evicted = self.evictions.learn(client, operation == Operation.register, commit)
-            if evicted is not None:
-                self.counts.evictions += 1
-                say_of(
-                    peer,
-                    f"client {evicted} was evicted by client {client}: more clients come than "
-                    f"there are places ({self.evictions.clients_max})",
-                    kind="evicted",
-                )
+        for reply, seconds in counted:
+            self.counts.answered(reply[28], reply[29], seconds)
 
     async def watch(self) -> None:
         """Looks for connections that take too long, until it is cancelled. One look for all of

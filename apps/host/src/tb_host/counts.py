@@ -4,15 +4,13 @@ from __future__ import annotations
 import bisect
 import collections
 import json
-import os
 import time
-from typing import Any, Callable, Counter, Dict, List, Optional, Tuple
+from typing import Any, Callable, Counter, Dict, List, Tuple
 
 from tb_client.names import Operation, Status
 
 from .lines import left_out
 
-SYNCS = 2  # of a commit
 # upper bounds of the histogram of latencies, in seconds
 BUCKETS = (0.0005, 0.001, 0.0025, 0.005, 0.01, 0.025, 0.05, 0.1, 0.25, 0.5, 1.0, 2.5, 5.0)
 
@@ -22,19 +20,16 @@ class Counts:
 
     def __init__(
         self,
-        file: Optional[str],
         is_serving: Callable[[], bool],
-        committed: Callable[[], Optional[int]],
         more: Callable[[], Dict[str, Any]] = dict,
     ) -> None:
-        self.file, self.is_serving, self.committed = file, is_serving, committed
-        self.more = more  # numbers that not every host has
+        self.is_serving, self.more = is_serving, more
         self.began = time.monotonic()
         self.has_begun = False  # it has served
         self.requests: Counter[Tuple[int, int]] = collections.Counter()
         self.latencies: List[int] = [0] * (len(BUCKETS) + 1)
         self.seconds = 0.0
-        self.connections = self.taken = self.evictions = 0
+        self.connections = self.taken = 0
         self.closed: Counter[str] = collections.Counter()
 
     @property
@@ -52,16 +47,9 @@ class Counts:
         said = f"{requests} requests were answered on {self.taken} connections"
         return f"{said}, and {lines} lines were left out" if lines else said
 
-    def file_bytes(self) -> Optional[int]:
-        try:
-            return os.stat(self.file).st_size if self.file else None
-        except OSError:
-            return None
-
     def shown(self, lag: float) -> Dict[str, Any]:
         """All of it, as `--status` prints it."""
         requests: Dict[str, Dict[str, int]] = {}
-        commits = self.committed()
         for (operation, status), count in sorted(self.requests.items()):
             requests.setdefault(_name(Operation, operation), {})[_name(Status, status)] = count
         return {
@@ -71,10 +59,10 @@ class Counts:
             "connections_taken": self.taken,
             "connections_closed_by_fault": dict(self.closed),
             "requests": requests,
-            "evictions": self.evictions,
-            "commits": commits,
-            "syncs": None if commits is None else SYNCS * commits,
-            "file_bytes": self.file_bytes(),
+            "evictions": 0,  # what only a listener counts, at its place in the line
+            "commits": None,
+            "syncs": None,
+            "file_bytes": None,
             "clock_lag_seconds": round(lag, 3),
             **self.more(),
         }

@@ -1,4 +1,4 @@
-"""The commands of hosts from their first moment on. Their modules take some tenths of a second to
+"""The command tb-replica from its first moment on. Its modules take some tenths of a second to
 load, and their own handlers of signals come after that. Until then nothing is begun: a signal ends
 the program at once, with the status that it has for that signal later."""
 from __future__ import annotations
@@ -17,6 +17,14 @@ def end_at(status: int, *numbers: int) -> None:
     for number in numbers:
         if signal.getsignal(number) != signal.SIG_IGN:
             signal.signal(number, lambda *_: os._exit(status))
+
+
+def fill_standard_files() -> None:
+    """Opens the null device in place of standard files that are closed: otherwise what is opened
+    next takes their numbers, and gets what is meant for them."""
+    while (file := os.open(os.devnull, os.O_RDWR)) <= 2:
+        pass
+    os.close(file)
 
 
 def raise_interrupts() -> None:
@@ -46,17 +54,6 @@ def _leave() -> None:
                 stream.flush()
         except OSError:
             os.dup2(os.open(os.devnull, os.O_WRONLY), stream.fileno())
-
-
-def listen() -> int:
-    """The command tb-listen."""
-    _begin_to_serve()
-    from .listen import main
-
-    try:
-        return main()
-    finally:
-        _ignore()
 
 
 def replica() -> int:

@@ -64,7 +64,7 @@ class Follower(ServerProcess):
         copy: Copy,
         tell: Callable[[int, int, List[bytes]], None],
     ) -> None:
-        super().__init__(words, patience, True)
+        super().__init__(words, patience)
         self.copy, self.tell = copy, tell
         self.fed: Deque[Fed] = collections.deque()
         self.stdin: Optional[Outgoing] = None  # of a process that is given entries

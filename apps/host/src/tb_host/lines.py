@@ -11,16 +11,10 @@ from typing import Dict, Tuple
 
 LINES = 4096  # bytes of what a command said last that are kept
 TOLD = "tb_listen: "  # what a line to a client begins with, of a listener and of a replica
-program = "tb_listen"  # what a line on standard error begins with
+PROGRAM = "tb_replica"  # what a line on standard error begins with
 as_json = False  # whether a line is an object of JSON
 REPEATS, MINUTE = 10, 60.0  # how often a line is said in this many seconds; more are counted
 said: Dict[Tuple[str, str], Tuple[float, int]] = {}  # since when a line is said, and how often
-
-
-def speak_as(name: str) -> None:
-    """Sets the name that lines on standard error begin with."""
-    global program
-    program = name
 
 
 def speak_json() -> None:
@@ -34,7 +28,7 @@ def say(text: str, level: str = "info", peer: str = "") -> None:
     holds up no client."""
     with contextlib.suppress(OSError, ValueError):
         if sys.stderr is not None and _takes_a_line():
-            line = f"{program}: {f'{peer}: ' if peer else ''}{text}"[: LINES // 4]
+            line = f"{PROGRAM}: {f'{peer}: ' if peer else ''}{text}"[: LINES // 4]
             if as_json:
                 line = _as_object(text, level, peer)
             print(line, file=sys.stderr, flush=True)
@@ -62,7 +56,7 @@ def left_out() -> int:
 
 def _as_object(text: str, level: str, peer: str) -> str:
     now = datetime.datetime.now(datetime.timezone.utc).isoformat(timespec="milliseconds")
-    found = {"time": now, "level": level, "program": program, "peer": peer, "text": text}
+    found = {"time": now, "level": level, "program": PROGRAM, "peer": peer, "text": text}
     line = json.dumps({name: it for name, it in found.items() if it})
     return line if len(line) < LINES else _as_object(text[: len(text) // 2], level, peer[:99])
 
@@ -89,7 +83,7 @@ class Told(Exception):
 
 
 class Ended(Exception):
-    """Why the listener ends: its line, and its exit status."""
+    """Why a host ends: its line, and its exit status."""
 
     def __init__(self, line: str, status: int) -> None:
         super().__init__(line)

@@ -12,7 +12,6 @@ LOG is etcd://HOST[:PORT],../NAME or postgresql://HOST[:PORT],../DATABASE/NAME. 
 follow CLIENTS_MAX [PROFILE]`, with the same number of clients and profile on each machine; of
 `hashes` it reads a script, as `tb_script run 64` does. FOLDER is this replica's copy of the log.
 docs/use/CLUSTER.md says how to set three machines up.
-It runs by uvloop where that is installed, unless TB_LOOP=asyncio is in its environment.
 
 Status 0: ended by SIGTERM or SIGINT, with all that was taken answered. Status 1: it cannot listen,
 or the command failed. Status 2: wrong arguments. A fault has its name and a status of its own:
@@ -52,10 +51,9 @@ from .arguments import (
 )
 from .faults import Fault
 from .heads import head_of
-from .lines import Ended, say, speak_as, speak_json
+from .lines import Ended, say, speak_json
 from .local_copy import Copy, copied, kept
 from .log import Access, Log, LogFull, NoLog, opened, parts
-from .loops import fill_standard_files, run as run_loop
 from .replica import Replica
 from .reports import add_reports
 from .restored import restore
@@ -309,13 +307,12 @@ def run(part: str, rest: List[str]) -> int:
     if given.log_json:
         speak_json()
     make_room(given)
-    run_loop(_with_log(given, serve))
+    asyncio.run(_with_log(given, serve))
     return 0
 
 
 def main() -> int:
-    fill_standard_files()
-    speak_as("tb_replica")
+    early.fill_standard_files()
     words = sys.argv[1:]
     part = words[0] if words and words[0] in PARTS else ""
     try:

@@ -4,8 +4,7 @@ from __future__ import annotations
 from tb_client.layout import SECOND
 from tb_client.moments import SteadyMoments, running_ns
 
-from . import lines
-from .lines import say
+from .lines import PROGRAM, say
 
 __all__ = ["SECOND", "Moments", "running_ns"]
 
@@ -16,6 +15,6 @@ class Moments(SteadyMoments):
     def say_lag(self, lag: int) -> None:
         say(
             f"the clock is {lag} s ahead of where it should be, and requests get moments "
-            f"without that: if it is right now, start {lines.program} again",
+            f"without that: if it is right now, start {PROGRAM} again",
             "warning",
         )

@@ -1,5 +1,4 @@
-"""A process and its pipes. Each loop of asyncio is asked for no more than to watch a file: what
-loops do with processes differs."""
+"""A process and its pipes. The loop is asked for no more than to watch a file."""
 from __future__ import annotations
 
 import asyncio
@@ -7,7 +6,6 @@ import contextlib
 import fcntl
 import os
 import subprocess
-import termios
 from typing import IO, Any, Callable, List, Optional, Sequence
 
 F_SETPIPE_SZ = 1031  # of Linux: Python has its name from 3.10 on
@@ -38,7 +36,6 @@ class Incoming(End):
 
     def __init__(self, pipe: Optional[IO[bytes]]) -> None:
         super().__init__(pipe)
-        self.count = 0  # bytes that were read
         self.stream = asyncio.StreamReader(limit=READ)
         self.take: Callable[[bytes], None] = self.stream.feed_data
         transport: Any = self  # of which a stream uses these two calls
@@ -53,7 +50,6 @@ class Incoming(End):
         except OSError:
             data = b""
         if data:
-            self.count += len(data)
             self.take(data)
         else:
             self.close()
@@ -65,14 +61,6 @@ class Incoming(End):
     def resume_reading(self) -> None:
         if self.file >= 0:
             self.loop.add_reader(self.file, self._read)
-
-    def written(self) -> int:
-        """How many bytes were written into the pipe: those that were read, and those in it."""
-        if self.file < 0:
-            return self.count
-        held = bytearray(4)
-        fcntl.ioctl(self.file, termios.FIONREAD, held)
-        return self.count + int.from_bytes(held, "little")
 
     def close(self) -> None:
         if self.file >= 0:
@@ -169,30 +157,18 @@ class Outgoing(End):
 
 
 class Process:
-    """A process with its pipes. `at_end` is called when it has ended, before its status is asked
-    for: until then the system reports what it did."""
+    """A process with its pipes."""
 
     def __init__(self, popen: subprocess.Popen[bytes]) -> None:
         self.popen, self.pid = popen, popen.pid
         self.stdin = Outgoing(popen.stdin)
         self.output, self.told = Incoming(popen.stdout), Incoming(popen.stderr)
         self.stdout, self.stderr = self.output.stream, self.told.stream
-        self.at_end: Callable[[], None] = lambda: None
 
     @property
     def returncode(self) -> Optional[int]:
         """Its status, once it has ended."""
-        if self.popen.returncode is None and self._has_ended():
-            self.at_end()
-            self.popen.poll()
-        return self.popen.returncode
-
-    def _has_ended(self) -> bool:
-        try:
-            how = os.WEXITED | os.WNOHANG | os.WNOWAIT
-            return os.waitid(os.P_PID, self.pid, how) is not None
-        except ChildProcessError:  # this process was started with SIGCHLD ignored
-            return True
+        return self.popen.poll()
 
     def close(self) -> None:
         """Closes its pipes. What waits to be written is dropped."""

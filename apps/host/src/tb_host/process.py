@@ -8,7 +8,7 @@ import os
 import re
 import signal
 import time
-from typing import Any, Callable, List, Optional, Sequence, Tuple
+from typing import Any, List, Optional, Sequence, Tuple
 
 from . import pipes
 from .lines import LINES, Ended, Wanting, say
@@ -77,28 +77,12 @@ async def exited(process: Process) -> int:
     return status
 
 
-async def finished(process: Process) -> Tuple[bytes, bytes, int]:
-    """The output of a process that is written nothing, what it told last, and its status."""
-    process.stdin.close()
-    telling = asyncio.ensure_future(tail(process.stderr))
-    try:
-        output = await process.stdout.read()
-        return output, await telling, await exited(process)
-    except asyncio.CancelledError:
-        kill(process)
-        await exited(process)
-        raise
-    finally:
-        telling.cancel()
-        process.close()
-
-
 class ServerProcess:
-    """A server as a process, which is started again if a signal ended it and it `keeps` its ledger.
-    What is written to it, and what its replies are for, is a subclass's."""
+    """A server as a process, which is started again if a signal ended it. What is written to it,
+    and what its replies are for, is a subclass's."""
 
-    def __init__(self, words: Sequence[str], patience: float, keeps: bool) -> None:
-        self.words, self.patience, self.keeps = words, patience, keeps
+    def __init__(self, words: Sequence[str], patience: float) -> None:
+        self.words, self.patience = words, patience
         # while pairs may be written to it
         self.process: Optional[Process] = None
         # it takes requests; the host is to end
@@ -119,17 +103,13 @@ class ServerProcess:
         """Whether the process takes requests by now."""
         return self.ready.is_set()
 
-    def is_news(self, line: str) -> bool:
-        """Takes a line of its standard error. Says that it is no fault."""
-        return False
-
     def lost(self) -> None:
         """The process has ended: what was asked of it has no reply yet."""
         raise NotImplementedError
 
     async def run(self) -> None:
-        """Runs the command until its input is closed, and again if a signal ended it and it keeps
-        its ledger. Raises `Ended` if it ends for another reason."""
+        """Runs the command until its input is closed, and again if a signal ended it. Raises
+        `Ended` if it ends for another reason."""
         try:
             lives = quick = 0
             while True:
@@ -157,12 +137,12 @@ class ServerProcess:
         if line and not number:
             raise Ended(line, status or 1)
         ended = f"{self.words[0]} ended {end_of(status)}{line and f' ({line})'}"
-        if not number or not self.keeps or self.stopping.is_set():
+        if not number or self.stopping.is_set():
             raise Ended(ended, 1 if number else status or 1)
         return ended
 
     async def _pause(self, ended: str, seconds: float) -> None:
-        """Waits before the command is started again. Raises `Ended` if the listener is to end
+        """Waits before the command is started again. Raises `Ended` if the host is to end
         meanwhile."""
         say(f"{ended}, and is started again in {seconds:g} s", "warning")
         with contextlib.suppress(asyncio.TimeoutError):
@@ -172,7 +152,7 @@ class ServerProcess:
     async def _run_once(self) -> Tuple[int, str]:
         """Runs the command once. Returns its status and its last line on standard error."""
         process = started(self.words)
-        telling = asyncio.ensure_future(tail(process.stderr, self.is_news))
+        telling = asyncio.ensure_future(tail(process.stderr))
         reading = asyncio.ensure_future(self.read_replies(process, process.stdout))
         watching = asyncio.ensure_future(exited(process))
         breaking = asyncio.ensure_future(process.stdin.broke.wait())  # it may live on
@@ -233,19 +213,13 @@ class ServerProcess:
             kill(self.process)
 
 
-async def tail(
-    stream: asyncio.StreamReader, is_news: Callable[[str], bool] = lambda line: False
-) -> bytes:
-    """The last lines of a stream, without news, once it has ended or is waited for no longer."""
-    kept = rest = b""
+async def tail(stream: asyncio.StreamReader) -> bytes:
+    """The last bytes of a stream, once it has ended or is waited for no longer."""
+    kept = b""
     with contextlib.suppress(asyncio.CancelledError):
         while more := await stream.read(LINES):
-            *lines, rest = (rest + more).split(b"\n")
-            for line in lines:
-                if not is_news(line.decode(errors="replace")):
-                    kept = (kept + line + b"\n")[-LINES:]
-            rest = rest[-LINES:]
-    return (kept + rest)[-LINES:]
+            kept = (kept + more)[-LINES:]
+    return kept
 
 
 async def first(*futures: asyncio.Future[Any]) -> None:

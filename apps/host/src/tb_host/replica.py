@@ -107,7 +107,7 @@ def _askers_of(pairs: bytes, data: bytes) -> List[bytes]:
 
 
 class Replica:
-    """One replica. It serves as a listener's command does."""
+    """One replica. It serves as a server does."""
 
     def __init__(self, given: argparse.Namespace, log: Log, copy: Copy, name: str) -> None:
         self.given, self.log, self.copy, self.name = given, log, copy, name
@@ -185,9 +185,6 @@ class Replica:
 
     def is_serving(self) -> bool:
         return self.served.is_set() and self.follower.has_caught_up()
-
-    def committed(self) -> Optional[int]:
-        return None  # the copy of the log is the replica's own
 
     def renew(self) -> None:
         self.log.renew()

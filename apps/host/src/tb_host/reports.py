@@ -4,7 +4,6 @@ from __future__ import annotations
 
 import argparse
 import asyncio
-import concurrent.futures
 import contextlib
 import os
 import socket
@@ -12,17 +11,16 @@ import socketserver
 import sys
 import threading
 import time
-from typing import Any, AsyncIterator, Callable, Dict, Iterator, Optional
+from typing import Any, AsyncIterator, Callable, Dict, Iterator
 from wsgiref import simple_server
 
 from .arguments import address, path
-from .counts import BUCKETS, SYNCS, Counts, _name
+from .counts import BUCKETS, Counts, _name
 from .lines import Ended
 from .sockets import ACCEPT_AGAIN, faults_of, folder_of, shown, tcp_socket, unix_socket
 
 READERS = 24  # threads of this process, beyond which no more readers of the page are taken
 STALL = 10.0  # seconds for which a reader of the page may say nothing
-WAIT = 2.0  # seconds that a page of metrics waits for the host's thread
 
 
 def add_reports(parser: argparse.ArgumentParser) -> None:
@@ -139,20 +137,6 @@ class _Collector:
 
     def __init__(self, core: Any, counts: Counts, lag: Callable[[], float]) -> None:
         self.core, self.counts, self.lag = core, counts, lag
-        self.loop = asyncio.get_running_loop()
-
-    def _committed(self) -> Optional[int]:
-        """The number of commits, which the host's own thread looks at."""
-
-        async def look() -> Optional[int]:
-            return self.counts.committed()
-
-        looking = look()
-        try:
-            return asyncio.run_coroutine_threadsafe(looking, self.loop).result(WAIT)
-        except (RuntimeError, concurrent.futures.TimeoutError):  # the host ends
-            looking.close()
-            return None
 
     def collect(self) -> Iterator[Any]:
         from tb_client.names import Operation, Status
@@ -180,21 +164,13 @@ class _Collector:
         for why, count in list(it.closed.items()):
             closed.add_metric([why], count)
         yield closed
-        yield core.CounterMetricFamily("tb_evictions", "Sessions evicted", it.evictions)
-        size = it.file_bytes()
-        if size is not None:
-            yield core.GaugeMetricFamily("tb_ledger_bytes", "Size of the ledger's file", size)
-        commits = self._committed()
-        if commits is not None:
-            yield core.CounterMetricFamily("tb_commits", "Batches written to the file", commits)
-            yield core.CounterMetricFamily("tb_syncs", "Syncs of these", SYNCS * commits)
         yield core.GaugeMetricFamily(
             "tb_clock_lag_seconds", "Seconds that moments lie behind the clock", self.lag()
         )
         yield from self._more(it.more())
 
     def _more(self, numbers: Dict[str, Any]) -> Iterator[Any]:
-        """What a replica has beyond a listener's numbers."""
+        """What a replica has beyond the numbers of its connections."""
         core = self.core
         if "log_ahead_seconds" in numbers:
             yield core.GaugeMetricFamily(

@@ -6,12 +6,11 @@ import asyncio
 import contextlib
 import functools
 import signal
-from typing import Any, Callable, Dict, List, Optional, Protocol
+from typing import Any, Callable, Dict, List, Protocol
 
 from .access import access_of
 from .connections import Asked, Listener
 from .counts import Counts
-from .evictions import Evictions
 from .lines import Ended, say
 from .process import fault_name, first
 from .reports import reported
@@ -29,13 +28,10 @@ class Server(Asked, Protocol):
         """Runs until it is closed, or raises why it ends."""
 
     async def begun(self) -> None:
-        """Comes when it serves: when a ledger's file was read."""
+        """Comes when it serves: when its copy was read."""
 
     def is_serving(self) -> bool:
         """Whether it serves now: it may be started again."""
-
-    def committed(self) -> Optional[int]:
-        """How many commits its ledger's file has had from its start on, if that is known."""
 
     def renew(self) -> None:
         """Reads its files of TLS again. Raises `Ended` if one is wrong."""
@@ -44,7 +40,7 @@ class Server(Asked, Protocol):
         """How many seconds its moments are behind the clock."""
 
     def numbers(self) -> Dict[str, Any]:
-        """Numbers that not every host has, for `--status` and `--metrics`."""
+        """Numbers of a replica, for `--status` and `--metrics`."""
 
     def close(self) -> None:
         """Ends it, with all that was taken answered."""
@@ -55,7 +51,7 @@ class Server(Asked, Protocol):
 
 def stop_signals() -> asyncio.Future[Any]:
     """Comes with the first SIGTERM or SIGINT. What a task fails with is said. SIGHUP ends nothing:
-    until connections are taken a listener uses no file that would be read again."""
+    until connections are taken a host uses no file that would be read again."""
     loop, stopped = asyncio.get_running_loop(), asyncio.Event()
     said = "{}: {!r}".format
     loop.set_exception_handler(lambda _, it: say(said(it["message"], it.get("exception")), "error"))
@@ -81,14 +77,11 @@ async def listen_on(
     command: Server,
     given: argparse.Namespace,
     stopping: asyncio.Future[Any],
-    file: Optional[str] = None,
-    clients_max: Optional[int] = None,
 ) -> None:
     """Takes connections at these places and serves their requests, until a signal comes or the
-    command ends. `file` is the ledger's, if it has one, and `clients_max` how many sessions it has
-    at most, if all requests come through this host."""
-    counts = Counts(file, command.is_serving, command.committed, command.numbers)
-    listener = Listener(command, given, access_of(given), counts, Evictions(clients_max))
+    command ends."""
+    counts = Counts(command.is_serving, command.numbers)
+    listener = Listener(command, given, access_of(given), counts)
     loop = asyncio.get_running_loop()
     renew = functools.partial(_renew, places, command, listener)
     loop.add_signal_handler(signal.SIGHUP, read_again, renew)

@@ -9,7 +9,7 @@ the same bytes again until it has the reply. It works over any transport, an obj
 `exchange(moment, frame)` that gives back the frame of the reply or raises `ReplyLost`:
 
     Program    `tbs run` as a process, over two pipes; with a file `tbd run`
-    Socket     a server that listens, as tb_listen.py does
+    Socket     a server that listens, as tb-listen does
     Direct     a function that serves one frame, as that of clients/embed/python/tb_embed.py
     Faulty     another transport; it loses those of its requests and replies that it is told to lose
 

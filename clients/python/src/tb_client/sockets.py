@@ -1,4 +1,4 @@
-"""A connection to a server that listens on a socket, as `tb_listen.py` does."""
+"""A connection to a server that listens on a socket, as `tb-listen` does."""
 from __future__ import annotations
 
 import concurrent.futures

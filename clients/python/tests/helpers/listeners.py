@@ -1,12 +1,12 @@
 """A listener as a process, and sockets in front of it."""
 
 import contextlib
+import glob
 import os
 import re
 import signal
 import socket
 import subprocess
-import sys
 import tempfile
 import time
 
@@ -19,10 +19,12 @@ KEEPER = [TBD] if os.access(TBD, os.X_OK) else STAND_IN
 
 
 def children(process):
-    """The processes that a process started, by their ids."""
-    with contextlib.suppress(OSError), open(f"/proc/{process}/task/{process}/children") as file:
-        return [int(it) for it in file.read().split()]
-    return []
+    """The processes that a process started, by their ids: any of its threads may have done so."""
+    some = []
+    for path in glob.glob(f"/proc/{process}/task/*/children"):
+        with contextlib.suppress(OSError), open(path) as file:
+            some += map(int, file.read().split())
+    return some
 
 
 NEWS = "tb_listen: tbd: made ", "tb_listen: tbd: reading ", "tb_listen: tbd: copied "
@@ -45,8 +47,6 @@ class Running:
         if "run" not in self.command:
             self.command = [*self.command, "run", self.file, "64"]
         words = [
-            sys.executable,
-            "-B",
             LISTENER,
             *place,
             *options,
