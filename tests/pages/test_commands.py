@@ -20,7 +20,7 @@ from .clones import blocks, lines, pages
 APPS = {"telovamish": "apps/telovamish", "tb-sql": "apps/books"}
 APPS |= {"tb-listen": "server/out", "tb-replica": "apps/host"}
 # Commands of the shell, the system, other languages and the kit; and what a block has made.
-OTHERS = """for done sleep cmp mv install man editor curl rsync sh grep tail apt systemctl
+OTHERS = """for done export sleep cmp mv install man editor curl rsync sh grep tail apt systemctl
     journalctl runuser cc
     rustc javac java go npm node tsc pip mypy sqlite3 etcdctl cd rt make tbs tbd
     $OUT/first $OUT/first_rs $OUT/script"""
@@ -47,7 +47,8 @@ def script(page: Path, words: list[str]) -> list[str]:
         words = [it for it in words[1:] if it != "-B"]
     name = words[0]
     if name == "-m":
-        assert all((ROOT / page.parent / it).exists() for it in words[2:] if "/" in it), words
+        at = [it for it in words[2:] if "/" in it]
+        assert all((page.parent / it).exists() or (ROOT / it).exists() for it in at), words
         return []
     if name in APPS or Path(name).name in APPS:
         form = words[1] if len(words) > 1 and words[1][0] not in "-<" else ""

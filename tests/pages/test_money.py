@@ -119,6 +119,7 @@ OTHERS = {
     "docs/use/TELOVAMISH.md: {": "a reply",
     "crates/tb_ledger/CALLING.md: ": "a ledger in memory",
     "docs/use/LISTENER.md: ": "a status",
+    "docs/use/TUTORIAL.md: ": "test_tutorial.py runs it twice, and kills it",
 }
 
 
