@@ -5,12 +5,14 @@ import contextlib
 import os
 import re
 import signal
+import termios
 import time
 from typing import Optional
 
 import pexpect
 from conftest import COMMAND
 
+SECONDS = 120  # for what is shown, on a busy machine
 CURSOR = re.compile(r"\x08?\x1b\[(\d*)C")
 ESCAPES = re.compile(r"\x1b\[[?0-9;]*[A-Za-z]|\r")
 
@@ -46,7 +48,7 @@ class Terminal:
             env={**os.environ, **known, **(env or {})},
             dimensions=(50, 160),
             encoding="utf-8",
-            timeout=30,
+            timeout=SECONDS,
             preexec_fn=hear_signals,
         )
         self.child.delaybeforesend = None
@@ -57,7 +59,7 @@ class Terminal:
     def shown(self) -> str:
         return cleaned(self.raw)
 
-    def wait(self, text: str, seconds: float = 30) -> str:
+    def wait(self, text: str, seconds: float = SECONDS) -> str:
         """What is shown up to a text, after the last one that was waited for."""
         end = time.monotonic() + seconds
         while (at := self.shown.find(text, self.seen)) < 0:
@@ -76,6 +78,19 @@ class Terminal:
     def type(self, text: str) -> None:
         self.child.send(text)
 
+    def used(self) -> float:
+        """The seconds of CPU time that the command has used itself."""
+        fields = open(f"/proc/{self.child.pid}/stat").read().rpartition(")")[2].split()
+        return (int(fields[11]) + int(fields[12])) / os.sysconf("SC_CLK_TCK")
+
+    def press_ctrl_c(self) -> None:
+        """Amid a statement: once no line is typed, when Ctrl-C is a signal."""
+        end = time.monotonic() + SECONDS
+        while not termios.tcgetattr(self.child.child_fd)[3] & termios.ISIG:
+            assert time.monotonic() < end, "the line is still typed"
+            time.sleep(0.02)
+        self.type("\x03")
+
     def enter(self, line: str, until: str) -> str:
         """Types a line and Enter; what is shown up to a text after it."""
         self.type(line)
@@ -87,7 +102,7 @@ class Terminal:
         """What is shown up to its end."""
         with contextlib.suppress(pexpect.EOF):
             while True:
-                self.raw += self.child.read_nonblocking(65536, 30)
+                self.raw += self.child.read_nonblocking(65536, SECONDS)
         return self.shown[self.seen :]
 
     def ended(self) -> int:

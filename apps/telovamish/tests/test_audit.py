@@ -17,6 +17,7 @@ from telovamish.model import Ledger
 from telovamish.reader import Pair
 from telovamish.records import Account
 from telovamish.streams import Entry, Head, item_bytes
+from telovamish.words import TRANSFER_FLAGS
 
 ENTRY = Entry(2, 12 * 10**9, Pair(12 * 10**9, 7, 1, 1, "lookup_accounts", b""))
 
@@ -126,6 +127,52 @@ def test_a_check_of_an_audit(tbs: str) -> None:
     assert (status, len(out.splitlines())) == (0, 6)
     counts = "2 accounts, 0 transfers, 0 pending transfers, 1 sessions"
     assert errors == f"telovamish: as in tbs: {counts}\n"
+
+
+LEDGERS = (1, 700, 2**32 - 1)
+
+
+@pytest.fixture
+def dump_of_ledgers(tbs: str) -> bytes:
+    """A history of several ledgers: in each two accounts, a transfer, and a pending one that
+    expires."""
+    pairs = [Pair(0, 7, 0, 0, "register", b"")]
+    for number, ledger in enumerate(LEDGERS):
+        accounts = [account(10 * number + it, ledger=ledger, code=1) for it in (1, 2)]
+        first = transfer(
+            10 * number + 1, 10 * number + 1, 10 * number + 2, 5, ledger=ledger, code=1
+        )
+        held = transfer(10 * number + 2, 10 * number + 1, 10 * number + 2, 5, ledger=ledger, code=1)
+        held.flags, held.timeout = TRANSFER_FLAGS["pending"], 1
+        for name, records in (("create_accounts", accounts), ("create_transfers", [first, held])):
+            body = b"".join(it.to_bytes() for it in records)
+            pairs.append(Pair(0, 7, 1, len(pairs), name, body))
+    pairs.append(Pair(5 * 10**9, 7, 1, len(pairs), "lookup_accounts", bytes([1, *bytes(15)])))
+    script = b"".join(it.to_bytes() for it in pairs)
+    return subprocess.run([tbs, "dump", "2"], input=script, stdout=subprocess.PIPE).stdout
+
+
+def test_an_audit_has_each_ledger(tbs: str, dump_of_ledgers: bytes) -> None:
+    status, out, errors = ran("audit", "--check", "--tbs", tbs, given=dump_of_ledgers)
+    lines = [json.loads(it) for it in out.splitlines()]
+    events = [it["event"]["ledger"] for it in lines if it.get("result") == "created"]
+    expired = [it["expired"]["ledger"] for it in lines if "expired" in it]
+    assert events == [it for it in LEDGERS for _ in range(4)]
+    assert expired == [*LEDGERS]
+    counts = "6 accounts, 6 transfers, 3 pending transfers, 1 sessions"
+    assert (status, errors) == (0, f"telovamish: as in tbs: {counts}\n")
+
+
+@pytest.mark.parametrize("number, ledger", enumerate(LEDGERS), ids=map(str, LEDGERS))
+def test_an_audit_of_an_account_of_each_ledger(
+    tbs: str, dump_of_ledgers: bytes, number: int, ledger: int
+) -> None:
+    words = ["audit", "--account", str(10 * number + 1), "--tbs", tbs]
+    status, out, _ = ran(*words, given=dump_of_ledgers)
+    lines = [json.loads(it) for it in out.splitlines()]
+    kinds = [next(it for it in line if it in ("event", "account", "expired")) for line in lines]
+    assert kinds == ["event", "account", "event", "event", "account", "expired", "account"]
+    assert {line[kind]["ledger"] for line, kind in zip(lines, kinds)} == {ledger} and not status
 
 
 @pytest.mark.parametrize("found", [b"", bytes(128), 2 * bytes([7, *bytes(127)])])

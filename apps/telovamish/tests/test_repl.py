@@ -1,7 +1,9 @@
 """The conversation at a terminal: commands, statements, leaving, files and connections."""
 from __future__ import annotations
 
+import os
 import shutil
+import signal
 import subprocess
 
 import pytest
@@ -109,6 +111,31 @@ def test_ctrl_c_at_the_continuation_prompt(terminal):
     terminal.type("\x03")
     terminal.wait("\n> ")
     tried(terminal, ACCOUNT, "1 of 1 account created")
+
+
+def account(id: int) -> str:
+    return f"create_accounts id={id} ledger=7 code=1;"
+
+
+@pytest.mark.parametrize("next_ids", [[2, 3], [3, 3]], ids=["typed again", "another one"])
+def test_ctrl_c_amid_a_statement(terminal, next_ids):
+    """Whose reply does not come. Typed again it gets its reply; another one is refused, and is
+    executed when it is typed again. None is dropped."""
+    terminal.enter(ACCOUNT, "1 of 1 account created")
+    terminal.wait("\n> ")
+    words = ["pgrep", "-P", str(terminal.child.pid)]
+    (server,) = map(int, subprocess.run(words, stdout=subprocess.PIPE, check=True).stdout.split())
+    os.kill(server, signal.SIGSTOP)
+    terminal.enter(account(2), "\n")
+    terminal.press_ctrl_c()
+    terminal.wait("no reply is waited for: the statement may have been executed")
+    terminal.wait("\n> ")
+    os.kill(server, signal.SIGCONT)
+    first, second = next_ids
+    collides = "request 2 was executed before, with other content"
+    tried(terminal, account(first), "1 of 1 account created" if first == 2 else collides)
+    tried(terminal, account(second), "1 of 1 account created")
+    tried(terminal, "lookup_accounts id=1, id=2, id=3;", "\n 3  ")
 
 
 @pytest.mark.parametrize("leave", ["exit\r", "quit\r", "\x04"])
