@@ -1,0 +1,4 @@
+pub mod Sectors
+pub mod Calls
+pub mod Memory
+pub mod private

@@ -1,0 +1,13 @@
+//! Batches in a file, each durable after one write and one sync, over a disk whose sectors are old or new after a crash.
+//!
+//! Modules:
+//!
+//! - `devices`: `SectorFile`, a file on such a disk: what a read returns, and what a crash may leave.
+//! - `memory`: `MemorySectors`, a file in memory that is such a disk.
+#![tactic(auto)]
+
+mod devices;
+mod memory;
+
+pub use devices::{SectorFault, SectorFile};
+pub use memory::MemorySectors;
