@@ -1,4 +1,6 @@
 pub mod Sectors
 pub mod Calls
 pub mod Memory
+pub mod Stamped
+pub mod StampedLaws
 pub mod private

@@ -4,9 +4,11 @@
 //!
 //! - `devices`: `SectorFile`, a file on such a disk: what a read returns, and what a crash may leave.
 //! - `memory`: `MemorySectors`, a file in memory that is such a disk.
+//! - `laws`: what holds of every journal in the stamped format.
 #![tactic(auto)]
 
 mod devices;
+pub mod laws;
 mod memory;
 
 pub use devices::{SectorFault, SectorFile};
