@@ -4,12 +4,15 @@
 //!
 //! - `devices`: `SectorFile`, a file on such a disk: what a read returns, and what a crash may leave.
 //! - `memory`: `MemorySectors`, a file in memory that is such a disk.
+//! - `encoding`: a batch as the bytes of its sectors.
 //! - `laws`: what holds of every journal in the stamped format.
 #![tactic(auto)]
 
 mod devices;
+mod encoding;
 pub mod laws;
 mod memory;
 
 pub use devices::{SectorFault, SectorFile};
+pub use encoding::{BYTES_IN_A_SECTOR, SECTOR_BYTES, push_batch};
 pub use memory::MemorySectors;

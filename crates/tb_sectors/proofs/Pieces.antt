@@ -1,0 +1,126 @@
+-- A batch is cut into pieces, and its sectors have its bytes.
+use Rattle.std.proofs.Common.{◌≡◌, ℕ, zero, suc, ◌+◌, ◌-◌, ◌≤◌, ◌<◌, ap, Bool, true, false, List, [], ◌∷◌, ◌++◌, length, take, drop, flat_map, replicate, min, ⊎_elim, refl, sym, ◌∙◌, subst, arith, append_assoc, length-append, length-drop}
+use Rattle.std.specs.Prelude.{◌==◌, not, if◌then◌else◌}
+use Rattle.std.proofs.lemmas.List.{take-append-drop, take_all, take_min}
+use Rattle.std.proofs.lemmas.Bool.{cases_lt}
+use Rattle.std.proofs.lemmas.Bool.Decides.{nat_tests}
+use Rattle.std.proofs.Math.ListN.{drop_of_length-le}
+use Rattle.tb_sectors.specs.Stamped.{Stamped, grown, further, goes_on, further_sectors}
+use Rattle.tb_sectors.specs.Encoding.{stamp_bytes, raw, raws, pieces, pieces_of, open_sector, cut_batch, further_raws}
+
+-- any number that is large enough gives the same pieces
+enough : (m n : ℕ) (bytes : List ℕ) → length bytes ≤ m → length bytes ≤ n → pieces m bytes ≡ pieces n bytes
+enough zero zero bytes h k = refl
+enough zero (suc n) [] h k = refl
+enough zero (suc n) (b ∷ bytes) h k = absurd (omega arith)
+enough (suc m) zero [] h k = refl
+enough (suc m) zero (b ∷ bytes) h k = absurd (omega arith)
+enough (suc m) (suc n) [] h k = refl
+enough (suc m) (suc n) (b ∷ bytes) h k =
+    ap (λ (l : List (List ℕ)). take 492 (b ∷ bytes) ∷ l)
+    (enough m n (drop 492 (b ∷ bytes)) (omega (arith, length-drop 492 (b ∷ bytes))) (omega (arith, length-drop 492 (b ∷ bytes))))
+
+-- the first piece, and the others
+next_piece : (bytes : List ℕ) → 0 < length bytes → pieces_of bytes ≡ take 492 bytes ∷ pieces_of (drop 492 bytes)
+next_piece [] some = absurd (omega arith)
+next_piece (b ∷ bytes) some =
+    ap (λ (l : List (List ℕ)). take 492 (b ∷ bytes) ∷ l)
+    (enough (length bytes) (length (drop 492 (b ∷ bytes))) (drop 492 (b ∷ bytes)) (omega (arith, length-drop 492 (b ∷ bytes))) (omega arith))
+
+goes_on_some : (bytes : List ℕ) → 0 < length bytes → goes_on (pieces_of bytes) ≡ true
+goes_on_some bytes some = ap goes_on (next_piece bytes some)
+
+goes_on_none : (bytes : List ℕ) → length bytes ≡ 0 → goes_on (pieces_of bytes) ≡ false
+goes_on_none [] none = refl
+goes_on_none (b ∷ bytes) none = absurd (omega arith)
+
+-- the pieces have all bytes
+joined : (n : ℕ) (bytes : List ℕ) → length bytes ≤ n → flat_map (λ (piece : List ℕ). piece) (pieces n bytes) ≡ bytes
+joined zero [] h = refl
+joined zero (b ∷ bytes) h = absurd (omega arith)
+joined (suc n) [] h = refl
+joined (suc n) (b ∷ bytes) h =
+    ap (λ (l : List ℕ). take 492 (b ∷ bytes) ++ l) (joined n (drop 492 (b ∷ bytes)) (omega (arith, length-drop 492 (b ∷ bytes))))
+    ∙ take-append-drop 492 (b ∷ bytes)
+
+pub pieces_join : (bytes : List ℕ) → flat_map (λ (piece : List ℕ). piece) (pieces_of bytes) ≡ bytes
+pieces_join bytes = joined (length bytes) bytes (omega arith)
+
+-- the bytes of the sectors of what is left, one sector at a time
+
+pub no_more : (number : ℕ) (bytes : List ℕ) → length bytes ≡ 0 → further_raws number bytes ≡ []
+no_more number [] none = refl
+no_more number (b ∷ bytes) none = absurd (omega arith)
+
+pub one_more : (number : ℕ) (bytes : List ℕ) (more : Bool) → 0 < length bytes → goes_on (pieces_of (drop 492 bytes)) ≡ more
+    → further_raws number bytes ≡ raw (further number (take 492 bytes) more) ++ further_raws number (drop 492 bytes)
+one_more number bytes more some is =
+    ap (λ (l : List (List ℕ)). raws (further_sectors number l)) (next_piece bytes some)
+    ∙ ap (λ (b : Bool). raw (further number (take 492 bytes) b) ++ further_raws number (drop 492 bytes)) is
+
+-- the code's steps
+
+pub sector_built : (o kept bytes first second third fourth : List ℕ) (number begun used ends : ℕ)
+    → used ≡ length kept + length bytes → first ≡ o ++ stamp_bytes number begun used ends → second ≡ first ++ kept → third ≡ second ++ bytes
+    → fourth ≡ third ++ replicate (492 - used) 0 → fourth ≡ o ++ raw (record { number = number; begun = begun; ends = ends; bytes = kept ++ bytes })
+unfolding raw
+sector_built o kept bytes first second third fourth number begun used ends is p q r s =
+    let e : used ≡ length (kept ++ bytes) = is ∙ sym (length-append kept bytes) in
+    let stamp = stamp_bytes number begun used ends in
+    let zeros = replicate (492 - used) 0 in
+    s ∙ ap (λ (l : List ℕ). l ++ zeros) (r ∙ ap (λ (l : List ℕ). l ++ bytes) (q ∙ ap (λ (l : List ℕ). l ++ kept) p))
+    ∙ regroup o stamp kept bytes zeros
+    ∙ ap (λ (u : ℕ). o ++ (stamp_bytes number begun u ends ++ ((kept ++ bytes) ++ replicate (492 - u) 0))) e
+  where
+    regroup : (a b c d e : List ℕ) → (((a ++ b) ++ c) ++ d) ++ e ≡ a ++ (b ++ ((c ++ d) ++ e))
+    regroup a b c d e = simp append_assoc
+
+goes_on_is : (bytes : List ℕ) (none : Bool) → none ≡ (length bytes == 0) → goes_on (pieces_of bytes) ≡ not none
+goes_on_is [] none is = sym (ap not is)
+goes_on_is (b ∷ bytes) none is = goes_on_some (b ∷ bytes) (omega arith) ∙ sym (ap not (is ∙ not_zero (length (b ∷ bytes)) (omega arith)))
+  where
+    not_zero : (n : ℕ) → 0 < n → (n == 0) ≡ false
+    not_zero n some = grind (arith, nat_tests)
+
+take_up_to : (k n : ℕ) (bytes : List ℕ) → k ≡ min n (length bytes) → take k bytes ≡ take n bytes
+take_up_to k n bytes is = ap (λ (j : ℕ). take j bytes) is ∙ take_min n bytes
+
+drop_up_to : (k n : ℕ) (bytes : List ℕ) → k ≡ min n (length bytes) → drop k bytes ≡ drop n bytes
+drop_up_to k n bytes is =
+    ⊎_elim (λ less. ap (λ (j : ℕ). drop j bytes) (omega (arith, is, less)))
+    (λ le. drop_of_length-le bytes {i = k} (omega (arith, is, le)) ∙ sym (drop_of_length-le bytes {i = n} (omega (arith, le))))
+    (cases_lt n (length bytes))
+
+pub further_step : (out out2 target rest piece more : List ℕ) (number k : ℕ) (last : Bool) → 0 < length rest → k ≡ min 492 (length rest)
+    → piece ≡ take k rest → more ≡ drop k rest → last ≡ (length more == 0) → out2 ≡ out ++ raw (further number piece (not last))
+    → out ++ further_raws number rest ≡ target → out2 ++ further_raws number more ≡ target
+further_step out out2 target rest piece more number k last some is p m l o before =
+    let front : piece ≡ take 492 rest = p ∙ take_up_to k 492 rest is in
+    let behind : more ≡ drop 492 rest = m ∙ drop_up_to k 492 rest is in
+    ap (λ (x : List ℕ). x ++ further_raws number more) (o ∙ ap (λ (x : List ℕ). out ++ raw (further number x (not last))) front)
+    ∙ ap (λ (x : List ℕ). (out ++ raw (further number (take 492 rest) (not last))) ++ further_raws number x) behind
+    ∙ append_assoc out (raw (further number (take 492 rest) (not last))) (further_raws number (drop 492 rest))
+    ∙ ap (λ (x : List ℕ). out ++ x) (sym (one_more number rest (not last) some
+    (ap (λ (x : List ℕ). goes_on (pieces_of x)) (sym behind) ∙ goes_on_is more last l)))
+    ∙ before
+
+pub batch_built : (out out1 out2 kept bytes first more : List ℕ) (number begun ends k : ℕ) (last : Bool) → k ≡ min (492 - length kept) (length bytes)
+    → first ≡ take k bytes → more ≡ drop k bytes → last ≡ (length more == 0) → ends ≡ (if last then length kept + length first else length kept)
+    → out1 ≡ out ++ raw (record { number = number + 1; begun = begun + 1; ends = ends; bytes = kept ++ first }) → out2 ≡ out1 ++ further_raws (number + 1) more
+    → out2 ≡ out ++ raws (cut_batch (open_sector number begun kept) bytes)
+batch_built out out1 out2 kept bytes first more number begun ends k last is f m l e o p =
+    let n = 492 - length kept in
+    let front : first ≡ take n bytes = f ∙ take_up_to k n bytes is in
+    let behind : more ≡ drop n bytes = m ∙ drop_up_to k n bytes is in
+    let on : goes_on (pieces_of (drop n bytes)) ≡ not last = ap (λ (x : List ℕ). goes_on (pieces_of x)) (sym behind) ∙ goes_on_is more last l in
+    let grows : record { number = number + 1; begun = begun + 1; ends = ends; bytes = kept ++ first } ≡ grown (open_sector number begun kept) (take n bytes) (goes_on (pieces_of (drop n bytes)))
+    = ap (λ (x : ℕ). record { number = number + 1; begun = begun + 1; ends = x; bytes = kept ++ first }) (e ∙ which last kept first)
+    ∙ ap (λ (x : List ℕ). grown (open_sector number begun kept) x (not last)) front
+    ∙ ap (λ (b : Bool). grown (open_sector number begun kept) (take n bytes) b) (sym on) in
+    p ∙ ap (λ (x : List ℕ). x ++ further_raws (number + 1) more) (o ∙ ap (λ (s : Stamped). out ++ raw s) grows)
+    ∙ append_assoc out (raw (grown (open_sector number begun kept) (take n bytes) (goes_on (pieces_of (drop n bytes))))) (further_raws (number + 1) more)
+    ∙ ap (λ (x : List ℕ). out ++ (raw (grown (open_sector number begun kept) (take n bytes) (goes_on (pieces_of (drop n bytes)))) ++ further_raws (number + 1) x)) behind
+  where
+    which : (last : Bool) (kept first : List ℕ) → (if last then length kept + length first else length kept) ≡ (if not last then length kept else length (kept ++ first))
+    which true kept first = sym (length-append kept first)
+    which false kept first = refl

@@ -1,0 +1,43 @@
+-- The bytes of sectors, and how a batch is cut into them.
+use Rattle.std.specs.Prelude.{◌≡◌, ℕ, ◌-◌, ◌<◌, ◌≤◌, ◌^◌, zero, suc, List, [], ◌∷◌, ◌++◌, length, take, drop, flat_map, replicate}
+use Rattle.std.specs.Int.{w16, w64, to_le_bytes}
+use Rattle.tb_sectors.specs.Stamped.{Stamped, batch_sectors, further_sectors}
+
+-- a sector's stamp: number, batches begun, bytes used, where the last batch ends, and six zeros
+unfoldable pub stamp_bytes : ℕ → ℕ → ℕ → ℕ → List ℕ
+stamp_bytes number begun used ends = to_le_bytes w64 number ++ (to_le_bytes w16 begun ++ (to_le_bytes w16 used ++ (to_le_bytes w16 ends ++ replicate 6 0)))
+
+-- the 512 bytes of a sector: its stamp, its bytes, and zeros
+unfoldable pub raw : Stamped → List ℕ
+raw s = stamp_bytes s.number s.begun (length s.bytes) s.ends ++ (s.bytes ++ replicate (492 - length s.bytes) 0)
+
+abbrev pub raws : List Stamped → List ℕ
+raws sectors = flat_map raw sectors
+
+-- what a sector can hold
+pub record FitsSector (s : Stamped) : Type 0 where
+  pub number : s.number < 2 ^ 64
+  pub begun : s.begun < 2 ^ 16
+  pub ends : s.ends < 2 ^ 16
+  pub bytes : length s.bytes ≤ 492
+
+-- bytes in pieces of 492, the last one shorter; the number of bytes is enough for the first argument
+abbrev pub pieces : ℕ → List ℕ → List (List ℕ)
+pieces zero bytes = []
+pieces (suc more) [] = []
+pieces (suc more) (byte ∷ bytes) = take 492 (byte ∷ bytes) ∷ pieces more (drop 492 (byte ∷ bytes))
+
+abbrev pub pieces_of : List ℕ → List (List ℕ)
+pieces_of bytes = pieces (length bytes) bytes
+
+-- a sector with these bytes, of which a batch has not been added yet
+abbrev pub open_sector : ℕ → ℕ → List ℕ → Stamped
+open_sector number begun kept = record { number = number; begun = begun; ends = 0; bytes = kept }
+
+-- the sectors of a batch with these bytes that begins in a sector with so many batches and these bytes: as many as fit there, and the others after it
+abbrev pub cut_batch : Stamped → List ℕ → List Stamped
+cut_batch last bytes = batch_sectors last (take (492 - length last.bytes) bytes) (pieces_of (drop (492 - length last.bytes) bytes))
+
+-- its bytes
+abbrev pub further_raws : ℕ → List ℕ → List ℕ
+further_raws number bytes = raws (further_sectors number (pieces_of bytes))

@@ -1,0 +1,107 @@
+//! A batch as the bytes of its sectors.
+ghost use Rattle.std.specs.Prelude.{◌≡◌, ◌≤◌, ◌<◌, ◌+◌, ◌^◌, ◌++◌, ◌-◌, not, length, replicate, if◌then◌else◌, OnOk};
+ghost use Rattle.tb_sectors.specs.Stamped.{further};
+ghost use Rattle.tb_sectors.specs.Encoding.{stamp_bytes, raw, raws, further_raws, open_sector, cut_batch};
+
+use std::alloc::AllocError;
+
+/// A sector has so many bytes.
+pub const SECTOR_BYTES: usize = 512;
+
+/// A sector has so many bytes of the stream: the others are its stamp.
+pub const BYTES_IN_A_SECTOR: usize = 492;
+
+/// Adds the sectors of a batch. It begins in a sector that has so many batches and these bytes, written last by the batch of this number: the last
+/// sector of a journal, or a new one after it, with no batches and no bytes.
+pub fn push_batch(
+    out: &mut Vec<u8>,
+    number: u64,
+    begun: u16,
+    kept: &[u8],
+    bytes: &[u8],
+) -> Result<(), AllocError>
+    requires numbered { number < 2 ^ 64 - 1 }
+    requires few { begun < 2 ^ 16 - 1 }
+    requires fits { length kept.now ≤ 492 }
+    ensures { OnOk result (out.new.items ≡ out.old.items ++ raws (cut_batch (open_sector number begun kept.now) bytes.now)) }
+{
+    let room = BYTES_IN_A_SECTOR - kept.len();
+    let (first, more) = bytes.split_at(room.min(bytes.len()));
+    let ends = end_in(more.is_empty(), kept.len() + first.len(), kept.len());
+    push_sector(out, number + 1, begun + 1, ends, kept, first)?;
+    push_further(out, number + 1, more)?;
+    Ok(())
+}
+
+// Adds the further sectors of a batch.
+fn push_further(out: &mut Vec<u8>, number: u64, bytes: &[u8]) -> Result<(), AllocError>
+    ensures { OnOk result (out.new.items ≡ out.old.items ++ further_raws number bytes.now) }
+{
+    let mut rest = bytes;
+    while !rest.is_empty() {
+        let (piece, more) = rest.split_at(rest.len().min(BYTES_IN_A_SECTOR));
+        push_piece(out, number, piece, more.is_empty())?;
+        rest = more;
+    }
+    Ok(())
+}
+
+// Adds a further sector of a batch: the last one, or one after which the batch goes on.
+fn push_piece(out: &mut Vec<u8>, number: u64, piece: &[u8], last: bool) -> Result<(), AllocError>
+    requires { length piece.now ≤ 492 }
+    ensures { OnOk result (out.new.items ≡ out.old.items ++ raw (further number piece.now (not last))) }
+{
+    let ends = end_in(last, piece.len(), piece.len() + 1);
+    push_sector(out, number, 0, ends, &[], piece)
+}
+
+// Where the last batch that ends in a sector ends: after all of its bytes, or elsewhere.
+fn end_in(last: bool, all: usize, other: usize) -> u16
+    requires all { all ≤ 492 }
+    requires other { other ≤ 493 }
+    ensures { result ≡ (if last then all else other) }
+{
+    if last { all as u16 } else { other as u16 }
+}
+
+// Adds a sector.
+fn push_sector(
+    out: &mut Vec<u8>,
+    number: u64,
+    begun: u16,
+    ends: u16,
+    kept: &[u8],
+    bytes: &[u8],
+) -> Result<(), AllocError>
+    requires { length kept.now + length bytes.now ≤ 492 }
+    ensures { OnOk result (out.new.items ≡ out.old.items ++ raw (record { number = number; begun = begun; ends = ends; bytes = kept.now ++ bytes.now })) }
+{
+    let used = kept.len() + bytes.len();
+    let stamp = stamp_of(number, begun, used as u16, ends);
+    out.extend_from_slice(&stamp)?;
+    out.extend_from_slice(kept)?;
+    out.extend_from_slice(bytes)?;
+    push_zeros(out, BYTES_IN_A_SECTOR - used)?;
+    Ok(())
+}
+
+// The bytes of a stamp.
+#[tactic(auto, unfolding(crate::specs::Encoding::stamp_bytes))]
+fn stamp_of(number: u64, begun: u16, used: u16, ends: u16) -> [u8; 20]
+    ensures { result ≡ stamp_bytes number begun used ends }
+{
+    let [a, b, c, d, e, f, g, h] = number.to_le_bytes();
+    let [i, j] = begun.to_le_bytes();
+    let [k, l] = used.to_le_bytes();
+    let [m, n] = ends.to_le_bytes();
+    [a, b, c, d, e, f, g, h, i, j, k, l, m, n, 0, 0, 0, 0, 0, 0]
+}
+
+// Adds zeros.
+fn push_zeros(out: &mut Vec<u8>, count: usize) -> Result<(), AllocError>
+    requires { count ≤ 492 }
+    ensures { OnOk result (out.new.items ≡ out.old.items ++ replicate count 0) }
+{
+    out.resize(out.len() + count, 0)?;
+    Ok(())
+}
