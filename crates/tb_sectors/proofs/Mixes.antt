@@ -30,7 +30,7 @@ pub record IsNext (taken : Taken) (s : Stamped) : Type 0 where
 follows_next : (t : Taken) (s : Stamped) → IsNext t s → follows t s ≡ true
 follows_next t s next = is_next t.number s.number s.begun next.stamped next.number
 
-takes : (t : Taken) (s : Stamped) (rest : List Stamped) → IsNext t s → read_on t (s ∷ rest) ≡ read_on (with_sector t s) rest
+pub takes : (t : Taken) (s : Stamped) (rest : List Stamped) → IsNext t s → read_on t (s ∷ rest) ≡ read_on (with_sector t s) rest
 takes t s rest next =
     ap (λ (b : Bool). if b then read_on (with_sector t s) rest else if begins_in (s ∷ rest) then Damaged t.count else Ends t) (follows_next t s next)
 

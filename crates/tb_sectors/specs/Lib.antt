@@ -4,4 +4,6 @@ pub mod Memory
 pub mod Stamped
 pub mod StampedLaws
 pub mod Encoding
+pub mod Reading
+pub mod Steps
 pub mod private

@@ -1,7 +1,8 @@
 -- What holds of every journal in the stamped format, over a disk whose sectors are old or new.
-use Rattle.std.specs.Prelude.{◌≡◌, ◌⊎◌, ℕ, List, [], ◌∷◌, ◌++◌, Some}
+use Rattle.std.specs.Prelude.{◌≡◌, ◌≢◌, ◌⊎◌, ℕ, ◌+◌, true, List, [], ◌∷◌, ◌++◌, length, Some}
 use Rattle.tb_sectors.specs.Sectors.{IsMixed, sector}
-use Rattle.tb_sectors.specs.Stamped.{Stamped, Batch, batch_bytes, stream, sector_at, after_batches, all_bytes, stamped, file_sectors}
+use Rattle.tb_sectors.specs.Stamped.{Stamped, nothing_taken, read_on, Damaged, begins_in, Batch, stream, sector_at, after_batches, all_bytes, stamped, file_sectors}
+use Rattle.tb_sectors.specs.Encoding.{raw, FitsSector}
 
 -- each sector of what is left is that of the one or that of the other, in any combination
 abbrev pub IsAnyMix : List Stamped → List Stamped → List Stamped → Type 0
@@ -26,3 +27,13 @@ abbrev pub FileIsAllOrNone : Type 0
 FileIsAllOrNone = (first : List ℕ) (batches : List Batch) (batch : Batch) (old new left : List ℕ)
     → HasSectors old (after_batches first batches) → HasSectors new (after_batches first (batch ∷ batches)) → IsMixed old new left
     → (stream (file_sectors left) ≡ Some (all_bytes first batches)) ⊎ (stream (file_sectors left) ≡ Some (all_bytes first (batch ∷ batches)))
+
+-- a sector that has not what was written there last, if a batch begins after it, is damage, named at that sector or the next one
+abbrev pub LostWriteIsDamage : Type 0
+LostWriteIsDamage = (first : List ℕ) (batches : List Batch) (before rest : List Stamped) (written lost : Stamped)
+    → after_batches first batches ≡ before ++ written ∷ rest → begins_in rest ≡ true → lost.number ≢ written.number
+    → (read_on nothing_taken (before ++ lost ∷ rest) ≡ Damaged (length before)) ⊎ (read_on nothing_taken (before ++ lost ∷ rest) ≡ Damaged (length before + 1))
+
+-- the bytes of a sector are read as they were written
+abbrev pub SectorIsReadBack : Type 0
+SectorIsReadBack = (s : Stamped) → FitsSector s → (stamped (raw s) ≡ s) × (length (raw s) ≡ 512)

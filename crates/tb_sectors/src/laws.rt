@@ -1,5 +1,5 @@
 //! What holds of every journal in the stamped format.
-ghost use Rattle.tb_sectors.specs.StampedLaws.{CrashLeavesAllOrNone, CommittedIsRead, FileIsAllOrNone};
+ghost use Rattle.tb_sectors.specs.StampedLaws.{CrashLeavesAllOrNone, CommittedIsRead, FileIsAllOrNone, LostWriteIsDamage, SectorIsReadBack};
 
 /// A crash amid the commit of a batch, after any others, leaves the batch whole or nothing of it, and all earlier ones.
 pub fn crash_leaves_all_or_none()
@@ -14,4 +14,14 @@ pub fn committed_is_read()
 /// The same for the bytes of files that a crash mixes by sectors.
 pub fn file_is_all_or_none()
     ensures { FileIsAllOrNone }
+{}
+
+/// A write that the disk lost is damage, as soon as a later batch begins after its sector.
+pub fn lost_write_is_damage()
+    ensures { LostWriteIsDamage }
+{}
+
+/// The bytes of a sector are read as they were written.
+pub fn sector_is_read_back()
+    ensures { SectorIsReadBack }
 {}

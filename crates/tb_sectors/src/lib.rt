@@ -5,6 +5,8 @@
 //! - `devices`: `SectorFile`, a file on such a disk: what a read returns, and what a crash may leave.
 //! - `memory`: `MemorySectors`, a file in memory that is such a disk.
 //! - `encoding`: a batch as the bytes of its sectors.
+//! - `reading`: `SectorReader`, the sectors of a file taken in order.
+//! - `writing`: a batch, and zeros ahead of the batches, each written with one sync.
 //! - `laws`: what holds of every journal in the stamped format.
 #![tactic(auto)]
 
@@ -12,7 +14,11 @@ mod devices;
 mod encoding;
 pub mod laws;
 mod memory;
+mod reading;
+mod writing;
 
 pub use devices::{SectorFault, SectorFile};
 pub use encoding::{BYTES_IN_A_SECTOR, SECTOR_BYTES, push_batch};
 pub use memory::MemorySectors;
+pub use reading::SectorReader;
+pub use writing::{RESERVE_MAX, RESERVE_MIN, commit, next_reserve, reserve};

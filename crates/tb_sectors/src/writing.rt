@@ -1,0 +1,41 @@
+//! The two ways in which a journal's file is written: a batch, and zeros ahead of the batches, each with one sync.
+ghost use Rattle.std.specs.Prelude.{◌≡◌, ◌≤◌, ◌^◌, length, replicate, min, max};
+ghost use Rattle.tb_sectors.specs.Sectors.{IsSettled};
+ghost use Rattle.tb_sectors.specs.Steps.{Overwrites, WritesBatch, Reserves};
+
+use crate::devices::{SectorFault, SectorFile};
+
+/// Zeros are written ahead in steps of at least so many bytes,
+pub const RESERVE_MIN: usize = 1 << 16;
+
+/// and at most so many.
+pub const RESERVE_MAX: usize = 1 << 26;
+
+/// Writes the sectors of a batch, and syncs: at `Ok` the batch is acknowledged.
+pub fn commit<D: SectorFile>(device: &mut D, at: usize, sectors: &[u8]) -> Result<(), SectorFault>
+    requires { at ≤ length (D.disk device.old).seen }
+    ensures writes { Overwrites at sectors.now result (D.disk device.old) (D.disk device.new) }
+    ensures commits { WritesBatch at sectors.now result (D.disk device.old) (D.disk device.new) }
+{
+    match device.write_at(at, sectors) {
+        Ok(()) => device.sync(),
+        Err(fault) => Err(fault),
+    }
+}
+
+/// Writes zeros after the end of a file, and syncs, so that commits there change neither its length nor where its bytes are on the disk.
+pub fn reserve<D: SectorFile>(device: &mut D, end: usize, zeros: &[u8]) -> Result<(), SectorFault>
+    requires ends { end ≡ length (D.disk device.old).seen }
+    requires zeros { zeros.now ≡ replicate (length zeros.now) 0 }
+    requires settled { IsSettled (D.disk device.old) }
+    ensures { Reserves zeros.now result (D.disk device.old) (D.disk device.new) }
+{
+    commit(device, end, zeros)
+}
+
+/// How many zeros are written next, if a file has so many bytes: as many again, within the two bounds.
+pub fn next_reserve(bytes: usize) -> usize
+    ensures { result ≡ min (max (2 ^ 16) bytes) (2 ^ 26) }
+{
+    bytes.max(RESERVE_MIN).min(RESERVE_MAX)
+}
