@@ -1,9 +1,9 @@
 //! The sectors of a file read in order: which bytes of the stream are those of whole batches, where it ends, and what is damaged.
-ghost use Rattle.std.specs.Prelude.{◌≡◌, ◌≤◌, ◌<◌, ◌+◌, ◌^◌, ◌==◌, ◌&&◌, nat_lt, nat_le, if◌then◌else◌, take, drop, length, IfOk, OnErr};
-ghost use Rattle.tb_sectors.specs.Stamped.{Taken, nothing_taken, stamped};
-ghost use Rattle.tb_sectors.specs.Reading.{TakesSector, used_bytes};
+ghost use Rattle.std.specs.Prelude.{◌≡◌, ◌≤◌, ◌<◌, ◌+◌, ◌%◌, ◌^◌, ◌==◌, ◌&&◌, nat_lt, nat_le, if◌then◌else◌, take, drop, length, Some, None, IfOk, OnErr};
+ghost use Rattle.tb_sectors.specs.Stamped.{Taken, nothing_taken, stamped, begins_in, read_on, file_sectors};
+ghost use Rattle.tb_sectors.specs.Reading.{TakesSector, IsReadOn, used_bytes};
 
-use crate::encoding::BYTES_IN_A_SECTOR;
+use crate::encoding::{BYTES_IN_A_SECTOR, SECTOR_BYTES};
 use std::alloc::{AllocError, Global};
 use std::marker::Model;
 
@@ -67,6 +67,26 @@ impl SectorReader {
         Ok(true)
     }
 
+    /// Takes the sectors of some more bytes of a file, as far as they follow. Returns nothing if the journal may end after them, or at which sector it
+    /// is damaged. The last bytes of a file whose length is no multiple of 512 are given with zeros after them.
+    pub fn read_on(&mut self, file: &[u8]) -> Result<Option<usize>, AllocError>
+        requires sectors { length file.now % 512 ≡ 0 }
+        requires near { self.old.count + length file.now < 2 ^ 62 }
+        ensures { IfOk result (λ damaged. IsReadOn damaged (read_on self.old (file_sectors file.now)) self.new) }
+    {
+        let mut rest = file;
+        while rest.len() >= SECTOR_BYTES {
+            let (sector, more) = rest.split_at(SECTOR_BYTES);
+            match self.take(sector) {
+                Ok(true) => {}
+                Ok(false) => return Ok(damage_at(self.count, rest)),
+                Err(error) => return Err(error),
+            }
+            rest = more;
+        }
+        Ok(None)
+    }
+
     /// The bytes of the batches that are whole.
     pub fn whole(&self) -> &[u8]
         ensures { result.now ≡ self.now.whole }
@@ -80,6 +100,30 @@ impl SectorReader {
     {
         self.count
     }
+}
+
+// The sector of this number is damaged or the one before it, if a batch begins there or after it.
+fn damage_at(count: usize, rest: &[u8]) -> Option<usize>
+    requires { length rest.now % 512 ≡ 0 }
+    ensures { result ≡ (if begins_in (file_sectors rest.now) then Some count else None) }
+{
+    if begins_in(rest) { Some(count) } else { None }
+}
+
+// A batch begins in one of these sectors.
+fn begins_in(file: &[u8]) -> bool
+    requires { length file.now % 512 ≡ 0 }
+    ensures { result ≡ begins_in (file_sectors file.now) }
+{
+    let mut rest = file;
+    while rest.len() >= SECTOR_BYTES {
+        let (sector, more) = rest.split_at(SECTOR_BYTES);
+        if stamp_of(sector).begun > 0 {
+            return true;
+        }
+        rest = more;
+    }
+    false
 }
 
 // How many bytes are those of whole batches, after a sector that adds so many.
