@@ -96,7 +96,7 @@ pub begins_later : (file sector rest : List ℕ) (begun : ℕ) → 512 ≤ lengt
 begins_later file sector rest begun long is more n none =
     ap (λ (l : List ℕ). begins_in (file_sectors l)) more
     ∙ sym (ap begins_in (next_sector file long) ∙ ap (λ (l : List ℕ). nat_lt 0 (stamped l).begun || begins_in (file_sectors (drop 512 file))) (sym is)
-        ∙ ap (λ (k : ℕ). nat_lt 0 k || begins_in (file_sectors (drop 512 file))) (sym n ∙ zero_is begun none))
+    ∙ ap (λ (k : ℕ). nat_lt 0 k || begins_in (file_sectors (drop 512 file))) (sym n ∙ zero_is begun none))
   where
     zero_is : (k : ℕ) → k ≤ 0 → k ≡ 0
     zero_is k none = omega arith

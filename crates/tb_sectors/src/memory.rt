@@ -1,7 +1,7 @@
 //! A file in memory whose sectors are old or new after a crash.
-ghost use Rattle.std.specs.Prelude.{◌≡◌, ◌≤◌, ◌++◌, ◌∷◌, true, [], Vec, List, ℕ, length, reverse, IfOk, OnOk, OnErr};
+ghost use Rattle.std.specs.Prelude.{◌≡◌, ◌≤◌, ◌++◌, ◌∷◌, [], Vec, List, ℕ, length, reverse, IfOk, OnOk, OnErr};
 ghost use Rattle.tb_sectors.specs.declared.memory.Call.TheVariants as variants;
-ghost use Rattle.tb_sectors.specs.Sectors.{Looks, ReadsAt, Writes, Syncs, overwritten};
+ghost use Rattle.tb_sectors.specs.Sectors.{IsSettled, ReadsAt, overwritten};
 ghost use Rattle.tb_sectors.specs.Calls.{shown_after};
 
 use crate::devices::{SectorFault, SectorFile};
@@ -34,7 +34,7 @@ impl MemorySectors {
     pub fn new(alloc: Global, bytes: Vec<u8>) -> Result<Self, AllocError>
         ensures bytes { IfOk result (λ file. memory_bytes file ≡ bytes.items) }
         ensures moments { IfOk result (λ file. moments_of file ≡ 0) }
-        ensures sound { IfOk result (λ file. (memory_disk file).sound ≡ true) }
+        ensures settled { IfOk result (λ file. IsSettled (memory_disk file)) }
     {
         Ok(MemorySectors {
             alloc,

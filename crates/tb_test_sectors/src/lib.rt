@@ -1,0 +1,15 @@
+//! Tests of the library that writes batches over sectors, only by its public calls: so it is not proved a second time for its tests.
+//!
+//! Modules:
+//!
+//! - `steps`: what each test wants, and files of a few sectors.
+//! - `mixes`: each combination of old and new sectors that a crash amid a commit may leave.
+//! - `devices`: a commit and a reserve over a file in memory.
+#![tactic(auto)]
+
+#[cfg(test)]
+mod devices;
+#[cfg(test)]
+mod mixes;
+#[cfg(test)]
+mod steps;
