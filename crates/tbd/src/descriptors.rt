@@ -1,8 +1,6 @@
 //! Files that take none of the descriptors of the standard streams.
 
-use crate::names::Identity;
 use std::alloc::{Allocator, Global};
-use std::cell::Cell;
 use std::fs::{File, Files, Metadata, OpenOptions};
 use std::io;
 use std::path::PathBuf;
@@ -14,22 +12,12 @@ use std::path::PathBuf;
 #[derive(Drop)]
 pub struct HighFiles<'a> {
     rt: &'a HostRuntime,
-    // The regular file that was opened last.
-    opened: Cell<Option<Identity>>,
 }
 
 impl<'a> HighFiles<'a> {
-    /// The files of the system; no file was opened yet.
+    /// The files of the system.
     pub fn new(rt: &'a HostRuntime) -> HighFiles<'a> {
-        HighFiles {
-            rt,
-            opened: Cell::new(None),
-        }
-    }
-
-    /// The identity of the regular file that was opened last.
-    pub fn opened(&self) -> Option<Identity> {
-        self.opened.get()
+        HighFiles { rt }
     }
 }
 
@@ -49,11 +37,7 @@ impl<'a> Files for HighFiles<'a> {
     // A duplicate has the lowest descriptor that is free from 3 on.
     fn open_file(&self, how: &OpenOptions, path: &str) -> io::Result<File> {
         let first = self.rt.open_file(how, path)?;
-        let file = File::try_clone(&first)?;
-        if let Some(opened) = Identity::of_file(&file) {
-            self.opened.set(Some(opened));
-        }
-        Ok(file)
+        File::try_clone(&first)
     }
 
     fn open_dir(&self, path: &str) -> io::Result<Self::Dir> {

@@ -1,14 +1,16 @@
-//! The names of the system's files, for what copies files.
+//! The names of the system's files, and the files that are opened by them.
 
 use crate::descriptors::HighFiles;
 use std::fs;
-use std::fs::File;
+use std::fs::{File, Metadata, TryLockError};
 use std::io::{Error, ErrorKind, Read, Write};
-use std::os::unix::fs::OpenOptionsExt;
+use std::os::unix::fs::{FileExt, MetadataExt, OpenOptionsExt};
 use tb_edge_file::{FileSystem, Found};
-use tb_file_journal::{FileFault, sync_folder};
+use tb_edge_names::{Identity, ServedFiles, Status};
+use tb_file_journal::{FileFault, System, sync_folder};
 
-/// The names of the system's files. Each call is one of std's, trusted to keep the contract of `FileSystem`; no proof covers what they do.
+/// The names of the system's files. Each call is one of std's, trusted to keep the contracts of `FileSystem` and `ServedFiles`; no proof covers
+/// what they do.
 #[derive(Drop)]
 pub struct HostNames<'a> {
     rt: &'a HostRuntime,
@@ -22,6 +24,72 @@ impl<'a> HostNames<'a> {
             rt,
             files: HighFiles::new(rt),
         }
+    }
+}
+
+/// A file that the system has opened. Each call is one of std's, trusted to keep the contract of `System`.
+#[derive(Drop)]
+pub struct OpenFile {
+    file: File,
+}
+
+impl System for OpenFile {
+    ghost use Rattle.tb_file_journal.specs.Real.{untold};
+
+    ghost tells = { ⊥ };
+
+    ghost disk = { λ _. untold };
+
+    ghost interruptions = { λ _. 0 };
+
+    ghost counts_now = { λ _ t c le now. now };
+
+    ghost only_now = { λ _ c left. left };
+
+    ghost stays = { λ _ told. absurd told };
+
+    ghost fits = { λ _ told. absurd told };
+
+    ghost ends = { λ _ told. absurd told };
+
+    fn pread(&mut self, into: &mut [u8], offset: u64) -> Result<usize, ErrorKind> {
+        self.file
+            .read_at(into, offset)
+            .map_err(|error| error.kind())
+    }
+
+    fn pwrite(&mut self, bytes: &[u8], offset: u64) -> Result<usize, ErrorKind> {
+        self.file
+            .write_at(bytes, offset)
+            .map_err(|error| error.kind())
+    }
+
+    fn ftruncate(&mut self, len: u64) -> Result<(), ErrorKind> {
+        self.file.set_len(len).map_err(|error| error.kind())
+    }
+
+    fn fdatasync(&mut self) -> Result<(), ErrorKind> {
+        self.file.sync_data().map_err(|error| error.kind())
+    }
+
+    fn fstat(&mut self) -> Result<u64, ErrorKind> {
+        match self.file.metadata() {
+            Ok(metadata) => Ok(metadata.len()),
+            Err(error) => Err(error.kind()),
+        }
+    }
+}
+
+/// What the system says of a file.
+fn status_of(found: &Metadata) -> Status {
+    Status {
+        identity: Identity {
+            device: found.dev(),
+            inode: found.ino(),
+        },
+        is_file: found.is_file(),
+        links: found.nlink(),
+        len: found.len(),
     }
 }
 
@@ -111,5 +179,57 @@ impl<'a> FileSystem for HostNames<'a> {
             }
         }
         Ok(count)
+    }
+}
+
+impl<'a> ServedFiles for HostNames<'a> {
+    type Served = OpenFile;
+
+    ghost numbered = { λ _. 0 };
+
+    ghost locked = { λ _. ⊥ };
+
+    fn meanwhile(&mut self) {}
+
+    fn follow(&mut self, name: &str) -> Result<Status, Error> {
+        let found = fs::metadata(&self.files, name)?;
+        Ok(status_of(&found))
+    }
+
+    fn identify(&mut self, file: &OpenFile) -> Result<Status, Error> {
+        let found = file.file.metadata()?;
+        Ok(status_of(&found))
+    }
+
+    fn open_served(&mut self, name: &str) -> Result<OpenFile, Error> {
+        let file = File::options()
+            .read(true)
+            .write(true)
+            .open(&self.files, name)?;
+        Ok(OpenFile { file })
+    }
+
+    fn open_read(&mut self, name: &str) -> Result<OpenFile, Error> {
+        let file = File::open(&self.files, name)?;
+        Ok(OpenFile { file })
+    }
+
+    fn create_served(&mut self, name: &str) -> Result<OpenFile, Error> {
+        let mut how = File::options();
+        let how = how.read(true).write(true).create_new(true).mode(0o600);
+        let file = how.open(&self.files, name)?;
+        Ok(OpenFile { file })
+    }
+
+    fn lock(&mut self, file: &OpenFile) -> Result<bool, Error> {
+        match file.file.try_lock() {
+            Ok(()) => Ok(true),
+            Err(TryLockError::WouldBlock) => Ok(false),
+            Err(TryLockError::Error(error)) => Err(error),
+        }
+    }
+
+    fn share(&self) -> HostNames<'a> {
+        HostNames::new(self.rt)
     }
 }

@@ -5,23 +5,23 @@
 //! Modules:
 //!
 //! - `descriptors`: `HighFiles`, files that take none of the descriptors of the standard streams.
-//! - `wholes`: the whole entries among them.
-//! - `host_names`: `HostNames`, the names of the system's files, for what copies files.
-//! - `names`: `Name`, what the name of an open file leads to.
-//! - `files`: the files of the system, by their paths.
+//! - `host_names`: `HostNames`, the names of the system's files, and the files that are opened by them.
+//! - `wholes`: the whole entries among bytes that are cut off.
+//! - `notes`: what is noted of the file that is served: why a call failed, and what was copied.
+//! - `surroundings`: lines on standard error, and the clock.
 //! - `running`: what the words ask for, done over these.
 #![tactic(auto)]
 
 mod descriptors;
-mod files;
 mod host_names;
-mod names;
+mod notes;
 mod running;
+mod surroundings;
 mod wholes;
 
-use files::lines;
 use running::run_words;
 use std::process::ExitCode;
+use surroundings::lines;
 use tb_edge_commands::words;
 use tb_edge_file::{refuse, words_fault};
 use tb_records::Counting;

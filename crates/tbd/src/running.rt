@@ -1,24 +1,30 @@
 //! What the words ask for, done over the files of the system and the standard streams.
-use crate::files::SystemFiles;
+use crate::host_names::HostNames;
+use crate::surroundings::HostSurroundings;
 use std::cell::Cell;
 use std::io::{BufWriter, IsTerminal, Stderr};
 use tb_edge_file::{Command, Pipes, Steady, Terminals, read_command, refuse_words, serve};
+use tb_edge_names::{Copies, Copying, Dropping, NamedFiles};
 use tb_records::Counting;
 
 /// Does what a command asks for, and returns the exit status.
-fn run(rt: &HostRuntime, command: &Command, faults: &mut Counting<BufWriter<Stderr>>) -> u8 {
+fn run<C: Copies>(
+    rt: &HostRuntime,
+    command: &Command,
+    faults: &mut Counting<BufWriter<Stderr>>,
+) -> u8 {
     let ends = Terminals {
         input: rt.stdin().is_terminal(),
         faults: rt.stderr().is_terminal(),
     };
-    let options = command.form.options();
+    let reports = command.form.options().reports || ends.faults;
     let reason = Cell::new(None);
-    let mut files = SystemFiles {
+    let around = HostSurroundings {
         rt,
-        reports: options.reports || ends.faults,
-        drops: options.drops,
         reason: &reason,
     };
+    let files = HostNames::new(rt);
+    let mut files = NamedFiles::<HostNames, HostSurroundings, C>::new(rt.alloc(), files, around, reports);
     let pipes = Pipes {
         reader: rt.stdin(),
         writer: Steady::new(rt.stdout()),
@@ -33,7 +39,13 @@ pub(crate) fn run_words(
     faults: &mut Counting<BufWriter<Stderr>>,
 ) -> u8 {
     match read_command(words) {
-        Ok(command) => run(rt, &command, faults),
+        Ok(command) => {
+            if command.form.options().drops {
+                run::<Dropping>(rt, &command, faults)
+            } else {
+                run::<Copying>(rt, &command, faults)
+            }
+        }
         Err(wrong) => refuse_words(words, wrong, faults),
     }
 }

@@ -1,9 +1,10 @@
 //! The whole entries among bytes that a start cuts off.
 
-use crate::descriptors::HighFiles;
+use crate::host_names::HostNames;
 use std::alloc::{AllocError, Global};
 use std::format;
-use tb_file_journal::{Real, Scan, checksum_of};
+use tb_edge_names::open_to_read;
+use tb_file_journal::{Scan, checksum_of};
 
 /// The latch at the end of a journal's records.
 const CLOSED: &[u8] = &[90, 195, 150, 105];
@@ -45,11 +46,11 @@ fn number(record: &[u8]) -> Option<u64> {
 /// The number of the next entry in the history of the file of this path, whose records end before this offset. None if they
 /// are not read.
 fn next_number(rt: &HostRuntime, path: &str, at: usize) -> Option<u64> {
-    let mut real = Real::look(&HighFiles::new(rt), path).ok()?;
-    let mut scan = Scan::start(rt.alloc(), &mut real).ok()?;
+    let mut file = open_to_read(&mut HostNames::new(rt), path).ok()?;
+    let mut scan = Scan::start(rt.alloc(), &mut file).ok()?;
     let mut last = 0_u64;
     for _ in 0..at {
-        match scan.next(&mut real) {
+        match scan.next(&mut file) {
             // A ledger's head has fewer bytes than a number.
             Ok(true) => last = number(scan.record()).unwrap_or(0),
             _ => break,

@@ -1,0 +1,4 @@
+pub mod Named
+pub mod Opening
+pub mod Saved
+pub mod Served

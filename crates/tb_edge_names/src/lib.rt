@@ -1,0 +1,20 @@
+//! The names of the files that `tbd` serves, reads and copies to: what opens them, what a name leads to, and the copies next to them. Over the
+//! system's calls, each with an assumed contract.
+//!
+//! Modules, each over those before it:
+//!
+//! - `served`: `ServedFiles`, the system's calls on files that are served, and what they are trusted to do.
+//! - `opening`: what opens a file, to serve it, to make it, or to read it.
+//! - `names`: `Name`, what the name of an open file leads to, and the copies next to it.
+//! - `named_files`: `NamedFiles`, what opens the files of a file system by their names.
+#![tactic(auto)]
+
+mod named_files;
+mod names;
+mod opening;
+mod served;
+
+pub use named_files::{NamedFiles, Surroundings};
+pub use names::{Copies, Copying, Dropping, Name, Notes};
+pub use opening::{Opened, create_new, open_existing, open_or_create, open_to_read};
+pub use served::{Identity, ServedFiles, Status};
