@@ -1,6 +1,9 @@
 -- The steps of a reader, and their answers.
 use Rattle.std.specs.Prelude.{ℕ, Bool, true, false, ◌≡◌, ◌⊎◌, List, [], ◌++◌, length, Option, Result, Ok, Err}
 use Rattle.std.specs.List.{All, flat_map}
+use Rattle.std.specs.Io.Buffered.{reader_buffer, reader_capacity, reader_inner, reader_remaining}
+use Rattle.std.specs.declared.alloc.Global.{Global}
+use Rattle.std.specs.declared.io.buffered.BufReader.{BufReader}
 use Rattle.std.specs.Io.KnownBytes.{Consumes, Appends, IsAtEnd}
 use Rattle.tb_records.specs.declared.faults.FrameFault.TheVariants as frame
 use Rattle.tb_oracle.specs.declared.faults.OracleFault.{OracleFault}
@@ -65,3 +68,17 @@ AnswersSteps (Ok done) before after output_before output = (xs : List Exchange) 
 AnswersSteps (Err f) before after output_before output =
     oracle_exit_status f ≡ 2
     → (xs : List Exchange) × (left : Option (List ℕ)) × HasExchanged xs before left output_before output × StopsStream f left
+
+-- the steps of an input were answered, read through a buffer that was empty at first
+pub record AnswersInput {R : Type 0} (remaining : R → Option (List ℕ)) (result : Result (Unit {0}) OracleFault) (input : R) (output_before output : Option (List ℕ)) : Type 0 where
+  pub reader : BufReader R Global
+  pub of_input : reader_inner reader ≡ input
+  pub read_ahead : reader_buffer reader ≡ []
+  pub holds : reader_capacity reader ≡ 65536
+  pub after : Option (List ℕ)
+  pub answers : AnswersSteps result (reader_remaining remaining reader) after output_before output
+
+-- there was no memory for the buffer, and nothing is written
+abbrev pub WantsMemory : Result (Unit {0}) OracleFault → Option (List ℕ) → Option (List ℕ) → Type 0
+WantsMemory (Ok done) output_before output = ⊥
+WantsMemory (Err f) output_before output = (f ≡ Frame frame.NoMemory) × (output ≡ output_before)

@@ -1,14 +1,17 @@
 //! The steps of a reader, answered one after another.
-ghost use Rattle.std.specs.Prelude.{◌≡◌, IfErr, IfOk, MatchOption, length};
+ghost use Rattle.std.specs.Prelude.{◌≡◌, ◌⊎◌, IfErr, IfOk, MatchOption, length};
 ghost use Rattle.tb_oracle.specs.Steps.{rest_length};
-ghost use Rattle.tb_oracle.specs.Streams.{IsOfReading, ReadsStepHead, ReadsNone, ReadsRest, ReadsStep, AnswersSteps};
+ghost use Rattle.tb_oracle.specs.Streams.{AnswersInput, AnswersSteps, IsOfReading, ReadsNone, ReadsRest, ReadsStep, ReadsStepHead, WantsMemory};
 
 use crate::faults::{OracleFault, fault_of};
 use crate::steps::answer;
 use byteorder::{ByteOrder, LittleEndian};
 use std::alloc::Global;
-use std::io::{Read, Write};
+use std::io::{BufReader, Read, Write};
 use tb_records::FrameFault;
+
+/// The bytes of input that are buffered.
+const BUFFER_BYTES: usize = 65536;
 
 /// The most bytes after a head; two of the longest frames are shorter.
 const LENGTH_MAX: u64 = 1 << 22;
@@ -95,4 +98,18 @@ pub fn answer_all<R: Read, W: Write>(
         }
     }
     Err(OracleFault::Frame(FrameFault::TooMany))
+}
+
+/// Answers the steps of an input, behind a buffer, until it ends.
+pub fn answer_input<R: Read + Drop, W: Write>(
+    alloc: Global,
+    input: R,
+    output: &mut W,
+) -> Result<(), OracleFault>
+    ensures { AnswersInput R.remaining result input (W.contents output.old) (W.contents output.new) ⊎ WantsMemory result (W.contents output.old) (W.contents output.new) }
+{
+    match BufReader::with_capacity(alloc, BUFFER_BYTES, input) {
+        Ok(mut reader) => answer_all(alloc, &mut reader, output),
+        Err(_) => Err(OracleFault::Frame(FrameFault::NoMemory)),
+    }
 }

@@ -12,24 +12,11 @@ mod answering;
 mod faults;
 mod steps;
 
-use answering::answer_all;
-use faults::{OracleFault, fault_of};
-use std::io::BufReader;
+use answering::answer_input;
 use std::process::ExitCode;
 
-/// The bytes of input that are buffered.
-const BUFFER_BYTES: usize = 65536;
-
-/// Answers the steps of standard input.
-fn answer_input(rt: &HostRuntime) -> Result<(), OracleFault> {
-    match BufReader::with_capacity(rt.alloc(), BUFFER_BYTES, rt.stdin()) {
-        Ok(mut input) => answer_all(rt.alloc(), &mut input, &mut rt.stdout()),
-        Err(error) => Err(fault_of(&error)),
-    }
-}
-
 fn main(rt: HostRuntime) -> ExitCode {
-    match answer_input(&rt) {
+    match answer_input(rt.alloc(), rt.stdin(), &mut rt.stdout()) {
         Ok(()) => ExitCode::from(0),
         Err(fault) => {
             let _ = eprintln!(&rt; "tb_oracle: {fault}");
