@@ -353,7 +353,22 @@ func (c *Child) momentsOf() (*moments.Moments, error) {
 		return nil, report.End(1, "the ledger's last time is %.3f s ahead of this computer's clock: "+
 			"set the clock right, or allow it by --ahead SECONDS", is.Seconds())
 	}
+	c.reportGap(last, time.Now())
 	return moments.New(last, c.log), nil
+}
+
+// gapSaid is how long after a ledger's last time a start is reported: a clock that is wrong by so much
+// would take the ledger's time along with the first request.
+const gapSaid = 24 * time.Hour
+
+// reportGap prints how far the clock is ahead of the ledger's last time, if that is far. A clock that is
+// right shows the same after a long pause, so the start goes on.
+func (c *Child) reportGap(last int64, now time.Time) {
+	if gap := now.Sub(time.Unix(0, last)); last > 0 && gap >= gapSaid {
+		c.log.Say(report.Warning, "the clock is %.1f days ahead of the ledger's last time, %s: if it is wrong, "+
+			"end %s before a request comes, which would move the ledger's time there", gap.Hours()/24,
+			time.Unix(0, last).UTC().Format("2006-01-02T15:04:05Z"), c.log.Program())
+	}
 }
 
 var lastTimeLine = regexp.MustCompile(`(?m)^last time ([0-9]{1,20})$`)

@@ -251,6 +251,25 @@ func TestTheLastTime(t *testing.T) {
 	}
 }
 
+func TestALongPauseIsReported(t *testing.T) {
+	now := time.Date(2026, 12, 1, 8, 0, 0, 0, time.UTC)
+	for gap, want := range map[time.Duration]string{
+		24*time.Hour - time.Second: "",
+		36 * time.Hour: "the clock is 1.5 days ahead of the ledger's last time, 2026-11-29T20:00:00Z: if it is " +
+			"wrong, end tb_listen before a request comes, which would move the ledger's time there",
+		-time.Hour: "",
+	} {
+		said := make(lines, 1)
+		c := NewChild([]string{"tbd"}, time.Second, 0, said.log())
+		c.reportGap(now.Add(-gap).UnixNano(), now)
+		if want != "" {
+			said.want(t, want)
+		} else if len(said) > 0 {
+			t.Errorf("%v: %q", gap, <-said)
+		}
+	}
+}
+
 // TestCommits counts those of a process that writes as tbd does: each is a latch more than the file grows.
 func TestCommits(t *testing.T) {
 	python := `import os, sys

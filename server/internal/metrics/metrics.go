@@ -141,7 +141,7 @@ func Page(numbers *status.Numbers) string {
 		p.one("tb_commits_total", "counter", "Batches written to the file", float64(commits))
 		p.one("tb_syncs_total", "counter", "Syncs of these", float64(counts.Syncs*commits))
 	}
-	p.one("tb_clock_lag_seconds", "gauge", "Seconds that moments lie behind the clock", numbers.Of.Lag().Seconds())
+	p.one("tb_clock_lag_seconds", "gauge", "Seconds that moments lie behind the clock; below 0 if it was set back", numbers.Of.Lag().Seconds())
 	return p.String()
 }
 

@@ -11,13 +11,15 @@ import (
 )
 
 const (
-	lagSaid  = 60   // seconds by which the clock may run away before that is printed
+	lagSaid  = 60   // seconds by which the clock may be off before that is printed
 	bootTime = 7    // of Linux: a clock that counts while the computer sleeps
 	parts    = 1000 // of the time that goes by: one of them may be added
 	second   = int64(time.Second)
 
 	startAgain = "the clock is %d s ahead of where it should be, and requests get moments " +
 		"without that: if it is right now, start %s again"
+	setBack = "the clock is %d s behind where it should be, and the ledger's time stands still until the " +
+		"clock is there: holds expire late; set the clock right"
 )
 
 // Clock is nanoseconds since a time that does not change.
@@ -43,7 +45,27 @@ type Moments struct {
 
 	mu       sync.Mutex
 	last, at int64
-	isSaid   bool
+	said     side
+}
+
+// side is where the clock is that was printed last.
+type side int
+
+const (
+	near side = iota
+	ahead
+	behind
+)
+
+// sideOf is where a clock is that is off by so many nanoseconds.
+func sideOf(off int64) side {
+	switch {
+	case off >= lagSaid*second:
+		return ahead
+	case off <= -lagSaid*second:
+		return behind
+	}
+	return near
 }
 
 // New begins with the clock, or with last.
@@ -60,13 +82,15 @@ func NewBy(last int64, log *report.Log, wall, running Clock) *Moments {
 	return &Moments{wall: wall, running: running, log: log, last: last, at: running()}
 }
 
-// Lag is how long the last moment is behind the clock, if that was ahead.
+// Lag is how long moments are behind the clock, if that is ahead of where it should be. It is below 0 if
+// the clock was set back by a second or more, or begins behind the ledger's last time: then the ledger's
+// time stands still.
 func (m *Moments) Lag() time.Duration {
 	wall, running := m.wall(), m.running()
 	m.mu.Lock()
 	defer m.mu.Unlock()
 	lag := wall - m.last - (running - m.at)
-	if lag < 0 {
+	if lag < 0 && lag > -second {
 		return 0
 	}
 	return time.Duration(lag)
@@ -76,23 +100,35 @@ func (m *Moments) Lag() time.Duration {
 func (m *Moments) Next() uint64 {
 	wall, running := m.wall(), m.running()
 	m.mu.Lock()
+	gone := running - m.at
+	if gone < 0 {
+		gone = 0
+	}
+	off := wall - m.last - gone
 	if wall > m.last {
-		gone := running - m.at
-		if gone < 0 {
-			gone = 0
-		}
 		most := m.last + gone + gone/parts
 		if wall < most {
 			most = wall
 		}
 		m.last, m.at = most, running
+		off = wall - m.last
 	}
-	next, lag := m.last, wall-m.last
-	isNew := lag >= lagSaid*second && !m.isSaid
-	m.isSaid = lag >= lagSaid*second
+	next, is := m.last, sideOf(off)
+	isNew := is != m.said
+	m.said = is
 	m.mu.Unlock()
 	if isNew {
-		m.log.Say(report.Warning, startAgain, lag/second, m.log.Program())
+		m.report(is, off/second)
 	}
 	return uint64(next)
+}
+
+// report prints that the clock is off by so many seconds, if it is.
+func (m *Moments) report(is side, seconds int64) {
+	switch is {
+	case ahead:
+		m.log.Say(report.Warning, startAgain, seconds, m.log.Program())
+	case behind:
+		m.log.Say(report.Warning, setBack, -seconds)
+	}
 }

@@ -44,6 +44,10 @@ func TestMoments(t *testing.T) {
 		{"and then far ahead", 0, []times{{100, 5}, {50, 6}, {5000, 7}}, []float64{100, 102.002}, 1},
 		{"and stays back", 0, []times{{100, 5}, {50, 6}, {51, 7}, {52, 8}}, []float64{100, 100, 100}, 0},
 		{"far ahead, said once", 0, []times{{100, 5}, {9000, 15}, {9001, 16}}, []float64{110.01, 111.011}, 1},
+		{"set far back, said once", 0, []times{{9000, 5}, {5400, 6}, {5401, 7}, {5402, 8}},
+			[]float64{9000, 9000, 9000}, 1},
+		{"and there again", 0, []times{{9000, 5}, {5400, 6}, {9001, 3607}, {5402, 3608}},
+			[]float64{9000, 9001, 9001}, 2},
 		{"and back again, said twice", 0, []times{{100, 5}, {9000, 6}, {102, 7}, {9000, 8}},
 			[]float64{101.001, 102, 103.001}, 2},
 		{"a running clock that goes back", 0, []times{{100, 5}, {101, 4}, {102, 3}}, []float64{100, 100}, 0},
@@ -61,6 +65,15 @@ func TestLineOfAClockThatIsAhead(t *testing.T) {
 	_, lines := given(0, times{100, 5}, times{9000, 15})
 	want := "tb_listen: the clock is 8889 s ahead of where it should be, and requests get moments without " +
 		"that: if it is right now, start tb_listen again\n"
+	if strings.Join(lines, "") != want {
+		t.Errorf("%q", lines)
+	}
+}
+
+func TestLineOfAClockThatIsSetBack(t *testing.T) {
+	_, lines := given(0, times{9000, 5}, times{5401, 6})
+	want := "tb_listen: the clock is 3600 s behind where it should be, and the ledger's time stands still until " +
+		"the clock is there: holds expire late; set the clock right\n"
 	if strings.Join(lines, "") != want {
 		t.Errorf("%q", lines)
 	}
@@ -86,11 +99,13 @@ func TestAThousandMomentsNeverFall(t *testing.T) {
 }
 
 func TestLag(t *testing.T) {
-	clocks := []times{{100, 5}, {9000, 15}}
+	clocks := []times{{100, 5}, {9000, 15}, {51, 6}, {100.5, 6}}
 	at := 0
 	it := NewBy(0, nil, func() int64 { return int64(clocks[at].wall * 1e9) },
 		func() int64 { return int64(clocks[at].running * 1e9) })
-	if at = 1; it.Lag() != 8890*time.Second {
-		t.Error(it.Lag())
+	for i, want := range []time.Duration{0, 8890 * time.Second, -50 * time.Second, 0} {
+		if at = i; it.Lag() != want {
+			t.Error(i, it.Lag())
+		}
 	}
 }
