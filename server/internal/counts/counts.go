@@ -3,7 +3,9 @@ package counts
 
 import (
 	"os"
+	"path/filepath"
 	"sort"
+	"strings"
 	"sync"
 	"sync/atomic"
 	"time"
@@ -141,4 +143,27 @@ func SizeOf(file string) (int64, bool) {
 		return 0, false
 	}
 	return found.Size(), true
+}
+
+// CutCopies is how many copies of torn bytes that a start has cut off are next to a file, if that is
+// known.
+func CutCopies(file string) (int64, bool) {
+	if file == "" {
+		return 0, false
+	}
+	folder, name := filepath.Split(file)
+	if folder == "" {
+		folder = "."
+	}
+	entries, err := os.ReadDir(folder)
+	if err != nil {
+		return 0, false
+	}
+	count := int64(0)
+	for _, it := range entries {
+		if strings.HasPrefix(it.Name(), name+".cut-") {
+			count++
+		}
+	}
+	return count, true
 }

@@ -93,3 +93,25 @@ func TestSizeOf(t *testing.T) {
 		t.Error(size, ok)
 	}
 }
+
+func TestCutCopies(t *testing.T) {
+	folder := t.TempDir()
+	for _, name := range []string{"it", "it.cut-8-0a", "it.cut-9-0b", "it.cut", "another.cut-8-0a"} {
+		os.WriteFile(filepath.Join(folder, name), nil, 0o600)
+	}
+	if count, ok := CutCopies(filepath.Join(folder, "it")); count != 2 || !ok {
+		t.Error(count, ok)
+	}
+	if _, ok := CutCopies(filepath.Join(folder, "none", "it")); ok {
+		t.Error("there is no folder")
+	}
+	if _, ok := CutCopies(""); ok {
+		t.Error("there is no file")
+	}
+	before, _ := os.Getwd()
+	defer os.Chdir(before)
+	os.Chdir(folder)
+	if count, ok := CutCopies("it"); count != 2 || !ok {
+		t.Error(count, ok)
+	}
+}

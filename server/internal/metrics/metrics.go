@@ -137,6 +137,9 @@ func Page(numbers *status.Numbers) string {
 	if size, ok := counts.SizeOf(numbers.File); ok {
 		p.one("tb_ledger_bytes", "gauge", "Size of the ledger's file", float64(size))
 	}
+	if count, ok := counts.CutCopies(numbers.File); ok {
+		p.one("tb_cut_copies", "gauge", "Copies of torn bytes next to the ledger's file, of 16 at most", float64(count))
+	}
 	if commits, ok := numbers.Of.Commits(); ok {
 		p.one("tb_commits_total", "counter", "Batches written to the file", float64(commits))
 		p.one("tb_syncs_total", "counter", "Syncs of these", float64(counts.Syncs*commits))
