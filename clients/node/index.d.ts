@@ -28,6 +28,12 @@ export {
   TransferFlags,
 } from "./names";
 
+declare global {
+  interface SymbolConstructor {
+    readonly asyncDispose: unique symbol;
+  }
+}
+
 // Values
 
 /** An account as the ledger has it, with all its fields. */
@@ -330,10 +336,69 @@ export interface Client {
   close(): Promise<void>;
   /** Begins to close the client, as TigerBeetle's does. */
   destroy(): void;
+  /** `close`, at the end of the block of an `await using`. Node has it from 18.18 on. */
+  [Symbol.asyncDispose](): Promise<void>;
 }
 
 /** A client of the server at these addresses. It connects nothing yet. */
 export declare function createClient(options: ClientOptions): Client;
+
+// A ledger by its file, or by its addresses: the same client
+
+/** The options of `open`. `signal` and `within` end the opening. */
+export interface OpenOptions extends CallOptions {
+  /** The path of tbd: otherwise the variable TBD, on PATH, next to this package or to Node. */
+  program?: string;
+  /** Whether a file that is not there is a fault: otherwise it is made. */
+  existing?: boolean;
+  /** How many clients the file has places for, as it is made, and was: 64. */
+  clientsMax?: number;
+  /** The profile with which the file is made, and was: 1. */
+  profile?: 1 | 2;
+  /**
+   * Milliseconds that a locked file is waited for: 5000. The child of a program that was killed
+   * ends a moment after it.
+   */
+  lockTimeout?: number;
+  /**
+   * Milliseconds that the ledger's last time may be ahead of this computer's clock: 60000. null is
+   * no check.
+   */
+  aheadMax?: number | null;
+  /** Gets the lines on what a start did to the file: otherwise they go to standard error. */
+  report?: (line: string) => void;
+  /**
+   * Gets the MB that were read of a large file, and its MB: otherwise a terminal shows them in a
+   * line.
+   */
+  progress?: (done: number, size: number) => void;
+  /** Whether a start cuts off torn bytes without a copy. A file has 16 copies at most. */
+  dropTorn?: boolean;
+}
+
+/** The options of `connect`: those of `createClient` without the addresses. */
+export type ConnectOptions = Omit<ClientOptions, "cluster_id" | "replica_addresses">;
+
+/**
+ * Opens the ledger in a file, which is made if it is not there, and resolves to its client once
+ * the file was read.
+ *
+ * tbd serves the file as a child of this process. If it is killed, it is started again, and calls
+ * go on: a call that waits gets its first reply. It ends with this process. One process has a file
+ * open: Locked names another. A fault of tbd is ProgramEnded, here or of a call, and the next call
+ * starts tbd again.
+ */
+export declare function open(file: string, options?: OpenOptions): Promise<Client>;
+
+/**
+ * The client of a ledger that listens: on a port ("3001"), on a Unix socket, whose path has a
+ * slash ("./ledger.sock"), or on several machines ("10.0.0.1:3001,10.0.0.2:3001"). It connects
+ * when it is first asked.
+ */
+export declare function connect(
+  addresses: ClientOptions["replica_addresses"],
+  options?: ConnectOptions,
+): Client;
 
 // Errors
 
@@ -372,6 +437,10 @@ export declare class CannotConnect extends NotSent {
   /** One side does not trust the other, at each address. */
   readonly isFinal: boolean;
 }
+/** The program tbd is not found, or does not start. */
+export declare class CannotStart extends NotSent {}
+/** The last time of a ledger is too far ahead of this computer's clock. */
+export declare class ClockJumped extends NotSent {}
 /** The system refused a file: `code` is its error, as ENOENT. */
 export declare class FileError extends NotSent {
   readonly path: string;
@@ -390,6 +459,20 @@ export declare class ReplyLost extends ClientError {
  * request: come later.
  */
 export declare class Busy extends ReplyLost {}
+/** The program tbd ended by a fault. */
+export declare class ProgramEnded extends ClientError {
+  /** Its line, without `tbd: `. */
+  readonly fault: string;
+  /** The name that the line begins with: "Full". */
+  readonly told: string;
+  /** The exit status. */
+  readonly status: number;
+}
+/** The file is open in another process. */
+export declare class Locked extends ProgramEnded {
+  /** The process, or undefined if the system does not say. */
+  readonly owner: number | undefined;
+}
 /** What came is no reply to the request that was sent. */
 export declare class BadReply extends ClientError {}
 

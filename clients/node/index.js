@@ -18,7 +18,9 @@ const {
   Busy,
   Cancelled,
   CannotConnect,
+  CannotStart,
   ClientError,
+  ClockJumped,
   Closed,
   NotSupported,
   Collision,
@@ -29,6 +31,7 @@ const {
   Invalid,
   InvalidType,
   InvalidValue,
+  Locked,
   NewerRequest,
   NewerSession,
   NoSession,
@@ -36,6 +39,7 @@ const {
   NotYet,
   NothingInDoubt,
   Older,
+  ProgramEnded,
   Refused,
   ReplyLost,
   SessionTooLow,
@@ -43,6 +47,7 @@ const {
 const { createClient } = require("./lib/client.js");
 const { decodeSaved } = require("./lib/files.js");
 const { id } = require("./lib/ids.js");
+const { connect, open } = require("./lib/opening.js");
 const { account, flagNames, transfer } = require("./lib/records.js");
 const { Session, encodeSaved, requireOk } = require("./lib/session.js");
 const { Socket } = require("./lib/socket.js");
@@ -54,7 +59,9 @@ module.exports = {
   Busy,
   Cancelled,
   CannotConnect,
+  CannotStart,
   ClientError,
+  ClockJumped,
   Closed,
   NotSupported,
   Collision,
@@ -68,6 +75,7 @@ module.exports = {
   Invalid,
   InvalidType,
   InvalidValue,
+  Locked,
   NUMBER_MAX,
   NewerRequest,
   NewerSession,
@@ -77,6 +85,7 @@ module.exports = {
   NothingInDoubt,
   Older,
   Operation,
+  ProgramEnded,
   Refused,
   ReplyLost,
   Session,
@@ -85,11 +94,13 @@ module.exports = {
   Status,
   TransferFlags,
   account,
+  connect,
   createClient,
   decodeSaved,
   encodeSaved,
   flagNames,
   id,
+  open,
   requireOk,
   transfer,
 };

@@ -4,13 +4,18 @@ import {
   CreateTransferResult,
   Evicted,
   EventsFailed,
+  Locked,
   Operation,
+  ProgramEnded,
   Session,
   Socket,
   TransferFlags,
+  connect,
   flagNames,
   id,
+  open,
   requireOk,
+  type Client,
   type Transfer,
   type TransferRecord,
   type TransferResult,
@@ -69,6 +74,20 @@ export async function resumed(file: string): Promise<TransferRecord[]> {
   return found;
 }
 
+export async function inAFile(file: string): Promise<Client> {
+  try {
+    const lines: string[] = [];
+    const progress = (done: number, size: number) => console.log(done / size);
+    const report = (line: string) => void lines.push(line);
+    const ledger: Client = await open(file, { existing: true, aheadMax: null, report, progress });
+    await ledger[Symbol.asyncDispose]();
+  } catch (why) {
+    if (why instanceof Locked) console.log(why.owner?.toFixed() ?? "no owner");
+    else if (why instanceof ProgramEnded) console.log(why.fault, why.told, why.status);
+  }
+  return connect("10.0.0.1:3001,10.0.0.2:3001", { sessions: 4, timeout: 1000 });
+}
+
 declare const console: { log(...words: unknown[]): void };
 declare const session: Session;
 
@@ -88,3 +107,9 @@ session.prepare(Operation.lookup_accounts, [{ id: 1n }]);
 session.prepare("create", []);
 // @ts-expect-error no such result
 void session.createTransfers([]).then((results) => results[0]?.result === "exist");
+// @ts-expect-error an option that open does not have
+void open("books.tbk", { exsisting: true });
+// @ts-expect-error a wide profile
+void open("books.tbk", { profile: 3 });
+// @ts-expect-error a promise of a client is none
+open("books.tbk").createAccounts([]);

@@ -34,18 +34,8 @@ function idsOf(range) {
 class Client {
   #pool;
 
-  constructor(options) {
-    const given = optionsOf("options", options);
-    const { cluster_id, replica_addresses, sessions = 1, client_range, ...socket } = given;
-    wide("cluster_id", cluster_id, U128);
-    const addresses = addressesOf(replica_addresses);
-    const connect = () => new Socket(addresses, socket);
-    connect().close(); // which refuses what it cannot take
-    this.#pool = new Pool(
-      connect,
-      narrow("sessions", sessions, CLIENTS_MAX, 1),
-      idsOf(client_range),
-    );
+  constructor(pool) {
+    this.#pool = pool;
   }
 
   /** Creates accounts. Returns the results of those that were not created, by index. */
@@ -108,9 +98,27 @@ class Client {
   }
 }
 
+// Node 18.0 has no such symbol
+if (Symbol.asyncDispose !== undefined) {
+  Object.defineProperty(Client.prototype, Symbol.asyncDispose, {
+    value() {
+      return this.close();
+    },
+    configurable: true,
+    writable: true,
+  });
+}
+
 /** A client of the server at these addresses. It connects nothing yet. */
 function createClient(options) {
-  return new Client(options);
+  const given = optionsOf("options", options);
+  const { cluster_id, replica_addresses, sessions = 1, client_range, ...socket } = given;
+  wide("cluster_id", cluster_id, U128);
+  const addresses = addressesOf(replica_addresses);
+  const connect = () => new Socket(addresses, socket);
+  connect().close(); // which refuses what it cannot take
+  const most = narrow("sessions", sessions, CLIENTS_MAX, 1);
+  return new Client(new Pool(connect, most, idsOf(client_range)));
 }
 
 module.exports = { Client, createClient };

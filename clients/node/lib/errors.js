@@ -72,6 +72,12 @@ class CannotConnect extends NotSent {
   }
 }
 
+/** The program tbd is not found, or does not start. */
+class CannotStart extends NotSent {}
+
+/** The last time of a ledger is too far ahead of this computer's clock. */
+class ClockJumped extends NotSent {}
+
 /** The system refused a file: `code` is its error, as ENOENT. */
 class FileError extends NotSent {
   constructor(path, cause) {
@@ -115,6 +121,34 @@ class ReplyLost extends ClientError {
  * request: come later.
  */
 class Busy extends ReplyLost {}
+
+/**
+ * The program tbd ended by a fault: `fault` is its line, `told` the name that the line begins with,
+ * `status` the exit status.
+ */
+class ProgramEnded extends ClientError {
+  #sent;
+
+  constructor(fault, status, sent, more = "") {
+    super(`${fault || "the program ended"} (status ${status})${more}`);
+    this.fault = fault;
+    this.told = fault.split(":")[0];
+    this.status = status;
+    this.#sent = sent;
+  }
+
+  get sent() {
+    return this.#sent;
+  }
+}
+
+/** The file is open in the process `owner`, or undefined if the system does not say in which. */
+class Locked extends ProgramEnded {
+  constructor(fault, status, sent, owner) {
+    super(fault, status, sent, owner === undefined ? "" : `: ${owner.text}`);
+    this.owner = owner?.process;
+  }
+}
 
 /** What came is no reply to the request that was sent. */
 class BadReply extends ClientError {}
@@ -184,7 +218,9 @@ module.exports = {
   Busy,
   Cancelled,
   CannotConnect,
+  CannotStart,
   ClientError,
+  ClockJumped,
   Closed,
   NotSupported,
   Collision,
@@ -195,6 +231,7 @@ module.exports = {
   Invalid,
   InvalidType,
   InvalidValue,
+  Locked,
   NewerRequest,
   NewerSession,
   NoSession,
@@ -202,6 +239,7 @@ module.exports = {
   NotYet,
   NothingInDoubt,
   Older,
+  ProgramEnded,
   REFUSALS,
   Refused,
   ReplyLost,

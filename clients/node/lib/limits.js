@@ -7,6 +7,12 @@ const { setMaxListeners } = require("node:events");
 const { Cancelled, InvalidType } = require("./errors.js");
 const { kindOf, milliseconds, optionsOf } = require("./values.js");
 
+/**
+ * The name of a transport's call that ends its connecting, now and later. An exchange in flight
+ * goes on.
+ */
+const endConnecting = Symbol("endConnecting");
+
 function signalOf(value) {
   if (value === undefined) return undefined;
   if (typeof value?.aborted !== "boolean" || typeof value.addEventListener !== "function") {
@@ -102,4 +108,4 @@ class Turns {
   }
 }
 
-module.exports = { Turns, limited, onAbort, paused, testLimit };
+module.exports = { Turns, endConnecting, limited, onAbort, paused, testLimit };

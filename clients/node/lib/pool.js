@@ -10,9 +10,8 @@ const { Busy, Cancelled, CannotConnect, Closed } = errors;
 const { Evicted, NotSent, NotYet, ReplyLost } = errors;
 const { framed, isCreate } = require("./frames.js");
 const { isLinked, jointFrame, settled, split } = require("./joint.js");
-const { onAbort, testLimit } = require("./limits.js");
+const { endConnecting, onAbort, testLimit } = require("./limits.js");
 const { PAUSE, Session, askFrame, pauses } = require("./session.js");
-const { connectNoMore } = require("./socket.js");
 
 const FORBIDDEN = ["NotAllowed", "ClientNotAllowed"]; // told those who may not come
 const NOT_SENT = "the client was closed, and nothing of this call was sent";
@@ -84,11 +83,18 @@ class Pool {
   #wake() {
     const idle = this.#workers.find((it) => !it.isBusy);
     if (idle !== undefined) idle.begin();
-    else if (this.#workers.length < this.#sessions) {
-      const made = new Worker(this, this.#connect(), this.#newId);
-      this.#workers.push(made);
-      made.begin();
-    }
+    else if (this.#workers.length < this.#sessions) this.#grow().begin();
+  }
+
+  #grow() {
+    const made = new Worker(this, this.#connect(), this.#newId);
+    this.#workers.push(made);
+    return made;
+  }
+
+  /** Makes the first transport now, and not with the first call. */
+  begin() {
+    this.#grow();
   }
 
   #leave(call, reason) {
@@ -153,7 +159,7 @@ class Pool {
       this.isClosed = true;
       this.#drop();
       for (const it of this.#ends) it();
-      for (const it of this.#workers) connectNoMore(it.transport);
+      for (const it of this.#workers) it.transport[endConnecting]?.();
     }
     await Promise.all(this.#workers.map((it) => it.end()));
   }
@@ -181,7 +187,7 @@ class Worker {
 
   async end() {
     await this.#running;
-    this.transport.close();
+    await this.transport.close();
   }
 
   async #run() {

@@ -5,7 +5,6 @@ const net = require("node:net");
 const tls = require("node:tls");
 const { performance } = require("node:perf_hooks");
 
-const { HEADER_SIZE } = require("../names.js");
 const {
   Busy,
   Cancelled,
@@ -15,8 +14,9 @@ const {
   InvalidValue,
   ReplyLost,
 } = require("./errors.js");
-const { replyLength, testAsked, testReply, testRequest } = require("./frames.js");
-const { Turns, onAbort, paused, testLimit } = require("./limits.js");
+const { testRequest } = require("./frames.js");
+const { Incoming } = require("./incoming.js");
+const { Turns, endConnecting, onAbort, paused, testLimit } = require("./limits.js");
 const { bytesOf, kindOf, milliseconds, narrow, optionsOf, pathOf } = require("./values.js");
 
 const TIMEOUT = 5000; // milliseconds
@@ -71,8 +71,7 @@ function lost(said, how) {
 /** One connection, over which one request goes at a time. */
 class Connection {
   #socket;
-  #said = [];
-  #size = 0;
+  #came = new Incoming();
   #end = ""; // how it ended
   #fault; // the system's, if one ended it
   #asked; // the request that is in flight
@@ -93,7 +92,7 @@ class Connection {
 
   /** Whether it ended, or something came while nothing was asked. */
   get isLeft() {
-    return this.#end !== "" || this.#size > 0;
+    return this.#end !== "" || this.#came.size > 0;
   }
 
   /**
@@ -133,7 +132,7 @@ class Connection {
     this.#socket.ref();
     this.#isUsed = true;
     return new Promise((resolve, reject) => {
-      const asked = { frame, need: HEADER_SIZE, resolve, reject, off: () => {} };
+      const asked = { frame, resolve, reject, off: () => {} };
       asked.timer = after(ms, () => {
         if (this.#asked === asked) this.#finish(new ReplyLost(late));
       });
@@ -151,8 +150,7 @@ class Connection {
   }
 
   #take(data) {
-    this.#said.push(data);
-    this.#size += data.length;
+    this.#came.add(data);
     if (this.#asked !== undefined) this.#look();
     else if (this.#isUsed) this.#socket.destroy();
   }
@@ -164,44 +162,24 @@ class Connection {
 
   /** Takes the reply if it is there, or the end. */
   #look() {
-    const asked = this.#asked;
-    if (asked === undefined) return;
+    if (this.#asked === undefined) return;
     try {
-      while (this.#size >= asked.need) {
-        const data = this.#whole();
-        if (asked.need > HEADER_SIZE) return this.#answer(data, asked.need);
-        const header = data.subarray(0, HEADER_SIZE);
-        testReply(header);
-        testAsked(asked.frame, header);
-        asked.need = replyLength(header);
-        if (asked.need === HEADER_SIZE) return this.#answer(data, HEADER_SIZE);
-      }
+      const reply = this.#came.replyTo(this.#asked.frame);
+      if (reply !== undefined) {
+        this.#isAnswered = true;
+        this.#finish(undefined, reply);
+      } else if (this.#end !== "") this.#finish(this.#lost());
     } catch (fault) {
       this.#finish(fault);
-      return;
     }
-    if (this.#end !== "") this.#finish(this.#lost());
   }
 
   #lost() {
     // in TLS 1.3 the server says so when the client has agreed
-    if (this.#isAnswered || !isRefusal(this.#fault)) return lost(this.#whole(), this.#end);
+    if (this.#isAnswered || !isRefusal(this.#fault)) return lost(this.#came.whole(), this.#end);
     const { reason, message } = this.#fault;
     const refused = new ReplyLost(`the server refuses this client: ${reason ?? message}`);
     return Object.assign(refused, { isDistrust: true });
-  }
-
-  /** All that came, in one piece. */
-  #whole() {
-    if (this.#said.length !== 1) this.#said = [Buffer.concat(this.#said, this.#size)];
-    return this.#said[0];
-  }
-
-  #answer(data, length) {
-    this.#isAnswered = true;
-    this.#said = data.length > length ? [data.subarray(length)] : [];
-    this.#size = data.length - length;
-    this.#finish(undefined, data.subarray(0, length));
   }
 
   #finish(fault, reply) {
@@ -315,9 +293,6 @@ function shownAddress(address) {
   return host.includes(":") ? `[${host}]:${port}` : `${host}:${port}`;
 }
 
-/** Ends the connecting of a Socket, now and later. An exchange in flight goes on. */
-let connectNoMore;
-
 /**
  * A connection to a server at a Unix socket's path, or at a host and a port; or to one of several,
  * in an array.
@@ -339,13 +314,6 @@ class Socket {
   #isClosed = false;
   #isEnding = false; // nothing is connected to any more
   #turns = new Turns();
-
-  static {
-    connectNoMore = (socket) => {
-      socket.#isEnding = true;
-      socket.#endCall?.(new Closed(CLOSED));
-    };
-  }
 
   constructor(address, options) {
     const given = optionsOf("options", options);
@@ -395,6 +363,12 @@ class Socket {
     } finally {
       this.#turns.give();
     }
+  }
+
+  /** Connects no more. An exchange in flight goes on. */
+  [endConnecting]() {
+    this.#isEnding = true;
+    this.#endCall?.(new Closed(CLOSED));
   }
 
   /** Closes the connection, at once: an exchange in flight is ReplyLost. Later ones are Closed. */
@@ -487,4 +461,4 @@ class Socket {
   }
 }
 
-module.exports = { Socket, connectNoMore };
+module.exports = { Socket };
