@@ -318,8 +318,8 @@ test("a fault amid the service is passed on, and the next call starts again", as
 test("what is no reply ends the child", async (t) => {
   const { folder, open } = placed(t);
   const ready = "echo 'tbd: ready: commit 0, time 0' >&2";
-  const program = script(folder, "wrong", ready, "yes 'no reply' | head -c 100", `touch ${folder}/said`,
-    "exec cat > /dev/null");
+  const program = script(folder, "wrong", ready, "yes 'no reply' | head -c 100",
+    `touch ${folder}/said`, "exec cat > /dev/null");
   const ledger = await open({ program });
   await until(() => fs.existsSync(path.join(folder, "said")));
   await assert.rejects(ledger.createAccounts(ACCOUNTS), tb.BadReply);

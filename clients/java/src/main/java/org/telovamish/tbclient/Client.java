@@ -1,6 +1,7 @@
 package org.telovamish.tbclient;
 
 import java.math.BigInteger;
+import java.nio.file.Path;
 import java.time.Duration;
 import java.util.List;
 import java.util.concurrent.CompletableFuture;
@@ -26,7 +27,7 @@ import java.util.function.Supplier;
 public final class Client implements AutoCloseable {
     private static final BigInteger LOWER = BigInteger.ONE.shiftLeft(64).subtract(BigInteger.ONE);
 
-    private final List<Address> addresses;
+    private final String place;
     private final Pool pool;
 
     /**
@@ -49,12 +50,114 @@ public final class Client implements AutoCloseable {
      */
     public Client(byte[] clusterId, String[] replicaAddresses, ClientOptions options) {
         Values.wide("clusterId", clusterId);
-        addresses = Address.parsed(Values.given("replicaAddresses", replicaAddresses));
+        List<Address> addresses =
+                Address.parsed(Values.given("replicaAddresses", replicaAddresses));
         ClientOptions given = Values.given("options", options);
         Supplier<Transport> connect =
                 () -> new SocketTransport(addresses, given.timeout(), given.tls());
         connect.get(); // which refuses what it cannot take
+        place = addresses.toString();
         pool = new Pool(connect, ids(given.clientRange()), given.sessions());
+    }
+
+    private Client(Path file, LedgerFile ledger) {
+        place = file.toString();
+        pool = new Pool(() -> ledger, Ids::id, 1);
+        pool.begin();
+    }
+
+    /**
+     * Opens the ledger in a file, which is made if it is not there.
+     *
+     * @param file the file
+     * @return its client
+     */
+    public static Client open(Path file) {
+        return open(file, OpenOptions.DEFAULT);
+    }
+
+    /**
+     * Opens the ledger in a file, and returns its client once the file was read.
+     *
+     * <p>{@code tbd} serves the file as a child of this process. If it is killed, it is started
+     * again, and calls go on: a call that waits gets its first reply. It ends with this process.
+     * A fault of tbd is a {@link ProgramEndedException}, here or of a call, and the next call
+     * starts tbd again.
+     *
+     * @param file the file
+     * @param options how it is opened
+     * @return its client
+     * @throws LockedException if another process has the file open
+     * @throws ProgramEndedException if tbd cannot serve the file
+     * @throws CannotStartException if tbd is not found
+     * @throws ClockJumpedException if the ledger's last time is far ahead
+     * @throws CancelledException if the thread is interrupted
+     */
+    public static Client open(Path file, OpenOptions options) {
+        return opened(file, new LedgerFile(file, options));
+    }
+
+    /**
+     * Opens the ledger in a file, and does not wait for it.
+     *
+     * @param file the file
+     * @param options how it is opened
+     * @return what will be its client. If it is cancelled, the opening ends
+     */
+    public static CompletableFuture<Client> openAsync(Path file, OpenOptions options) {
+        LedgerFile ledger = new LedgerFile(file, options);
+        CompletableFuture<Client> own = new CompletableFuture<>();
+        own.whenComplete((client, why) -> {
+            if (why != null) {
+                ledger.startNoMore();
+            }
+        });
+        Thread thread = new Thread(() -> {
+            try {
+                Client client = opened(file, ledger);
+                if (!own.complete(client)) {
+                    client.close();
+                }
+            } catch (RuntimeException | Error why) {
+                own.completeExceptionally(why);
+            }
+        }, "tbclient-open");
+        thread.setDaemon(true);
+        thread.start();
+        return own;
+    }
+
+    private static Client opened(Path file, LedgerFile ledger) {
+        try {
+            ledger.open();
+        } catch (RuntimeException | Error why) {
+            ledger.close();
+            throw why;
+        }
+        return new Client(file, ledger);
+    }
+
+    /**
+     * The client of a ledger that listens. It connects when it is first asked.
+     *
+     * @param addresses a port ("3001"), the path of a Unix socket, which has a slash
+     *     ("./ledger.sock"), or several machines ("10.0.0.1:3001,10.0.0.2:3001")
+     * @return the client
+     */
+    public static Client connect(String addresses) {
+        return connect(addresses, ClientOptions.DEFAULT);
+    }
+
+    /**
+     * The client of a ledger that listens. It connects when it is first asked.
+     *
+     * @param addresses as without options
+     * @param options how it works
+     * @return the client
+     */
+    public static Client connect(String addresses, ClientOptions options) {
+        String[] given = {Values.given("addresses", addresses)};
+        return new Client(UInt128.asBytes(0), given, options);
     }
 
     private static Supplier<BigInteger> ids(Long range) {
@@ -273,6 +376,6 @@ public final class Client implements AutoCloseable {
 
     @Override
     public String toString() {
-        return "Client of " + addresses;
+        return "Client of " + place;
     }
 }

@@ -51,6 +51,16 @@ final class Pool {
         }
     }
 
+    /** Makes the first transport now, and not with the first call. */
+    void begin() {
+        lock.lock();
+        try {
+            grow();
+        } finally {
+            lock.unlock();
+        }
+    }
+
     private void grow() {
         Worker made = new Worker(this, connect.get(), ids);
         made.start();
