@@ -2,7 +2,6 @@ package org.telovamish.tbclient;
 
 import static org.junit.Assert.assertEquals;
 import static org.junit.Assert.assertTrue;
-import static org.junit.Assume.assumeTrue;
 
 import java.io.BufferedReader;
 import java.io.File;
@@ -27,14 +26,6 @@ public class ReadmeTest {
     private static final int[] KILLS = {150, 350, 250}; // ms after the file is there
 
     @Rule public TemporaryFolder folder = new TemporaryFolder();
-
-    private static boolean isPythonThere() {
-        try {
-            return new ProcessBuilder("python3", "--version").start().waitFor() == 0;
-        } catch (IOException | InterruptedException why) {
-            return false;
-        }
-    }
 
     /** The class path of a class that is compiled next to the client. */
     private String compiled(String name, String text) throws IOException, InterruptedException {
@@ -119,7 +110,6 @@ public class ReadmeTest {
 
     @Test(timeout = 120_000)
     public void theProgramMovesMoneyOnceAmidKills() throws Exception {
-        assumeTrue("python3 is not there", isPythonThere());
         String path = compiled("Sale.java", shown("import "));
         Process listener = listener();
         try {
