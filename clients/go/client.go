@@ -70,6 +70,13 @@ type Client struct {
 	queue     *queue
 }
 
+// Connect is the client of a ledger that listens: on a port ("3001"), on a Unix socket, whose path has a
+// slash ("./ledger.sock"), or on several machines ("10.0.0.1:3001,10.0.0.2:3001"). It connects when it
+// is first asked. [Open] returns the same type for a file.
+func Connect(addresses string, options ...ClientOption) (*Client, error) {
+	return NewClient(Uint128{}, []string{addresses}, options...)
+}
+
 // NewClient is a client of the server at these addresses: a port ("3000"), a host with or without a
 // port ("10.0.0.1:3000"), or the path of a Unix socket, which has a slash. Several addresses have to
 // serve one ledger. It connects nothing yet. The cluster's id may be any: a server has no such id,

@@ -23,7 +23,7 @@ import (
 	tb "telovamish.org/tbclient"
 )
 
-var kills = flag.Int("kills", 4, "how often the program and its child are killed")
+var kills = flag.Int("kills", 5, "how often the program and its child are killed")
 
 const (
 	helping = "TB_OPEN_FILE" // the file of the process that is killed

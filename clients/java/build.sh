@@ -2,7 +2,8 @@
 # Builds the client only by javac; each warning is an error.
 #
 #     build.sh             makes out/classes, and the runner in out/test-classes
-#     build.sh test        does that, and runs the unit tests, over Debian's JUnit
+#     build.sh tests       does that, and makes the unit tests, over Debian's JUnit
+#     build.sh test        does that, and runs them
 #     build.sh lint        tests the doc comments, by javadoc
 #     build.sh package     makes the jars, by Maven over Debian's plugins and without a network
 set -eu
@@ -25,13 +26,14 @@ case "${1:-build}" in
 build)
     build
     ;;
-test)
+tests | test)
     if [ ! -e "${junit%%:*}" ]; then
         echo "build.sh: no test was run: Debian's junit4 is not there" >&2
         exit 1
     fi
     build
     $strictly -cp "out/classes:$junit" -d out/test-classes $(find src/test -name '*.java')
+    [ "$1" = test ] || exit 0
     java -ea -cp "out/classes:out/test-classes:$junit" org.junit.runner.JUnitCore \
         $(find src/test -name '*Test.java' | sed 's,src/test/java/,,; s,/,.,g; s,\.java$,,' | sort)
     ;;

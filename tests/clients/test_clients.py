@@ -115,22 +115,29 @@ def test_money_of_a_shared_client_amid_kills(folder, money):
     assert passes([*money, "--shared", "--", *built(folder)], folder)
 
 
-@pytest.mark.slow(reason="kills a program and its child 200 times", seconds=400)
-def test_a_file_that_is_opened_in_go_amid_kills(tbd):
+JUNIT = "/usr/share/java/junit4.jar:/usr/share/java/hamcrest-core.jar"
+TIMES = "200"
+KILLED = {
+    "go": ["go", "test", "-count=1", "-timeout", "2h", "-run", "^TestKills$", ".", "-kills", TIMES],
+    "java": [
+        "java",
+        "-cp",
+        f"out/classes:out/test-classes:{JUNIT}",
+        "org.junit.runner.JUnitCore",
+        "org.telovamish.tbclient.KillsTest",
+    ],
+    "node": ["node", "--test", "test/kills.test.js"],
+}
+
+
+@pytest.mark.slow(reason="kills a program and its child 200 times each", seconds=1200)
+@pytest.mark.parametrize("client", KILLED)
+def test_a_file_that_is_opened_amid_kills(tbd, client):
     """That of Python is in clients/python/tests."""
-    words = [
-        "go",
-        "test",
-        "-count=1",
-        "-timeout",
-        "1h",
-        "-run",
-        "^TestKills$",
-        ".",
-        "-kills",
-        "200",
-    ]
-    assert passes(words, ROOT / "clients/go", TBD=str(tbd))
+    folder = ROOT / "clients" / client
+    if client == "java":
+        assert passes(["sh", "build.sh", "tests"], folder)
+    assert passes(KILLED[client], folder, TBD=str(tbd), KILLS=TIMES)
 
 
 @pytest.mark.slow(reason="traces each client's calls by strace", seconds=30)

@@ -81,6 +81,14 @@ def test_one_program_over_a_file_and_over_sockets(clone):
             assert clone.run(run) == "10\n"
 
 
+def test_the_first_lines_of_clients(clone):
+    clone.build("tbd")
+    (program,) = blocks("clients/README.md", "python")
+    (clone.folder / "client.py").write_text(program)
+    run = "/usr/bin/python3 client.py"
+    assert clone.run(run, f"tbd: made {clone.folder}/books.tbk\n") == "2\n"
+
+
 def test_the_status_of_the_listener(clone):
     """What its status socket writes has the fields of the page; the file of clients is read."""
     clone.build("tbd")

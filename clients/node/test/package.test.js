@@ -12,6 +12,7 @@ const path = require("node:path");
 const { after, before, test } = require("node:test");
 
 const tb = require("../index.js");
+const { keeper } = require("../helpers/keepers.js");
 
 const TOP = path.dirname(__dirname);
 const SESSIONS = 64; // that the server keeps
@@ -162,6 +163,17 @@ test("the README's program, a kill amid a sale, and one in doubt that is refused
   } finally {
     server.close();
     await ended(process);
+  }
+});
+
+test("the README's lines on a file", { skip: needs }, () => {
+  const readme = readFileSync(path.join(TOP, "README.md"), "utf8");
+  const [, lines] = /```js\n(import { connect, open }[^]*?)```/.exec(readme);
+  writeFileSync(path.join(folder, "opened.mjs"), lines);
+  const env = { ...process.env, TBD: keeper(folder) };
+  for (const said of [`tbd: made ${path.join(folder, "books.tbk")}\n`, ""]) {
+    const ran = spawnSync("node", ["opened.mjs"], { cwd: folder, env, encoding: "utf8" });
+    assert.deepEqual([ran.stdout, ran.stderr, ran.status], ["10n\n", said, 0]);
   }
 });
 

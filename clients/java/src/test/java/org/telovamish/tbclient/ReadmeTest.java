@@ -108,6 +108,25 @@ public class ReadmeTest {
                         + shown("try (Client client") + "    }\n}\n");
     }
 
+    /** The lines on a file, run twice. */
+    @Test(timeout = 120_000)
+    public void theLinesOnAFile() throws Exception {
+        String path = compiled("Opened.java",
+                "import java.nio.file.Path;\nimport org.telovamish.tbclient.*;\nclass Opened {\n"
+                        + "    public static void main(String[] words) {\n"
+                        + shown("try (Client ledger") + "    }\n}\n");
+        Path root = folder.getRoot().toPath();
+        for (String said : new String[] {"tbd: made " + root.resolve("books.tbk") + "\n", ""}) {
+            ProcessBuilder it = new ProcessBuilder("java", "-cp", path, "Opened")
+                                        .directory(folder.getRoot())
+                                        .redirectErrorStream(true);
+            it.environment().put("TBD", Keepers.keeper(root, "").toString());
+            Process ran = it.start();
+            assertEquals(said, new String(ran.getInputStream().readAllBytes()));
+            assertEquals(0, ran.waitFor());
+        }
+    }
+
     @Test(timeout = 120_000)
     public void theProgramMovesMoneyOnceAmidKills() throws Exception {
         String path = compiled("Sale.java", shown("import "));
