@@ -17,7 +17,7 @@ const {
   Status,
 } = require("../names.js");
 const { BadReply, InvalidType, InvalidValue } = require("./errors.js");
-const { ACCOUNT, TRANSFER, putRecord, putWide } = require("./records.js");
+const { ACCOUNT, TRANSFER, putRecords, putWide } = require("./records.js");
 const { recordAt, viewOf, wideAt } = require("./records.js");
 const { U128, kindOf, listed, shown, wide } = require("./values.js");
 
@@ -96,10 +96,9 @@ function framed(operation, items) {
   const size = REQUEST_ITEM_SIZES[operation];
   const frame = headed(operation, listed(name, items, ITEMS_MAX).length * size);
   const view = viewOf(frame);
-  for (let index = 0, at = HEADER_SIZE; at < frame.length; index += 1, at += size) {
-    if (isCreate(operation)) {
-      putRecord(RECORDS[operation], items[index], `${name}[${index}]`, view, at);
-    } else {
+  if (isCreate(operation)) putRecords(RECORDS[operation], items, name, view, HEADER_SIZE);
+  else {
+    for (let index = 0, at = HEADER_SIZE; at < frame.length; index += 1, at += size) {
       putWide(view, at, wide(`${name}[${index}]`, items[index], U128));
     }
   }

@@ -18,7 +18,8 @@ class Ids {
   #now;
   #draw;
   #millisecond = 0;
-  #random = 0n;
+  #last = 0n;
+  #greatest = -1n; // the last id of this millisecond
 
   constructor(now = Date.now, draw = () => randomBytes(10)) {
     this.#now = now;
@@ -27,17 +28,18 @@ class Ids {
 
   next() {
     const now = this.#now();
-    if (now > this.#millisecond) {
-      this.#millisecond = now;
-      this.#random = numberOf(this.#draw());
-    } else if (this.#random < RANDOM_MAX) {
-      this.#random += 1n;
-    } else {
-      // The random part went past its end: the ids rise into the next millisecond.
-      this.#millisecond += 1;
-      this.#random = 0n;
-    }
-    return (BigInt(this.#millisecond) << RANDOM_BITS) | this.#random;
+    if (now > this.#millisecond) this.#begin(now, numberOf(this.#draw()));
+    else if (this.#last < this.#greatest) this.#last += 1n;
+    // The random part went past its end: the ids rise into the next millisecond.
+    else this.#begin(this.#millisecond + 1, 0n);
+    return this.#last;
+  }
+
+  #begin(millisecond, random) {
+    const first = BigInt(millisecond) << RANDOM_BITS;
+    this.#millisecond = millisecond;
+    this.#last = first | random;
+    this.#greatest = first | RANDOM_MAX;
   }
 }
 
