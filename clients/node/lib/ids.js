@@ -19,7 +19,7 @@ class Ids {
   #draw;
   #millisecond = 0;
   #last = 0n;
-  #greatest = -1n; // the last id of this millisecond
+  #greatest = RANDOM_MAX; // the last id of this millisecond
 
   constructor(now = Date.now, draw = () => randomBytes(10)) {
     this.#now = now;
