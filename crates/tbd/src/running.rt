@@ -24,7 +24,12 @@ fn run<C: Copies>(
         reason: &reason,
     };
     let files = HostNames::new(rt);
-    let mut files = NamedFiles::<HostNames, HostSurroundings, C>::new(rt.alloc(), files, around, reports);
+    let mut files = NamedFiles::<HostNames, HostSurroundings, C>::new(
+        rt.alloc(),
+        files,
+        around,
+        reports,
+    );
     let pipes = Pipes {
         reader: rt.stdin(),
         writer: Steady::new(rt.stdout()),
