@@ -25,9 +25,10 @@ HERE = pathlib.Path(__file__).resolve().parent
 APP = HERE.parent
 READER, MEANT = "test_messages.py test_written.py test_reader.py", "test_reader.py -k meant"
 WRONG, RUN = "test_messages.py", "test_run.py -k frames"
-WORDS, AUDITS = "test_printing.py", "test_model.py -k new_seed"
+WORDS, AUDITS = "test_printing.py", "test_model.py -k seed"
 STOPS, SENDS = "test_explain.py", "test_sending.py"
 TABLES, LINES = "test_run.py -k tables", "test_audit.py"
+FILLS, TYPED = "test_filling.py", "test_repl.py -k ctrl_c"
 MODEL = "test_model.py -k hand"
 # file, what is there, the bug instead, and the tests that are to find it
 BUGS = [
@@ -44,10 +45,11 @@ BUGS = [
     ("reader", "default=0)", "default=0) + 1", READER),
     ("reader", "found += FLAGS[operation]", "found += [*FLAGS[operation]][1:]", READER),
     ("texts", 'count("\\n", self.start, place)', 'count("\\n", self.start, place) + 1', READER),
-    ("filling", "pair.request + 1", "pair.request", READER),
-    ("filling", "self.last = pair.client\n", "self.last = self.last or pair.client\n", READER),
+    ("filling", "pair.request + 1", "pair.request", FILLS),
+    ("filling", "self.last = pair.client\n", "self.last = self.last or pair.client\n", FILLS),
+    ("filling", "max(known.next, last + 1)", "last + 1", FILLS),
     ("messages", "(begun or difflib", "(difflib", MEANT),
-    ("messages", "start = max(0, len(before) - SHOWN_BEFORE)", "start = max(0, len(before) - 1)", WRONG),
+    ("messages", "start = max(0, len(before) - first)", "start = max(0, len(before) - 1)", WRONG),
     ("printing", 'if number or name == "id":', "if number:", WORDS),
     ("printing", "'|'.join(flags)", "'|'.join(flags[:1])", WORDS),
     ("printing", '", ".join(event_text', '" ".join(event_text', WORDS),
@@ -73,11 +75,16 @@ BUGS = [
     ("audit", "first <= item.time <= last", "first <= item.time < last", LINES),
     ("audit", "first <= item.time <= last", "first < item.time <= last", LINES),
     ("audit", "it.debit_account_id, it.credit_account_id", "it.debit_account_id,", LINES),
-    ("audit", "            if isinstance(it, Expired):\n                shown", "            if isinstance(it, Expired) and not shown:\n                shown", AUDITS),
+    ("audit", "            if isinstance(it, Expired):\n                shown", "            if isinstance(it, Expired) and not shown:\n                shown", LINES),
     ("audit", 'r"\\.?0*Z"', 'r"\\.?0?Z"', LINES),
     ("audit", "now and before != self._account", "now", LINES),
-    ("audit", '"count"] = request.length', '"count"] = request.length + 1', AUDITS),
-    ("live", "for item in items:\n", "for item in [*items][:-1]:\n", AUDITS),
+    ("audit", '"count"] = request.length', '"count"] = request.length + 1', LINES),
+    ("audit", "if isinstance(it, Event):\n                outcome", "if isinstance(it, Event) and it.record.ledger != 700:\n                outcome", LINES),
+    ("audit", "return names(id, it) or", "return it.ledger != 700 and names(id, it) or", LINES),
+    ("checking", "            self.transfers[it.id] = it\n", "            if it.ledger != 700:\n                self.transfers[it.id] = it\n", LINES),
+    ("repl", 'kept = ""  # what was typed is dropped', 'kept = self.terminal.read("") and ""', TYPED),
+    ("repl", "if is_shown else self.desk.doubt())", 'if is_shown else self.desk.doubt())\n            self.terminal.read("")', TYPED),
+    ("live", "for item in items:\n", "for item in [*items][:-1]:\n", LINES),
     ("model", "RECORD + 1  # the", "RECORD  # the", AUDITS),
     ("model", "self._due[0][0] <= now", "self._due[0][0] < now", MODEL),
     ("model", "it.timeout * SECOND, it.id))\n", "it.timeout * SECOND, -it.id))\n", AUDITS),
@@ -85,7 +92,7 @@ BUGS = [
     ("model", "Session(number, entry.commit)", "Session(number, number)", MODEL),
     ("model", " or it.amount == AMOUNT_MAX", "", AUDITS),
     ("model", "it.flags & VOID or it.amount", "it.amount", AUDITS),
-    ("model", "user_data_128 user_data_64", "user_data_128", AUDITS),
+    ("model", "user_data_128 user_data_64", "user_data_128", MODEL),
     ("model", "- debit.debits_posted - debit.debits_pending", "- debit.debits_posted", MODEL),
     ("model", "- credit.credits_posted - credit.credits_pending", "- credit.credits_posted", MODEL),
     ("model", "return max(0, amount)", "return abs(amount)", AUDITS),
@@ -108,13 +115,18 @@ def copied(folder: str) -> pathlib.Path:
     return app
 
 
+def is_there(file: str, old: str) -> bool:
+    """Whether the command has what a bug replaces, once or first of several."""
+    return old in (APP / "src" / "telovamish" / f"{file}.py").read_text()
+
+
 def found_by(file: str, old: str, new: str, tests: str) -> str:
     """The first test that fails with a bug; nothing if no test does."""
     with tempfile.TemporaryDirectory() as folder:
         app = copied(folder)
         source = app / "src" / "telovamish" / f"{file}.py"
         text = source.read_text()
-        assert old in text and new != old, f"{file}: not there: {old!r}"
+        assert is_there(file, old) and new != old, f"{file}: not there: {old!r}"
         source.write_text(text.replace(old, new, 1))
         said = pathlib.Path(folder) / "said"
         status = tested(app, tests.split(" "), said)

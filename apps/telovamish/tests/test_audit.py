@@ -159,6 +159,7 @@ def test_an_audit_has_each_ledger(tbs: str, dump_of_ledgers: bytes) -> None:
     expired = [it["expired"]["ledger"] for it in lines if "expired" in it]
     assert events == [it for it in LEDGERS for _ in range(4)]
     assert expired == [*LEDGERS]
+    assert [it["count"] for it in lines if "count" in it] == [2] * 6
     counts = "6 accounts, 6 transfers, 3 pending transfers, 1 sessions"
     assert (status, errors) == (0, f"telovamish: as in tbs: {counts}\n")
 

@@ -66,6 +66,19 @@ def test_a_dump(tbs: str, dump: bytes, at: int, values: list[int], said: str) ->
     assert explained(changed(dump, at, *values), tbs) == f"{said}\n"
 
 
+def test_a_first_entry_that_is_wrong(tbs: str, dump: bytes) -> None:
+    """Its place is after the head."""
+    said = "entry 1, at byte 16: its commit number is 2, and 1 comes next (NotLegal)\n"
+    assert explained(changed(dump, 16, 2), tbs) == said
+
+
+def test_an_entry_after_a_mark_that_is_wrong(tbs: str, dump: bytes) -> None:
+    """Its place is after the mark."""
+    data = dump + struct.pack("<QQ", 0, 2)
+    said = f"entry 4, at byte {len(data)}: its commit number is 9, and 4 comes next (NotLegal)\n"
+    assert explained(data + changed(dump[400:], 0, 9), tbs) == said
+
+
 def test_a_mark_that_is_wrong(tbs: str, dump: bytes) -> None:
     said = f"entry 4, at byte {len(dump)}: a mark is not 2, or is there under profile 2 (Mark)\n"
     assert explained(dump + struct.pack("<QQ", 0, 3), tbs) == said

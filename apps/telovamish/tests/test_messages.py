@@ -122,6 +122,7 @@ def test_what_a_script_does_not_fill_in(text: str, said: str) -> None:
             "create_accounts code=655360;", "line 1, column 26", id="number-as-far-as-it-fits"
         ),
         pytest.param("at=2026-11-31 register;", "line 1, column 13", id="date-as-far-as-it-exists"),
+        pytest.param("lookup_accounts id=12x;", "line 1, column 22", id="digit-that-is-none"),
     ],
 )
 def test_the_place_of_a_fault(text: str, place: str) -> None:
@@ -166,3 +167,4 @@ def test_a_long_line_is_cut_around_the_place() -> None:
     _, line, mark, _ = message(text, Live(1))
     assert line.startswith("  ...") and line.endswith("...") and len(line) <= 110
     assert line[mark.index("^") :].startswith("x=y")
+    assert "id=97, id=98, id=99, " in line

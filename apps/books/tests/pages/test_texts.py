@@ -127,3 +127,21 @@ def test_a_time_that_decides_a_day(pages):
     assert "11" in pages.words("/account/1/2026-09") and "Debits 1 " in pages.words(
         "/account/1/2026-09"
     )
+
+
+@pytest.mark.parametrize(
+    "seconds, wanted",
+    [
+        (0, "0 seconds"),
+        (119.9, "119 seconds"),
+        (120, "2 minutes"),
+        (7199, "119 minutes"),
+        (7200, "2 hours"),
+        (2 * 86400, "2 days"),
+        (729 * 86400, "729 days"),
+        (730 * 86400, "2 years"),
+        (2000 * 365 * 86400, "2,000 years"),
+    ],
+)
+def test_a_span_of_time(seconds, wanted):
+    assert texts.ago(seconds) == wanted
