@@ -169,6 +169,9 @@ func (c *Client) ask(ctx context.Context, request Request) (Answer, error) {
 	if c == nil || c.queue == nil {
 		return Answer{}, invalid("client", "is none: NewClient makes one")
 	}
+	if err := testContext(ctx); err != nil {
+		return Answer{}, err
+	}
 	made, err := newCall(request)
 	if err != nil {
 		return Answer{}, err

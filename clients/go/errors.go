@@ -1,6 +1,7 @@
 package tbclient
 
 import (
+	"context"
 	"errors"
 	"fmt"
 	"strings"
@@ -75,6 +76,14 @@ func (i *InvalidError) Unwrap() error { return ErrInvalid }
 
 func invalid(field, format string, values ...any) error {
 	return &InvalidError{Field: field, Problem: fmt.Sprintf(format, values...)}
+}
+
+// testContext refuses a context that is nil: its first use would panic, perhaps amid a request.
+func testContext(ctx context.Context) error {
+	if ctx == nil {
+		return invalid("context", "is nil: context.Background is one that does not end")
+	}
+	return nil
 }
 
 // LostError is an ErrReplyLost, and an ErrBusy if the server told Busy, TooManyConnections,

@@ -123,6 +123,9 @@ func WithProgress(progress func(done, size int)) OpenOption {
 // A file that is open elsewhere is an ErrLocked. A fault of tbd is a [ProgramError], at Open or at a
 // call, and the next call starts tbd again.
 func Open(ctx context.Context, path string, options ...OpenOption) (*Client, error) {
+	if err := testContext(ctx); err != nil {
+		return nil, err
+	}
 	file, err := newLedgerFile(path, options)
 	if err != nil {
 		return nil, err

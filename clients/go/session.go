@@ -246,6 +246,9 @@ func (s *Session) begin(ctx context.Context) error {
 	if err := s.testMade(); err != nil {
 		return err
 	}
+	if err := testContext(ctx); err != nil {
+		return err
+	}
 	select {
 	case s.turn <- struct{}{}:
 		return nil

@@ -414,3 +414,36 @@ func TestATransportOfOnesOwn(t *testing.T) {
 		}
 	}
 }
+
+// A nil context is refused by each call that takes one: it panicked.
+func TestNilContexts(t *testing.T) {
+	server, session := begun(t)
+	socket := newSocket(t, server)
+	client, err := tb.NewClient(tb.ToUint128(0), []string{server.path})
+	if err != nil {
+		t.Fatal(err)
+	}
+	t.Cleanup(func() { client.Close() })
+	var none context.Context
+	ids := []tb.Uint128{tb.ToUint128(1)}
+	for name, call := range map[string]func() error{
+		"Register":          func() error { _, err := tb.Register(none, socket); return err },
+		"Session":           func() error { _, err := session.LookupAccounts(none, ids); return err },
+		"Session.Retry":     func() error { _, err := session.Retry(none); return err },
+		"Client":            func() error { _, err := client.CreateTransfers(none, []tb.Transfer{sale(1)}); return err },
+		"Socket.Exchange":   func() error { _, err := socket.Exchange(none, nil); return err },
+		"Open, of no file":  func() error { _, err := tb.Open(none, filepath.Join(t.TempDir(), "ledger.tbk")); return err },
+		"Open, of a folder": func() error { _, err := tb.Open(none, t.TempDir()); return err },
+	} {
+		t.Run(name, func(t *testing.T) {
+			err := call()
+			var wrong *tb.InvalidError
+			if !errors.As(err, &wrong) || wrong.Field != "context" {
+				t.Error(err)
+			}
+		})
+	}
+	if found := credited(t, session); found != tb.ToUint128(0) {
+		t.Error("money moved", found)
+	}
+}

@@ -198,6 +198,9 @@ func (s *Socket) Exchange(ctx context.Context, frame []byte) ([]byte, error) {
 	if s.closed == nil {
 		return nil, invalid("transport", "is none: NewSocket makes one")
 	}
+	if err := testContext(ctx); err != nil {
+		return nil, err
+	}
 	asked, err := decodeRequestHeader(frame) // at a wrong one the server would close the connection
 	if err != nil {
 		return nil, err
