@@ -110,8 +110,8 @@ def test_what_a_script_does_not_fill_in(text: str, said: str) -> None:
 @pytest.mark.parametrize(
     "text, place",
     [
-        pytest.param("registe;", "line 1, column 8", id="after-the-letters-that-are-right"),
-        pytest.param("xregister;", "line 1, column 1", id="first-letter"),
+        pytest.param("registe;", "line 1, column 1", id="first-letter-of-a-misspelt-word"),
+        pytest.param("flags; register;", "line 1, column 1", id="word-in-a-wrong-place"),
         pytest.param("register;\n\n  wrong;", "line 3, column 3", id="third-line"),
         pytest.param("register; # a comment\nwrong;", "line 2, column 1", id="after-a-comment"),
         pytest.param("lookup_accounts id=1,\n\tid=x;", "line 2, column 5", id="tab-is-a-column"),
@@ -139,6 +139,11 @@ def test_the_place_of_a_fault(text: str, place: str) -> None:
         pytest.param(
             "lookup_accounts id=1 x;", "  lookup_accounts id=1 x;", 23, "expected ',' or ';'",
             id="a-lookup-has-ids-only",
+        ),
+        pytest.param(
+            "create_acounts;", "  create_acounts;", 2, "expected at, client, session, request, register, "
+            "create_accounts, create_transfers, lookup_accounts or lookup_transfers",
+            id="a-misspelt-word-is-marked-at-its-first-letter",
         ),
         pytest.param(
             "\tlookup_accounts x;", "  \tlookup_accounts x;", 19, "expected id or ';'",

@@ -42,7 +42,7 @@ def test_the_conversation(tbs):
 
 
 def test_the_fault():
-    wanted = blocks("text", "telovamish: line 1, column 29")
+    wanted = blocks("text", "telovamish: line 1, column 20")
     text = wanted.splitlines()[1].strip()
     assert ran("script", given=text.encode())[2] == wanted
 

@@ -82,7 +82,7 @@ def test_a_repeat_over_a_connection(env, tmp_path):
 
 
 def test_a_wrong_word_at_its_line_end(terminal):
-    wanted = "telovamish: line 2, column 5: unknown field 'ledgre'; did you mean ledger?"
+    wanted = "telovamish: line 2, column 1: unknown field 'ledgre'; did you mean ledger?"
     typed = "create_accounts id=1\nledgre=700"
     tried(terminal, typed, wanted)
     terminal.enter(ACCOUNT, "1 of 1 account created")

@@ -232,7 +232,7 @@ def test_run_of_files_names_the_file(tbs, tmp_path):
     second.write_text("\nlookup_accounts id=1;\nlookup_acounts id=1;")
     status, out, errors = ran("run", str(first), str(second), env={"TBS": tbs})
     assert (status, out.count(b"\n")) == (2, 5)
-    assert errors.startswith(f"telovamish: {second}: line 3, column 10: unknown operation")
+    assert errors.startswith(f"telovamish: {second}: line 3, column 1: unknown operation")
 
 
 def test_a_late_moment_is_refused_with_its_place(tbs):

@@ -155,8 +155,9 @@ def plain(text: str) -> str:
     return "".join(it if it.isprintable() or it in "\t\n" else f"<U+{ord(it):04X}>" for it in shown)
 
 
-def described(text: str, place: int, scan: Scan) -> tuple[str, str]:
-    """What is wrong at a place where a reader stopped, and the lines after that."""
+def described(text: str, place: int, scan: Scan) -> tuple[str, str, int]:
+    """What is wrong at a place where a reader stopped, the lines after that, and the place that is
+    shown: a misspelt word is shown at its first letter, a number where it goes wrong."""
     before, rest = text[:place], text[place:]
     quoted = QUOTED.match(rest) if scan.names else None
     head = "" if quoted else ending(LEADING, before)
@@ -166,19 +167,21 @@ def described(text: str, place: int, scan: Scan) -> tuple[str, str]:
         start = before[: len(before) - len(head)]
         at_word, word = scanned(start, scan.fill, scan.names), head + tail
     if at_word is None:
-        return wrong_byte(rest, None), ""
+        return wrong_byte(rest, None), "", place
     what = wrong_word(word, at_word) if word else wrong_byte(rest, at_word)
-    line = shown_line(before[before.rfind("\n") + 1 :], re.split("[\r\n]", rest, 1)[0])
-    return what, f"{line}\n  expected {expected(awaited(at_word))}"
+    shown = place - len(head) if word and IS_NAME.fullmatch(word) else place
+    rest = re.split("[\r\n]", text[shown:], 1)[0]
+    line = shown_line(text[text.rfind("\n", 0, shown) + 1 : shown], rest)
+    return what, f"{line}\n  expected {expected(awaited(at_word))}", shown
 
 
 def fault_text(
     text: str, place: int, scan: Scan, first: tuple[int, int], known: Known, name: str = ""
 ) -> str:
     """The lines of a fault in a statement whose first byte is at a line and a column of a file."""
-    what, lines = described(text, place, scan)
-    row = text.count("\n", 0, place)
-    column = place - text.rfind("\n", 0, place) if row else place + first[1]
+    what, lines, shown = described(text, place, scan)
+    row = text.count("\n", 0, shown)
+    column = shown - text.rfind("\n", 0, shown) if row else shown + first[1]
     word = ending(NAME, text[:place]) + NAME.match(text, place)[0]  # type: ignore[index]
     client = None if scan.operation else known.has_no_session(scan.given, word)
     if client is not None:
