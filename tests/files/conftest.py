@@ -9,6 +9,8 @@ from pathlib import Path
 import pytest
 import tried
 
+from . import cases
+
 
 @pytest.fixture
 def folder():
@@ -24,13 +26,19 @@ def rng(pytestconfig):
 
 
 @pytest.fixture
-def counted(capsys):
-    """A test's cases: some were tried, and all hold."""
+def counted():
+    """A test's cases: some were tried, and all hold. Without that the test has failed, which an
+    assertion here, after the test, would not say."""
     tried.passed = tried.failed = 0
-    yield
-    with capsys.disabled():
-        print(f" {tried.passed} cases", end="", flush=True)
-    assert tried.passed and not tried.failed, f"{tried.failed} cases failed"
+    cases.failed.clear()
+
+
+@pytest.hookimpl(hookwrapper=True)
+def pytest_pyfunc_call(pyfuncitem):
+    outcome = yield
+    if "counted" in pyfuncitem.fixturenames and outcome.excinfo is None:
+        if cases.failed or not tried.passed:
+            raise AssertionError(", ".join(cases.failed) or "no case was tried")
 
 
 @pytest.fixture(scope="session")
