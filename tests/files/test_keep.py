@@ -629,11 +629,23 @@ def pair_of_a_register():
     return struct.pack("<Q", 5) + request_frame(7, 0, 0, Operation.register)
 
 
+@pytest.mark.parametrize("words, line", WORDS, ids=[it[0] or "none" for it in WORDS])
+def test_told_of_wrong_words(tbd, folder, words, line):
+    told = told_of(tbd, folder, words.split())
+    case("its line", told == (2, b"", f"tbd: Usage: {line}\n"), told)
+
+
+@pytest.mark.parametrize("form", ["run", "dump", "check", "salvage", "backup"])
+def test_the_page_of_a_form(tbd, folder, form):
+    status, page, reported = told_of(tbd, folder, [form, "words.tbk", "--help"])
+    first = f"Usage: tbd FORM\n\n  {form} FILE"
+    well = (status, reported) == (0, "") and page.decode().startswith(first)
+    case("its page", well, (status, page, reported))
+
+
 def test_told_of_words(tbd, folder):
-    """What is reported of wrong words, of output that is lost, and of a file that this user may not read."""
-    for words, line in WORDS:
-        told = told_of(tbd, folder, words.split())
-        case(f"wrong words: {words}", told == (2, b"", f"tbd: Usage: {line}\n"), told)
+    """What is reported of words that are no text, of output that is lost, and of a file that this
+    user may not read."""
     told = told_of(tbd, folder, ["check", b"\xff"])
     case("a word that is no text", told == (2, b"", "tbd: Usage: a word is not UTF-8\n"), told)
     told = told_of(tbd, folder, ["check", "a\x1b[2J\n\x9bb"])
@@ -648,11 +660,6 @@ def test_told_of_words(tbd, folder):
         told == (2, b"", "tbd: Usage: serve?: unknown; --help shows the forms\n"),
         told,
     )
-    for form in ("run", "dump", "check", "salvage", "backup"):
-        status, page, reported = told_of(tbd, folder, [form, "words.tbk", "--help"])
-        first = f"Usage: tbd FORM\n\n  {form} FILE"
-        well = (status, reported) == (0, "") and page.decode().startswith(first)
-        case(f"{form} --help prints the page of that form", well, (status, page, reported))
     words = ["run", "--drop-torn", "words.tbk", "--existing", "3", "--progress"]
     told = told_of(tbd, folder, words)
     line = "tbd: Device: cannot find words.tbk; look at its name and at its folder\n"
@@ -1261,81 +1268,54 @@ def test_sound_copies(tbd, folder, data):
             case(f"{form}: it can be served", told == (0, b"", ""), told)
 
 
-@pytest.mark.usefixtures("words_file")
-def test_copies_of_no_ledger(tbd, folder):
-    """Nothing is made of what is no ledger, or of names that cannot be."""
+@pytest.fixture
+def shelf(folder, words_file):
+    """A folder with what no copy is made of, and with names that no copy may have."""
     with open(os.path.join(folder, "letter.txt"), "w", encoding="utf-8") as file:
         file.write("to whom it may concern\n")
-    target = os.path.join(folder, "target.tbk")
-    os.symlink(target, os.path.join(folder, "to_nothing.tbk"))
+    os.symlink(os.path.join(folder, "target.tbk"), os.path.join(folder, "to_nothing.tbk"))
     os.mkdir(os.path.join(folder, "folder.tbk"))
-    with open(os.path.join(folder, "taken.tbk"), "wb") as file:
-        file.write(b"another file")
-    with open(os.path.join(folder, "no_byte.tbk"), "wb"):
-        pass
-    for form in ("salvage", "backup"):
-        for words, status, line in (
-            (["letter.txt", "new.tbk"], 5, "NotAJournal: letter.txt is a text"),
-            (
-                ["absent.tbk", "new.tbk"],
-                1,
-                "Device: cannot find absent.tbk; look at its name and at its folder",
-            ),
-            (
-                ["folder.tbk", "new.tbk"],
-                1,
-                "Device: folder.tbk is no regular file; give the name of one",
-            ),
-            (
-                ["words.tbk", "taken.tbk"],
-                2,
-                "Usage: taken.tbk exists; give the name of one that is not there",
-            ),
-            (
-                ["words.tbk", "no_byte.tbk"],
-                2,
-                "Usage: no_byte.tbk exists; give the name of one that is not there",
-            ),
-            (
-                ["words.tbk", "words.tbk"],
-                2,
-                "Usage: words.tbk exists; give the name of one that is not there",
-            ),
-            (
-                ["words.tbk", "to_nothing.tbk"],
-                2,
-                "Usage: to_nothing.tbk exists; give the name of one that is not there",
-            ),
-            (
-                ["words.tbk", "nowhere/new.tbk"],
-                1,
-                "Device: cannot find nowhere/new.tbk; look at its name and at its folder",
-            ),
-            (
-                ["words.tbk", "64"],
-                2,
-                f"Usage: {form} words.tbk 64: NEW is a number; write ./NEW",
-            ),
-            (["words.tbk"], 2, f"Usage: {form} words.tbk: NEW is missing"),
-            (
-                ["words.tbk", "new.tbk", "more"],
-                2,
-                f"Usage: {form} words.tbk new.tbk more: too many words",
-            ),
-        ):
-            told = told_of(tbd, folder, [form, *words])
-            lines = told[2].splitlines()
-            well = (
-                told[:2] == (status, b"")
-                and len(lines) == 1
-                and lines[0].startswith(f"tbd: {line}")
-            )
-            case(f"{form} {' '.join(words)}", well, told)
-            case(
-                f"{form} {' '.join(words)}: nothing is made",
-                not os.path.exists(os.path.join(folder, "new.tbk")) and not os.path.exists(target),
-            )
-    with open(os.path.join(folder, "taken.tbk"), "rb") as file:
+    for name, data in (("taken.tbk", b"another file"), ("no_byte.tbk", b"")):
+        with open(os.path.join(folder, name), "wb") as file:
+            file.write(data)
+    return folder
+
+
+ANOTHER_NAME = "exists; give the name of one that is not there"
+NO_COPIES = [
+    ("letter.txt new.tbk", 5, "NotAJournal: letter.txt is a text"),
+    (
+        "absent.tbk new.tbk",
+        1,
+        "Device: cannot find absent.tbk; look at its name and at its folder",
+    ),
+    ("folder.tbk new.tbk", 1, "Device: folder.tbk is no regular file; give the name of one"),
+    ("words.tbk taken.tbk", 2, f"Usage: taken.tbk {ANOTHER_NAME}"),
+    ("words.tbk no_byte.tbk", 2, f"Usage: no_byte.tbk {ANOTHER_NAME}"),
+    ("words.tbk words.tbk", 2, f"Usage: words.tbk {ANOTHER_NAME}"),
+    ("words.tbk to_nothing.tbk", 2, f"Usage: to_nothing.tbk {ANOTHER_NAME}"),
+    (
+        "words.tbk nowhere/new.tbk",
+        1,
+        "Device: cannot find nowhere/new.tbk; look at its name and at its folder",
+    ),
+    ("words.tbk 64", 2, "Usage: FORM words.tbk 64: NEW is a number; write ./NEW"),
+    ("words.tbk", 2, "Usage: FORM words.tbk: NEW is missing"),
+    ("words.tbk new.tbk more", 2, "Usage: FORM words.tbk new.tbk more: too many words"),
+]
+
+
+@pytest.mark.parametrize("words, status, line", NO_COPIES, ids=[it[0] for it in NO_COPIES])
+@pytest.mark.parametrize("form", ["salvage", "backup"])
+def test_copies_of_no_ledger(tbd, shelf, form, words, status, line):
+    """Nothing is made of what is no ledger, or of names that cannot be."""
+    before = sorted(os.listdir(shelf))
+    told = told_of(tbd, shelf, [form, *words.split()])
+    well = told[:2] == (status, b"") and told[2].count("\n") == 1
+    well = well and told[2].startswith(f"tbd: {line.replace('FORM', form)}")
+    case("its line", well, told)
+    case("nothing is made", sorted(os.listdir(shelf)) == before, os.listdir(shelf))
+    with open(os.path.join(shelf, "taken.tbk"), "rb") as file:
         case("a file that exists is not overwritten", file.read() == b"another file")
 
 
