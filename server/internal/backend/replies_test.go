@@ -27,7 +27,7 @@ func answers(t *testing.T) (*queue, *keeping, [][]byte) {
 		r.asker = frames.Header(r.Frame).Asker()
 		q.asked.push(r)
 	}
-	long := append(replyTo(2), make([]byte, 8*3)...)
+	long := append(replyTo(2), "a body of 24 bytes, none 0"[:8*3]...)
 	binary.LittleEndian.PutUint32(long[32:], 8*3)
 	return q, from, [][]byte{replyTo(1), long}
 }
