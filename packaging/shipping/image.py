@@ -90,7 +90,7 @@ def config(record: Record, diff: str) -> dict[str, Any]:
         "created": record.date,
         "config": {
             "User": f"{USER}:{USER}",
-            "Env": ["PATH=/usr/bin"],
+            "Env": ["PATH=/usr/bin", "GLIBC_TUNABLES=glibc.malloc.hugetlb=1"],
             "Entrypoint": ["/usr/bin/tb-listen"],
             "Cmd": list(LISTENS),
             "WorkingDir": f"/{STATE}",

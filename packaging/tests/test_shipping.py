@@ -133,6 +133,7 @@ def test_units_have_the_paths_of_the_package(tmp_path: Path) -> None:
     text = (tmp_path / "tb-listen.service").read_text()
     assert "/usr/bin/tbd run ${LEDGER} $PLACES" in text and "User=telovamish" in text
     assert "RestartPreventExitStatus=" in text and "/opt/" not in text
+    assert "Environment=GLIBC_TUNABLES=glibc.malloc.hugetlb=1" in text
 
 
 def test_an_installed_page_has_no_link_to_what_is_not_installed(tmp_path: Path) -> None:

@@ -7,6 +7,7 @@ import shlex
 import shutil
 import socket
 import subprocess
+from pathlib import Path
 
 import pytest
 from tb_client import Session, Socket
@@ -101,6 +102,13 @@ def units():
     return [ROOT / it for it in listed.stdout.split()]
 
 
+def test_the_environment_reaches_the_server(start):
+    """As the units set it, for the server's memory."""
+    listener = start(env={"GLIBC_TUNABLES": "glibc.malloc.hugetlb=1"})
+    environment = Path(f"/proc/{listener.server()}/environ").read_bytes().split(b"\0")
+    assert b"GLIBC_TUNABLES=glibc.malloc.hugetlb=1" in environment
+
+
 @pytest.mark.parametrize("unit", units(), ids=lambda it: it.name)
 def test_a_unit_is_valid(unit, folder):
     """Where the listener is installed at its place."""
@@ -125,6 +133,7 @@ def test_the_words_of_a_unit(unit):
     options = command[: command.index("--")]
     assert "--log-json" in options and "--status" in options
     assert "\nKillMode=mixed\n" in text
+    assert "\nEnvironment=GLIBC_TUNABLES=glibc.malloc.hugetlb=1\n" in text
     assert "\nExecReload=/bin/kill -HUP $MAINPID\n" in text
     assert int(re.search(r"^RestartSec=([0-9]+)$", text, re.M)[1]) >= 2
     slow = float(options[options.index("--slow") + 1]) if "--slow" in options else 30
