@@ -17,6 +17,7 @@ from .serving import waited
 
 NAME = "telovamish-trial"
 CRUN = ["crun", "--cgroup-manager=disabled"]
+UNIFIED = Path("/sys/fs/cgroup/unified")
 LEDGER = f"/{image.STATE}/ledger.tbk"
 CLIENT = """
 import sys
@@ -28,6 +29,13 @@ with tb.ClientSync(cluster_id=0, replica_addresses=sys.argv[1]) as client:
     assert not client.create_transfers([tb.Transfer(id=tb.id(), **sale) for _ in range(100)])
     print(client.lookup_accounts([2])[0].credits_posted)
 """
+
+
+def with_one_kind_of_cgroups() -> None:
+    """Has crun run on a system that mounts both kinds of cgroups. This process has a mount
+    namespace of its own."""
+    if UNIFIED.is_mount():
+        run(["umount", str(UNIFIED)])
 
 
 class Image:
