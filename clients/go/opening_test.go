@@ -8,6 +8,7 @@ import (
 	"errors"
 	"flag"
 	"fmt"
+	"io"
 	"math/rand"
 	"os"
 	"os/exec"
@@ -356,7 +357,8 @@ func TestMomentsNeverFall(t *testing.T) {
 }
 
 // TestHelper is no test: it is the program that TestKills kills. It makes the transfers 1 to COUNT,
-// except those of the file MADE, in which each gets a line once its call has returned.
+// except those of the file MADE, in which each gets a line once its call has returned. When all are
+// made it waits for the end of its input: it is there to be killed.
 func TestHelper(t *testing.T) {
 	path := os.Getenv(helping)
 	if path == "" {
@@ -397,6 +399,7 @@ func TestHelper(t *testing.T) {
 	}
 	close(ids)
 	all.Wait()
+	io.Copy(io.Discard, os.Stdin)
 }
 
 // madeBy are the transfers whose calls returned.
@@ -419,10 +422,15 @@ func madeBy(path string) map[int]bool {
 func TestKills(t *testing.T) {
 	path, made, count := fileIn(t), fileIn(t), 50**kills
 	program := keeper(t, "")
+	var input io.Closer
 	start := func() *exec.Cmd {
 		it := exec.Command(os.Args[0], "-test.run=^TestHelper$")
 		it.Env = append(os.Environ(), helping+"="+path, "MADE="+made, "TBD="+program, fmt.Sprint("COUNT=", count))
 		it.Stdout = os.Stderr
+		var err error
+		if input, err = it.StdinPipe(); err != nil {
+			t.Fatal(err)
+		}
 		if err := it.Start(); err != nil {
 			t.Fatal(err)
 		}
@@ -441,6 +449,7 @@ func TestKills(t *testing.T) {
 		it.Wait()
 		it = start()
 	}
+	input.Close()
 	if err := it.Wait(); err != nil {
 		t.Error(err)
 	}

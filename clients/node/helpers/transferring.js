@@ -7,7 +7,8 @@
 //
 // The transfers have the ids 1 to COUNT. The id of each is a line of MADE once its call has
 // returned; those are not made again. It ends with status 3 if a transfer is refused that no former
-// process can have made.
+// process can have made. When all are made it waits for the end of its input: it is there to be
+// killed.
 
 const fs = require("node:fs");
 
@@ -45,6 +46,7 @@ async function main(file, program, count, path) {
     }
   };
   await Promise.all(Array.from({ length: CALLERS }, call));
+  for await (const _ of process.stdin);
   await ledger.close();
 }
 

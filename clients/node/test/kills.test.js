@@ -19,7 +19,7 @@ const PAUSE_MAX = 20; // milliseconds before a kill
 const PROGRAM = path.join(__dirname, "..", "helpers", "transferring.js");
 
 function started(words) {
-  return spawn(process.execPath, words, { stdio: ["ignore", "inherit", "inherit"] });
+  return spawn(process.execPath, words, { stdio: ["pipe", "inherit", "inherit"] });
 }
 
 test("each call that returned is there once, nothing is twice, no child is left", async (t) => {
@@ -42,6 +42,7 @@ test("each call that returned is there once, nothing is twice, no child is left"
       it = started(words);
     }
   }
+  it.stdin.end();
   if (it.exitCode === null) await once(it, "exit");
   assert.equal(it.exitCode, 0);
   await until(() => serving(file).length === 0);

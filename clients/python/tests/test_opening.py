@@ -663,7 +663,8 @@ class Killed:
         self.start()
 
     def start(self):
-        self.process = subprocess.Popen(self.words, stderr=subprocess.PIPE, text=True)
+        pipe = subprocess.PIPE
+        self.process = subprocess.Popen(self.words, stdin=pipe, stderr=pipe, text=True)
 
     def wait_for(self, count):
         """Waits until this many calls have returned."""
@@ -680,6 +681,7 @@ class Killed:
     def kill(self):
         self.process.kill()
         assert self.process.wait(SECONDS) == -signal.SIGKILL, self.process.stderr.read()
+        self.process.stdin.close()
         self.process.stderr.close()
         self.start()
 

@@ -19,6 +19,8 @@ class Operation(enum.IntEnum):
     CREATE_TRANSFERS = 130
     LOOKUP_ACCOUNTS = 131
     LOOKUP_TRANSFERS = 132
+
+
 # end of operation
 
 
@@ -32,6 +34,8 @@ class Status(enum.IntEnum):
     Collision = 5
     NewerRequest = 6
     NotYet = 7
+
+
 # end of status
 
 
@@ -71,6 +75,8 @@ class AccountFlags(enum.IntFlag):
     HISTORY = 8
     IMPORTED = 16
     CLOSED = 32
+
+
 # end of account_flags
 
 
@@ -96,6 +102,8 @@ class TransferFlags(enum.IntFlag):
     CLOSING_DEBIT = 64
     CLOSING_CREDIT = 128
     IMPORTED = 256
+
+
 # end of transfer_flags
 
 
@@ -145,6 +153,8 @@ class CreateAccountResult(enum.IntEnum):
     EXISTS_WITH_DIFFERENT_LEDGER = 19
     EXISTS_WITH_DIFFERENT_CODE = 20
     EXISTS = 21
+
+
 # end of account_result
 
 
@@ -270,4 +280,6 @@ class CreateTransferResult(enum.IntEnum):
     CREDIT_ACCOUNT_ALREADY_CLOSED = 66
     EXISTS_WITH_DIFFERENT_LEDGER = 67
     ID_ALREADY_FAILED = 68
+
+
 # end of transfer_result

@@ -4,7 +4,7 @@
 
 The transfers have the ids 1 to COUNT. The id of each is a line of MADE once its call has returned;
 those are not made again. It ends with status 3 if a transfer is refused that no former process can
-have made.
+have made. When all are made it waits for the end of its input: it is there to be killed.
 """
 import os
 import sys
@@ -68,6 +68,7 @@ def main(file, program, count, path, *options):
             it.start()
         for it in threads:
             it.join()
+        sys.stdin.read()
 
 
 if __name__ == "__main__":

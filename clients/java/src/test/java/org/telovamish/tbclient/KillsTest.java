@@ -33,7 +33,8 @@ public class KillsTest {
         return new ProcessBuilder("java", "-XX:+UseSerialGC", "-XX:TieredStopAtLevel=1", "-cp",
                 path, "org.telovamish.tbclient.Transferring", file.toString(), program.toString(),
                 String.valueOf(COUNT), made.toString())
-                .inheritIO()
+                .redirectOutput(ProcessBuilder.Redirect.INHERIT)
+                .redirectError(ProcessBuilder.Redirect.INHERIT)
                 .start();
     }
 
@@ -89,6 +90,7 @@ public class KillsTest {
         program = Keepers.keeper(root, "");
         Process it = killed();
         try {
+            it.getOutputStream().close();
             assertEquals(0, it.waitFor());
         } finally {
             it.destroyForcibly();

@@ -74,7 +74,8 @@ final class Transferring {
     /**
      * Makes transfers with the ids 1 to COUNT. The id of each is a line of MADE once its call has
      * returned; those are not made again. Ends with status 3 if a transfer is refused that no
-     * former process can have made.
+     * former process can have made. When all are made it waits for the end of its input: it is
+     * there to be killed.
      *
      * @param words FILE PROGRAM COUNT MADE
      * @throws Exception if one fails
@@ -104,6 +105,7 @@ final class Transferring {
             for (Thread thread : threads) {
                 thread.join();
             }
+            System.in.readAllBytes();
         }
     }
 }
