@@ -91,16 +91,20 @@ class Readme(unittest.TestCase):
             said = self.ran("-c", blocks()[2].replace("3001", listener.path))
         self.assertEqual(said, "[10]\n")
 
+    def test_records_in_columns(self):
+        block = blocks()[3] + "    print(ledger.lookup_accounts([2])[0].credits_posted)\n"
+        self.assertEqual(self.ran("-c", block, said=MADE), "10000\n")
+
     @has_program
     def test_the_program_of_a_session(self):
-        said = self.ran("-c", blocks()[3].replace("../../crates/tbs/out/tbs", PROGRAM))
+        said = self.ran("-c", blocks()[4].replace("../../crates/tbs/out/tbs", PROGRAM))
         self.assertEqual(said, "100\n")
 
     @has_program
     def test_a_crash_and_an_eviction(self):
         """A sale, a crash before its reply came, a lookup in each of two lives, and an eviction
         while a sale is in doubt."""
-        program, crash, eviction = blocks()[3:6]
+        program, crash, eviction = blocks()[4:7]
         sale, lookup = map(textwrap.dedent, program.split("\n\n")[2:])
         lives = [crash, lookup, MEANWHILE, crash, lookup, IN_DOUBT, EVICT, eviction]
         said = self.ran("-c", "".join([BEGIN, sale, IN_DOUBT, *lives, END]))

@@ -19,6 +19,7 @@ result codes.
 import logging
 
 from .clients import ClientAsync, ClientSync
+from .columns import AccountColumns, TransferColumns
 from .errors import (
     REFUSALS,
     BadReply,
@@ -83,6 +84,7 @@ logging.getLogger("tb_client").addHandler(logging.NullHandler())
 
 __all__ = [
     "Account",
+    "AccountColumns",
     "AccountFilter",
     "AccountFilterFlags",
     "AccountFlags",
@@ -145,6 +147,7 @@ __all__ = [
     "Socket",
     "Status",
     "Transfer",
+    "TransferColumns",
     "TransferFlags",
     "Transport",
     "amount_max",

@@ -5,12 +5,28 @@ import array
 import functools
 import operator
 import sys
-from typing import Any, Callable, Dict, Iterable, List, NamedTuple, Sequence, Tuple, Type
+from typing import (
+    Any,
+    Callable,
+    ClassVar,
+    Dict,
+    Generic,
+    Iterable,
+    Iterator,
+    List,
+    NamedTuple,
+    Sequence,
+    Tuple,
+    Type,
+    Union,
+    cast,
+)
 
-from .errors import Invalid
+from .errors import Invalid, InvalidType, InvalidValue
 from .layout import ACCOUNT_PLACES, RECORD, TRANSFER_PLACES
 from .names import AccountFlags, TransferFlags
 from .records import Account, Record, Transfer
+from .values import kind_of, whole
 
 FEW = 16  # records, up to which each is packed by itself
 HALF = 8  # bytes of a half of a number of 16
@@ -95,6 +111,106 @@ def _put_wide(body: bytearray, at: int, column: List[int]) -> None:
         for half in range(2):
             halves = memoryview(numbers).cast("Q")[half::2]
             memoryview(body).cast("Q")[at // HALF + half :: RECORD // HALF] = halves
+
+
+# From columns to bytes
+
+Column = Union[int, "array.array[int]", memoryview, bytes, bytearray, Any]
+
+
+class _Columns(Generic[Record]):
+    """Records by their fields. A field is a number for all records, or a column with one for each:
+    an array, a memoryview, an array of numpy. Their numbers are unsigned and as long as the field
+    (array's types H, I and Q). A field of 128 bits takes its lower halves (Q), or 16 bytes for
+    each, the low one first. A field that is omitted is 0. The numbers are taken as they are now."""
+
+    _kind: ClassVar[Any]
+
+    def __init__(self, **fields: Column) -> None:
+        name, places = type(self).__name__, FIELDS[self._kind]
+        columns = {field: column for field, column in fields.items() if not isinstance(column, int)}
+        for field in fields:
+            if field not in places:
+                raise InvalidValue(f"{name}.{field}", "is no field")
+        if "id" not in columns:
+            raise InvalidType(f"{name}.id", "must be a column")
+        views = {
+            field: _viewed(f"{name}.{field}", column, places[field])
+            for field, column in columns.items()
+        }
+        sizes = {field: len(halves[0]) for field, halves in views.items()}
+        for field, size in sizes.items():
+            if size != sizes["id"]:
+                raise InvalidValue(f"{name}.{field}", f"has {size} numbers, and id {sizes['id']}")
+        body = bytearray(RECORD * sizes["id"])
+        for field, halves in views.items():
+            _put_halves(body, places[field].at, halves)
+        for field, number in fields.items():
+            if field not in columns:
+                most = 2 ** (8 * places[field].size) - 1
+                _put_same(body, places[field], whole(f"{name}.{field}", number, most))
+        self.body = bytes(body)
+
+    def __len__(self) -> int:
+        return len(self.body) // RECORD
+
+    def __iter__(self) -> Iterator[Record]:
+        return iter(unpacked(self._kind, self.body))
+
+    def __repr__(self) -> str:
+        return f"<{type(self).__name__} of {len(self)}>"
+
+
+class AccountColumns(_Columns[Account]):
+    _kind = Account
+    __doc__ = (_Columns.__doc__ or "").replace("Records", "Accounts", 1)
+
+
+class TransferColumns(_Columns[Transfer]):
+    _kind = Transfer
+    __doc__ = (_Columns.__doc__ or "").replace("Records", "Transfers", 1)
+
+
+def _viewed(name: str, column: Column, field: _Field) -> List[memoryview]:
+    """The numbers of a column, as bytes have them; two halves of wide ones, if both are given."""
+    try:
+        view = memoryview(cast(Any, column))
+    except TypeError:
+        problem = f"must be a number or a column of numbers, not {kind_of(column)}"
+        raise InvalidType(name, problem) from None
+    if view.ndim != 1 or not view.c_contiguous:
+        raise InvalidType(name, "must be a column without gaps, of one dimension")
+    form = view.format.lstrip("@=")
+    if field.size > HALF and form in ("B", "c"):
+        if view.nbytes % (2 * HALF):
+            raise InvalidValue(name, f"has {view.nbytes} bytes, and takes 16 for each record")
+        halves = view.cast("B").cast("Q")
+        return [halves[::2], halves[1::2]]
+    size = min(field.size, HALF)
+    if form not in ("H", "I", "L", "Q") or view.itemsize != size:
+        raise InvalidType(
+            name, f"must have unsigned numbers of {size} bytes ({CODES[size]}), not {form}"
+        )
+    return [view.cast("B").cast(CODES[size])]
+
+
+def _put_halves(body: bytearray, at: int, halves: Sequence[memoryview]) -> None:
+    for place, half in enumerate(halves):
+        if IS_BIG and len(halves) == 1:
+            _put(body, at, array.array(half.format, half))
+            continue
+        size = half.itemsize
+        there = memoryview(body).cast(half.format)
+        there[at // size + place :: RECORD // size] = half
+
+
+def _put_same(body: bytearray, field: _Field, number: int) -> None:
+    """Puts one number into all records."""
+    size = min(field.size, HALF)
+    for at in range(0, field.size, size):
+        part = number >> 8 * at & 2 ** (8 * size) - 1
+        if part:
+            _put(body, field.at + at, array.array(CODES[size], [part]) * (len(body) // RECORD))
 
 
 # From bytes to records

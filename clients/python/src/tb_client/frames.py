@@ -16,7 +16,7 @@ from typing import (
     cast,
 )
 
-from .columns import packed, unpacked
+from .columns import AccountColumns, TransferColumns, packed, unpacked
 from .errors import BadReply, InvalidType, InvalidValue
 from .layout import (
     HEADER,
@@ -39,6 +39,10 @@ STATUS_MAX = max(Status)
 NO_CLIENT = bytes(16)  # what no client has as its id
 REGISTER = int(Operation.register)
 
+COLUMNS = {
+    Operation.create_accounts: AccountColumns,
+    Operation.create_transfers: TransferColumns,
+}
 Item = Union[Account, Transfer, int]
 Said = Union[List[EventResult], List[Account], List[Transfer], None]
 T = TypeVar("T")
@@ -97,6 +101,11 @@ def body_of(operation: Operation, items: Iterable[object]) -> bytes:
             raise InvalidValue("items", "of a register must be empty")
         return b""
     name = ITEM_NAMES[operation]
+    columns: Any = COLUMNS.get(operation)
+    if columns and isinstance(items, columns):
+        if len(items) > ITEMS_MAX:
+            raise InvalidValue(name, f"must have at most {ITEMS_MAX} items, not {len(items)}")
+        return cast(bytes, items.body)
     given = listed(name, items, ITEMS_MAX)
     if operation in (Operation.lookup_accounts, Operation.lookup_transfers):
         return b"".join(u128(whole(f"{name}[{at}]", it, U128)) for at, it in enumerate(given))
