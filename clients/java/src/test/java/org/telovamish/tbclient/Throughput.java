@@ -8,6 +8,8 @@ import java.util.concurrent.Future;
 
 /** How many transfers a second this client makes: throughput.py runs it. */
 public final class Throughput {
+    private static final int WARM = 20; // requests
+
     private Throughput() {}
 
     private static Transfer transfer() {
@@ -73,6 +75,7 @@ public final class Throughput {
         Session.register(new SocketTransport(Address.unix(words[1])))
                 .createAccounts(List.of(account.id(1).build(), account.id(2).build()));
         List<Runnable> requests = requests(words[0], words[1], connections, count);
+        requests.forEach(it -> repeat(it, WARM)); // until Java has compiled what is measured
         ExecutorService threads = Executors.newFixedThreadPool(connections);
         long began = System.nanoTime();
         List<Future<?>> work = new ArrayList<>();
