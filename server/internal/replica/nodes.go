@@ -1,0 +1,294 @@
+package replica
+
+import (
+	"bytes"
+	"fmt"
+	"sort"
+	"strings"
+
+	"telovamish.org/server/internal/entries"
+	"telovamish.org/server/internal/report"
+)
+
+const (
+	latest    = 30 * second // after which a node that does not answer is waited for no longer
+	nodePause = second / 5  // before the nodes that did not answer are asked again
+)
+
+// nodes reads the engine's nodes one by one, when what was read does not fit. An entry that is not what
+// its writer made is read again at each other node: a disk has changed it at one of them. If a writer
+// had read another log, the nodes say who has the right one.
+type nodes struct {
+	*Core
+	rotten map[string]int // entries that did not fit, by node
+	doubts map[entries.Writer]bool
+
+	ask       uint64
+	search    *search   // for an entry
+	survey    *survey   // of the log
+	later     []*survey // that come after it
+	isDoubted bool      // another replica doubts this one's log
+	doubtedBy map[string]bool
+}
+
+// search is for the entry after what was taken, as another node has it.
+type search struct {
+	node   string // that has it as it does not fit
+	why    *doubt
+	left   []string // that did not answer yet
+	at     int      // the one of them that is asked now
+	others map[string][]byte
+	until  int64
+	again  int64 // when those that are left are asked again
+}
+
+// survey counts the nodes by the hash of the log that they have from a mark up to a position.
+type survey struct {
+	base     mark
+	position uint64
+	mine     entries.Hash
+	isMine   bool // mine is known
+	at       int  // the node that is asked now
+	reached  uint64
+	digest   entries.Hash
+	found    map[entries.Hash]int
+	then     func() // if no more nodes have another log
+}
+
+func (n *nodes) init(c *Core) {
+	n.Core, n.rotten = c, map[string]int{}
+	n.doubts, n.doubtedBy = map[entries.Writer]bool{}, map[string]bool{}
+}
+
+// askNode asks one node for its entries after a place.
+func (n *nodes) askNode(node string, after int64) {
+	n.ask++
+	n.do(&ReadNode{Ask: n.ask, Node: node, After: after})
+}
+
+func (e *NodeRead) apply(c *Core) {
+	n := &c.nodes
+	switch {
+	case e.Ask != n.ask:
+	case n.survey != nil:
+		n.surveyed(e.Item)
+	case n.search != nil:
+		n.searched(e.Item)
+	}
+}
+
+// lookElsewhere looks for the next entry at each node.
+func (n *nodes) lookElsewhere(node string, why *doubt) {
+	it := &search{node: node, why: why, others: map[string][]byte{}, again: never}
+	it.until = n.now.Running + latest
+	for _, other := range n.settings.Nodes { // that it was read from comes last
+		if other != node {
+			it.left = append(it.left, other)
+		}
+	}
+	it.left = append(it.left, node)
+	n.search = it
+	n.searchOn()
+}
+
+// searchOn asks the next node; after all of them those that did not answer, after a pause.
+func (n *nodes) searchOn() {
+	it := n.search
+	switch {
+	case it.at < len(it.left):
+		n.askNode(it.left[it.at], n.reader.place)
+	case len(it.left) > 0 && n.now.Running <= it.until:
+		it.again = n.now.Running + nodePause
+	default:
+		n.search = nil
+		// an entry that was not read may be missing here
+		n.test(n.taken.Position, func() { n.failBy(it) })
+	}
+}
+
+// searched takes the entry as the node that was asked has it.
+func (n *nodes) searched(item *Item) {
+	it := n.search
+	if item == nil {
+		it.at++
+		n.searchOn()
+		return
+	}
+	n.do(&StopNode{n.ask})
+	n.ask++ // what it has after that does not matter
+	node := it.left[it.at]
+	it.left = append(it.left[:it.at], it.left[it.at+1:]...)
+	found := Item{Place: item.Place, Data: append([]byte{}, item.Data...), Node: node}
+	n.tryAt(it, found)
+}
+
+// tryAt takes an entry as a node has it, or goes on with the search.
+func (n *nodes) tryAt(it *search, found Item) {
+	why := n.reader.take(found)
+	switch {
+	case n.isOver:
+	case why == nil:
+		n.search = nil
+		n.sayRotten(it, found.Node)
+		n.reader.goOn(true, true)
+	case why.isOther:
+		n.settle(found, why, func() { n.tryAt(it, found) })
+	default:
+		it.others[found.Node] = why.data
+		n.searchOn()
+	}
+}
+
+// sayRotten counts an entry that another node has as it was written. Each node is named once.
+func (n *nodes) sayRotten(it *search, good string) {
+	bad := append([]string{it.node}, keysOf(it.others)...)
+	said := map[string]bool{}
+	for _, node := range bad {
+		if said[node] || node == good {
+			continue
+		}
+		said[node] = true
+		if n.rotten[node] == 0 {
+			n.say(report.Error, "%s is rotten: the entry at %d: %s; %s has it as it was written",
+				node, n.taken.Position, it.why.why, good)
+		}
+		n.rotten[node]++
+	}
+}
+
+func keysOf(of map[string][]byte) []string {
+	var keys []string
+	for key := range of {
+		keys = append(keys, key)
+	}
+	sort.Strings(keys)
+	return keys
+}
+
+// failBy ends the replica by an entry that fits at no node. One that they all have was written so.
+func (n *nodes) failBy(it *search) {
+	said := fmt.Sprintf("the entry at %d: %s", n.taken.Position+1, it.why.why)
+	isOne := true
+	for _, data := range it.others {
+		isOne = isOne && bytes.Equal(data, it.why.data)
+	}
+	if isOne && (len(it.others) > 1 || !entries.IsChanged(it.why.data)) {
+		n.fail(it.why.name, "%s", said)
+		return
+	}
+	names := strings.Join(keysOf(it.others), ", ")
+	if names == "" {
+		names = "the engine"
+	}
+	n.fail(Rotten, "%s; it fits at none of %s: take a peer's copy", said, names)
+}
+
+// settle compares the log with that of the nodes. If they do not have another one, the writer of an
+// entry is doubted.
+func (n *nodes) settle(item Item, why *doubt, then func()) {
+	n.test(why.position, func() {
+		n.doubts[why.writer] = true
+		n.say(report.Error, "writer %s %s up to position %d", why.writer, why.why, why.position)
+		n.reporter.ask()
+		then()
+	})
+}
+
+// test ends the replica if more nodes have another log up to a position than have this one's.
+func (n *nodes) test(position uint64, then func()) {
+	it := &survey{position: position, found: map[entries.Hash]int{}, then: then}
+	if n.comparator.agreed.position <= position {
+		it.base = n.comparator.agreed
+	}
+	it.mine, it.isMine = n.taken.Hash(position)
+	if n.survey != nil {
+		n.later = append(n.later, it)
+		return
+	}
+	n.survey = it
+	n.surveyOn()
+}
+
+// testWhereDoubted compares the log with that of the nodes when another replica doubts this one.
+func (n *nodes) testWhereDoubted() {
+	if n.isDoubted && n.clock.isMet && n.search == nil && n.survey == nil {
+		n.isDoubted = false
+		n.test(n.taken.Position, func() {})
+	}
+}
+
+// surveyOn asks the next node for its log.
+func (n *nodes) surveyOn() {
+	it := n.survey
+	for ; it.at < len(n.settings.Nodes); it.at++ {
+		if it.reached, it.digest = it.base.position, it.base.digest; it.reached < it.position {
+			n.askNode(n.settings.Nodes[it.at], it.base.place)
+			return
+		}
+		it.found[it.digest]++
+	}
+	n.survey = nil
+	n.judge(it)
+	if len(n.later) > 0 && n.survey == nil && !n.isOver {
+		n.survey, n.later = n.later[0], n.later[1:]
+		n.surveyOn()
+	}
+}
+
+// surveyed takes one more entry of the node that is asked.
+func (n *nodes) surveyed(item *Item) {
+	it := n.survey
+	if item != nil {
+		it.reached++
+		it.digest = it.digest.Next(pairsOf(item.Data))
+		if it.reached < it.position {
+			return
+		}
+		it.found[it.digest]++
+		n.do(&StopNode{n.ask})
+		n.ask++
+	}
+	it.at++
+	n.surveyOn()
+}
+
+// judge ends the replica if more nodes have one other log than have this one's.
+func (n *nodes) judge(it *survey) {
+	others, same := 0, 0
+	for digest, count := range it.found {
+		if it.isMine && digest == it.mine {
+			same = count
+		} else if count > others {
+			others = count
+		}
+	}
+	if others > same {
+		n.fail(Rotten, "%d nodes of the engine have another log up to position %d than was read here: "+
+			"take a peer's copy", others, it.position)
+		return
+	}
+	it.then()
+}
+
+// pairsOf are the pairs of an entry, or the bytes if they are not an entry.
+func pairsOf(data []byte) []byte {
+	if entry, err := entries.Parse(data); err == nil {
+		return entry.Pairs
+	}
+	return data
+}
+
+func (n *nodes) due(now int64) int64 {
+	n.testWhereDoubted()
+	if n.search == nil || n.survey != nil {
+		return never
+	}
+	if now >= n.search.again {
+		n.search.again, n.search.at = never, 0
+		n.searchOn()
+	}
+	if n.search == nil {
+		return never
+	}
+	return n.search.again
+}

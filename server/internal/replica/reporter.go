@@ -1,0 +1,176 @@
+package replica
+
+import (
+	"encoding/json"
+	"fmt"
+	"sort"
+	"strings"
+)
+
+const reportEvery = 10 * second // after which a replica reports, if its position has changed
+
+// reporter reports of this replica, when it is asked to, and now and then if something has changed. It
+// reads what others report: their clocks, that they ask for this one's, that they doubt its log, and that
+// they diverged from it.
+type reporter struct {
+	*Core
+	isAsked   bool // a report is to be written
+	isWriting bool
+	at        int64
+	reported  uint64 // the position that was reported
+	hasBegun  bool
+	sending   uint64
+	place     int64            // of the last report that was read
+	isHeard   bool             // an own report was read
+	heard     map[string]int64 // the last hello of others, which are to be answered
+}
+
+func (r *reporter) init(c *Core) { r.Core, r.heard, r.at = c, map[string]int64{}, never }
+
+// said is a report, as JSON. Names are sorted.
+type said struct {
+	Address  string           `json:"address"`
+	Answered uint64           `json:"answered"`
+	Clock    int64            `json:"clock"`
+	Doubts   []string         `json:"doubts,omitempty"`
+	Fault    string           `json:"fault,omitempty"`
+	Heard    map[string]int64 `json:"heard"`
+	Hello    int64            `json:"hello,omitempty"`
+	Moment   uint64           `json:"moment"`
+	Place    int64            `json:"place"`
+	Position uint64           `json:"position"`
+	Replies  string           `json:"replies"`
+	Rotten   []string         `json:"rotten,omitempty"`
+	Writer   string           `json:"writer"`
+}
+
+// text is what is reported now.
+func (r *reporter) text(fault string) []byte {
+	it := said{
+		Address: r.settings.Address, Answered: r.follower.answered, Clock: r.now.Wall, Fault: fault,
+		Heard: r.heard, Moment: r.taken.LastMoment, Place: r.copier.place, Position: r.copier.position,
+		Replies: r.follower.digest.String(), Writer: r.settings.Writer.String(),
+	}
+	if !r.clock.isMet {
+		it.Hello = r.clock.hello
+	}
+	for writer := range r.nodes.doubts {
+		it.Doubts = append(it.Doubts, writer.String())
+	}
+	for node := range r.nodes.rotten {
+		it.Rotten = append(it.Rotten, node)
+	}
+	sort.Strings(it.Doubts)
+	sort.Strings(it.Rotten)
+	data, err := json.Marshal(it)
+	if err != nil {
+		panic(err) // numbers and texts are JSON
+	}
+	return data
+}
+
+// ask has a report written soon.
+func (r *reporter) ask() { r.isAsked = true }
+
+func (e *ReportWritten) apply(c *Core) {
+	r := &c.reporter
+	r.isWriting = false
+	if e.IsWritten {
+		r.reported, r.hasBegun = r.sending, true
+		c.copier.reportedBytes = c.copier.synced
+	}
+	r.at = c.now.Running + reportEvery
+	c.clock.heard()
+}
+
+// due writes a report if it is time, and no other one is being written.
+func (r *reporter) due(now int64) int64 {
+	mayWrite := r.clock.phase == answering || r.clock.isMet
+	if !mayWrite || r.isWriting {
+		return never
+	}
+	isChanged := !r.hasBegun || r.reported != r.copier.position
+	if r.isAsked || now >= r.at && isChanged {
+		r.isAsked, r.isWriting = false, true
+		r.sending = r.copier.position
+		r.do(&WriteReport{r.text("")})
+		return never
+	}
+	if now >= r.at {
+		r.at = now + reportEvery
+	}
+	return r.at
+}
+
+// heardReport is a report of another replica, whose program may be another one: a field that is not what
+// it is to be is none.
+type heardReport map[string]json.RawMessage
+
+func (h heardReport) text(name string) (text string) {
+	json.Unmarshal(h[name], &text)
+	return text
+}
+
+func (h heardReport) number(name string) (number int64) {
+	json.Unmarshal(h[name], &number)
+	return number
+}
+
+func (e *ReportRead) apply(c *Core) {
+	r := &c.reporter
+	if e.Place != 0 && e.Place <= r.place {
+		return
+	}
+	r.place = e.Place
+	if e.Name == c.settings.Name {
+		r.hearOwn(e.Data)
+		return
+	}
+	var it heardReport
+	if json.Unmarshal(e.Data, &it) != nil {
+		return
+	}
+	var heard map[string]json.Number
+	json.Unmarshal(it["heard"], &heard)
+	if hello, err := heard[c.settings.Name].Int64(); err == nil {
+		c.clock.hear(e.Name, hello, it.number("clock"))
+	}
+	r.hearHello(e.Name, it.number("hello"))
+	r.hearDoubt(it)
+	if why := it.text("fault"); why != "" && strings.Contains(why, c.settings.Writer.String()) {
+		c.fail(Diverged, "%s says: %s", e.Name, why)
+	}
+	c.clock.heard()
+}
+
+// hearHello has a hello answered, once: answers to those who ask too would be answered by them without an
+// end.
+func (r *reporter) hearHello(name string, hello int64) {
+	if hello != 0 && hello != r.heard[name] && !r.has(AnswersNoHello) {
+		r.heard[name] = hello
+		r.ask()
+	}
+}
+
+// hearDoubt has the log compared with that of the nodes if another replica doubts it, once for each.
+func (r *reporter) hearDoubt(it heardReport) {
+	var doubts []string
+	json.Unmarshal(it["doubts"], &doubts)
+	for _, writer := range doubts {
+		if by := it.text("writer"); writer == r.settings.Writer.String() && !r.nodes.doubtedBy[by] {
+			r.nodes.doubtedBy[by] = true
+			r.nodes.isDoubted = true
+		}
+	}
+}
+
+// hearOwn ends the replica if another one reports by its name: what is trimmed goes by the names.
+func (r *reporter) hearOwn(data []byte) {
+	isMine := strings.Contains(string(data), r.settings.Writer.String())
+	if r.isHeard && !isMine {
+		r.end(1, fmt.Sprintf("another replica has the name %s", r.settings.Name), nil)
+		return
+	}
+	r.isHeard = r.isHeard || isMine
+	r.clock.heard()
+}
