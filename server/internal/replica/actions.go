@@ -41,6 +41,9 @@ type ReadNode struct {
 	After int64
 }
 
+// ReadTrimmed asks for the position and the place up to which the log was trimmed: TrimmedRead.
+type ReadTrimmed struct{}
+
 // StopNode ends a ReadNode.
 type StopNode struct{ Ask uint64 }
 
@@ -111,6 +114,7 @@ func (*Read) isAction()          {}
 func (*LookElsewhere) isAction() {}
 func (*Append) isAction()        {}
 func (*ReadNode) isAction()      {}
+func (*ReadTrimmed) isAction()   {}
 func (*StopNode) isAction()      {}
 func (*StartServer) isAction()   {}
 func (*Feed) isAction()          {}

@@ -26,5 +26,6 @@ const (
 	ReadsATrimmedLog               // a log that begins after the copy is read
 	GoesByAnAheadClock             // a clock that is ahead of others is no fault
 	AnswersNoHello                 // no clock is sent to who asks
+	SurveysWhatWasTrimmed          // nodes are asked for entries that were trimmed
 	Bugs
 )

@@ -87,6 +87,12 @@ type NodeRead struct {
 	Item *Item
 }
 
+// TrimmedRead is up to where the log was trimmed, asked for by ReadTrimmed; zeros if that is not known.
+type TrimmedRead struct {
+	Position uint64
+	Place    int64
+}
+
 // ServerBegan is that a server's process runs, which is given entries from the first one on.
 type ServerBegan struct{}
 

@@ -44,15 +44,20 @@ type search struct {
 
 // survey counts the nodes by the hash of the log that they have from a mark up to a position.
 type survey struct {
-	base     mark
-	position uint64
-	mine     entries.Hash
-	isMine   bool // mine is known
-	at       int  // the node that is asked now
-	reached  uint64
-	digest   entries.Hash
-	found    map[entries.Hash]int
-	then     func() // if no more nodes have another log
+	base      mark
+	position  uint64
+	mine      entries.Hash
+	isMine    bool     // mine is known
+	isWaiting bool     // for where the log begins
+	left      []string // nodes that did not answer yet
+	at        int      // the one of them that is asked now
+	until     int64
+	again     int64 // when those that are left are asked again
+	reached   uint64
+	digest    entries.Hash
+	numbers   map[entries.Writer]uint64 // the last one of each writer that was seen
+	found     map[entries.Hash]int
+	then      func() // if no more nodes have another log
 }
 
 func (n *nodes) init(c *Core) {
@@ -86,9 +91,13 @@ func (n *nodes) lookElsewhere(node string, why *doubt) {
 			it.left = append(it.left, other)
 		}
 	}
-	it.left = append(it.left, node)
+	if node != "" { // an own entry was read at no node
+		it.left = append(it.left, node)
+	}
 	n.search = it
-	n.searchOn()
+	if n.survey == nil { // otherwise after that
+		n.searchOn()
+	}
 }
 
 // searchOn asks the next node; after all of them those that did not answer, after a pause.
@@ -142,7 +151,7 @@ func (n *nodes) tryAt(it *search, found Item) {
 // sayRotten counts an entry that another node has as it was written. Each node is named once.
 func (n *nodes) sayRotten(it *search, good string) {
 	bad := append([]string{it.node}, keysOf(it.others)...)
-	said := map[string]bool{}
+	said := map[string]bool{"": true}
 	for _, node := range bad {
 		if said[node] || node == good {
 			continue
@@ -196,7 +205,9 @@ func (n *nodes) settle(item Item, why *doubt, then func()) {
 
 // test ends the replica if more nodes have another log up to a position than have this one's.
 func (n *nodes) test(position uint64, then func()) {
-	it := &survey{position: position, found: map[entries.Hash]int{}, then: then}
+	it := &survey{position: position, found: map[entries.Hash]int{}, then: then, again: never}
+	it.left = append(it.left, n.settings.Nodes...)
+	it.until = n.now.Running + latest
 	if n.comparator.agreed.position <= position {
 		it.base = n.comparator.agreed
 	}
@@ -205,7 +216,27 @@ func (n *nodes) test(position uint64, then func()) {
 		n.later = append(n.later, it)
 		return
 	}
-	n.survey = it
+	n.begin(it)
+}
+
+// begin asks from where on nodes have the log.
+func (n *nodes) begin(it *survey) {
+	n.survey, it.isWaiting = it, true
+	n.do(&ReadTrimmed{})
+}
+
+// apply begins a survey where the log begins: what was trimmed no node has.
+func (e *TrimmedRead) apply(c *Core) {
+	n, it := &c.nodes, c.nodes.survey
+	if it == nil || !it.isWaiting {
+		return
+	}
+	it.isWaiting = false
+	if e.Position > it.base.position && e.Position <= it.position && !n.has(SurveysWhatWasTrimmed) {
+		if digest, ok := c.taken.Hash(e.Position); ok {
+			it.base = mark{e.Position, e.Place, digest}
+		}
+	}
 	n.surveyOn()
 }
 
@@ -217,38 +248,57 @@ func (n *nodes) testWhereDoubted() {
 	}
 }
 
-// surveyOn asks the next node for its log.
+// surveyOn asks the next node for its log; after all of them those that did not answer, after a pause, as
+// long as most nodes have not.
 func (n *nodes) surveyOn() {
 	it := n.survey
-	for ; it.at < len(n.settings.Nodes); it.at++ {
-		if it.reached, it.digest = it.base.position, it.base.digest; it.reached < it.position {
-			n.askNode(n.settings.Nodes[it.at], it.base.place)
-			return
+	if it.reached, it.digest = it.base.position, it.base.digest; it.reached == it.position {
+		for range it.left {
+			it.found[it.digest]++
 		}
-		it.found[it.digest]++
+		it.left = nil
 	}
-	n.survey = nil
-	n.judge(it)
-	if len(n.later) > 0 && n.survey == nil && !n.isOver {
-		n.survey, n.later = n.later[0], n.later[1:]
-		n.surveyOn()
+	missing := len(it.left)
+	switch {
+	case it.at < missing:
+		it.numbers = map[entries.Writer]uint64{}
+		n.askNode(it.left[it.at], it.base.place)
+	case 2*missing >= len(n.settings.Nodes) && n.now.Running <= it.until:
+		it.again = n.now.Running + nodePause
+	default:
+		n.survey = nil
+		n.judge(it)
+		n.goOn()
+	}
+}
+
+// goOn goes on with what had to wait for a survey.
+func (n *nodes) goOn() {
+	switch {
+	case n.isOver || n.survey != nil:
+	case len(n.later) > 0:
+		next := n.later[0]
+		n.later = n.later[1:]
+		n.begin(next)
+	case n.search != nil:
+		n.searchOn()
 	}
 }
 
 // surveyed takes one more entry of the node that is asked.
 func (n *nodes) surveyed(item *Item) {
 	it := n.survey
-	if item != nil {
-		it.reached++
-		it.digest = it.digest.Next(pairsOf(item.Data))
-		if it.reached < it.position {
-			return
-		}
+	switch {
+	case item == nil:
+		it.at++
+	case !it.counts(item.Data) || it.reached < it.position:
+		return
+	default:
 		it.found[it.digest]++
+		it.left = append(it.left[:it.at], it.left[it.at+1:]...)
 		n.do(&StopNode{n.ask})
 		n.ask++
 	}
-	it.at++
 	n.surveyOn()
 }
 
@@ -270,25 +320,39 @@ func (n *nodes) judge(it *survey) {
 	it.then()
 }
 
-// pairsOf are the pairs of an entry, or the bytes if they are not an entry.
-func pairsOf(data []byte) []byte {
-	if entry, err := entries.Parse(data); err == nil {
-		return entry.Pairs
+// counts takes an entry in, if it is not in the log a second time after the mark. Bytes that are not an
+// entry stand for themselves.
+func (s *survey) counts(data []byte) bool {
+	entry, err := entries.Parse(data)
+	if err != nil {
+		entry.Pairs = data
+	} else if entry.Number <= s.numbers[entry.Writer] {
+		return false
+	} else {
+		s.numbers[entry.Writer] = entry.Number
 	}
-	return data
+	s.reached++
+	s.digest = s.digest.Next(entry.Pairs)
+	return true
 }
 
+// due does what is due, and returns when something is due next.
 func (n *nodes) due(now int64) int64 {
 	n.testWhereDoubted()
-	if n.search == nil || n.survey != nil {
-		return never
-	}
-	if now >= n.search.again {
-		n.search.again, n.search.at = never, 0
+	if it := n.survey; it != nil {
+		if now >= it.again {
+			it.again, it.at = never, 0
+			n.surveyOn()
+		}
+	} else if it := n.search; it != nil && now >= it.again {
+		it.again, it.at = never, 0
 		n.searchOn()
 	}
-	if n.search == nil {
-		return never
+	switch {
+	case n.survey != nil:
+		return n.survey.again
+	case n.search != nil:
+		return n.search.again
 	}
-	return n.search.again
+	return never
 }

@@ -58,6 +58,7 @@ type engine struct {
 	rots                              func(row) // what happens to the next entry
 	woken                             func()    // has readers look
 	isQuiet                           bool
+	isOnce                            bool // no entry is appended twice
 }
 
 func newEngine(s *schedule, kind kind, nodes int) *engine {
@@ -71,7 +72,7 @@ func newEngine(s *schedule, kind kind, nodes int) *engine {
 // append appends an entry once, as a rule. It returns its place, and when that is known.
 func (e *engine) append(name entryName, data []byte) (place, known int64) {
 	place, ok := e.places[name]
-	isTwice := ok && e.kind == etcd && !e.isQuiet && e.happens(200)
+	isTwice := ok && e.kind == etcd && !e.isQuiet && !e.isOnce && e.happens(200)
 	if !ok || isTwice {
 		e.last++
 		if !ok {

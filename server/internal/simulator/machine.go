@@ -159,7 +159,7 @@ func (m *machine) later(pause int64, event replica.Event) {
 // do does what the core wants. What it wants next comes in another step.
 func (m *machine) do(action replica.Action) {
 	switch it := action.(type) {
-	case *replica.ReadStart, *replica.ReadReports, *replica.ReadClock, *replica.ReadFull:
+	case *replica.ReadStart, *replica.ReadReports, *replica.ReadClock, *replica.ReadFull, *replica.ReadTrimmed:
 		m.ask(action)
 	case *replica.KeepHead:
 		m.head = it.Head
@@ -210,7 +210,7 @@ func (m *machine) end(status int, line string) {
 	}
 	m.checkEnd(m, status, line)
 	if status == replica.Rotten.Status() {
-		m.rotten[life{m, m.life}] = true
+		m.rotten[m] = m.life
 	}
 	m.isUp, m.core = false, nil
 	life := m.life
@@ -336,6 +336,11 @@ func (m *machine) replyTo(action replica.Action, ok bool) replica.Event {
 			return &replica.ReportsRead{Failed: noLog}
 		}
 		return &replica.ReportsRead{Names: e.names}
+	case *replica.ReadTrimmed:
+		if !ok {
+			return &replica.TrimmedRead{}
+		}
+		return &replica.TrimmedRead{Position: uint64(e.trimmedPosition), Place: e.trimmedPlace}
 	case *replica.ReadClock:
 		return &replica.ClockRead{Clock: began + m.now, IsKnown: ok && e.kind == postgresql}
 	}
@@ -431,7 +436,10 @@ func (m *machine) pump() {
 	m.wake(m.most(2 * milli))
 	if it.name != "" {
 		place := it.place
-		if e.kind == postgresql {
+		if e.kind == postgresql { // only what each reported last is read
+			if string(e.reports[it.name]) != string(it.data) {
+				return
+			}
 			place = 0
 		}
 		m.step(&replica.ReportRead{Name: it.name, Data: it.data, Place: place})

@@ -73,7 +73,7 @@ func (w *world) judgeCalls(h *history) {
 // isAcknowledged reports whether a call got a reply that counts. One of a replica whose node lost an
 // entry may be wrong: it ends within one entry of another writer.
 func (w *world) isAcknowledged(it *call) bool {
-	return it.reply != "" && frames.Header(it.reply).Status() == tbclient.StatusReply && !w.rotten[it.by]
+	return it.reply != "" && frames.Header(it.reply).Status() == tbclient.StatusReply && it.by.number > w.rotten[it.by.machine]
 }
 
 func has(list []string, wanted string) bool {

@@ -13,9 +13,10 @@ import (
 )
 
 const (
-	quiet   = 20 * second  // without faults at the end, after each round of probes
-	probes  = 2            // rounds: a node that lost the last entries is found by the entries after them
-	longest = 300 * second // after the last fault until all calls have returned
+	quiet    = 20 * second  // without faults at the end, after each round of probes
+	probes   = 2            // rounds: a node that lost the last entries is found by the entries after them
+	stepsMax = 60_000       // jobs of a run: with more it does the same again and again
+	longest  = 300 * second // after the last fault until all calls have returned
 )
 
 // Bug is a wrong part of the machines, which the oracle has to find.
@@ -45,14 +46,15 @@ type world struct {
 	clientsMax int
 	wrong      []string
 	injected   [faultKinds]bool
-	rotten     map[life]bool // those that ended because their node had lost an entry
+	rotten     map[*machine]int // the last life that ended because its node had lost an entry
 	isQuiet    bool
 	isOver     bool
+	steps      int
 }
 
 // newWorld draws a run.
 func newWorld(seed int64, options Options, story *strings.Builder) *world {
-	w := &world{options: options, bug: options.Bug, rotten: map[life]bool{}}
+	w := &world{options: options, bug: options.Bug, rotten: map[*machine]int{}}
 	w.drawn, w.story = rand.New(rand.NewSource(seed)), story
 	w.clientsMax = [...]int{8, 8, 8, 3}[w.drawn.Intn(4)]
 	w.engine = newEngine(&w.schedule, kind(w.drawn.Intn(2)), [...]int{3, 3, 5}[w.drawn.Intn(3)])
@@ -143,6 +145,7 @@ func (w *world) run() {
 	for _, it := range w.plan.faults {
 		it := it
 		last = it.at
+		w.engine.isOnce = w.engine.isOnce || it.kind == nodeLoses
 		w.after(it.at, func() { w.hurt(it) })
 	}
 	w.until(last + second)
@@ -162,6 +165,10 @@ func (w *world) run() {
 
 func (w *world) until(end int64) {
 	for w.step(end) {
+		if w.steps++; w.steps == stepsMax {
+			w.see(false, "the run does not come to rest")
+			w.jobs = nil
+		}
 	}
 }
 
