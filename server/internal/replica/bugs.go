@@ -22,10 +22,11 @@ const (
 	ComparesNothing                // what writers had is not compared
 	FeedsNothingLate               // what the server had no room for is not given later
 	AnswersWhenTheServerIsLost     // requests are told of an end that is none
-	ForgetsItsReplies              // a restarted server may reply otherwise
 	ReadsATrimmedLog               // a log that begins after the copy is read
 	GoesByAnAheadClock             // a clock that is ahead of others is no fault
 	AnswersNoHello                 // no clock is sent to who asks
 	SurveysWhatWasTrimmed          // nodes are asked for entries that were trimmed
-	Bugs
+	FeedsFromTheEnd                // a restarted server is given what follows, not all
+	KeepsTheCancelled              // a cancelled request is appended and answered
+	LooksNowhereElse               // an entry that does not fit is no entry at any node
 )

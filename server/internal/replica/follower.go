@@ -45,6 +45,9 @@ func (*ServerBegan) apply(c *Core) {
 	f.isRunning, f.isReading, f.given, f.inFlight = true, false, 0, 0
 	f.fed, f.answered, f.digest = f.fed[:0], 0, entries.Hash{}
 	f.hasServed = f.hasServed || f.start == 0
+	if c.has(FeedsFromTheEnd) {
+		f.given = f.known
+	}
 	f.goOn()
 }
 
@@ -142,7 +145,7 @@ func (e *HashesCame) apply(c *Core) {
 // finish is that the server has answered all up to a position.
 func (f *follower) finish(position uint64, digest entries.Hash) {
 	before, ok := f.hashes.at(position)
-	if ok && before != digest && !f.has(ForgetsItsReplies) {
+	if ok && before != digest {
 		f.fail(Diverged, "%s answers the entry at %d otherwise than before", f.settings.Server, position)
 		return
 	}

@@ -86,6 +86,10 @@ func (e *NodeRead) apply(c *Core) {
 func (n *nodes) lookElsewhere(node string, why *doubt) {
 	it := &search{node: node, why: why, others: map[string][]byte{}, again: never}
 	it.until = n.now.Running + latest
+	if n.has(LooksNowhereElse) {
+		n.failBy(it)
+		return
+	}
 	for _, other := range n.settings.Nodes { // that it was read from comes last
 		if other != node {
 			it.left = append(it.left, other)

@@ -79,6 +79,9 @@ func (e *Frame) apply(c *Core) {
 
 func (e *Cancelled) apply(c *Core) {
 	s, r := &c.sequencer, e.Request
+	if c.has(KeepsTheCancelled) {
+		return
+	}
 	if r.in != nil {
 		r.in.requests[r.index] = nil
 		r.in = nil

@@ -167,7 +167,7 @@ func (k *call) replied(reply, why string, by life) {
 	c.see(asked == got, "client %d got a reply to another request", c.id)
 	c.after(c.most(50*milli), func() {
 		if k.isOver {
-			c.see(k.reply == reply || k.reply == "", "client %d got two replies to one request", c.id)
+			c.see(k.reply == reply || k.reply == "" || c.wasEvicted(), "client %d got two replies to one request", c.id)
 			return
 		}
 		k.isOver, k.ended, k.reply, k.by = true, c.now, reply, by

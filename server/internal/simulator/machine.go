@@ -37,8 +37,9 @@ type record struct {
 // machine is a machine over all its lives. What a life has begun does nothing in the next one.
 type machine struct {
 	*world
-	name string
-	life int
+	name   string
+	number int
+	life   int
 
 	disk   []record // what the system has of the copy
 	synced int      // how many of these the disk holds
@@ -89,6 +90,11 @@ func (m *machine) start() {
 	m.timer = 0
 	m.clients = map[*replica.Request]*call{}
 	m.order = m.drawn.Perm(len(m.engine.nodes))
+	for at, it := range m.order { // its own machine's node comes first
+		if it == m.number%len(m.order) {
+			m.order[0], m.order[at] = m.order[at], m.order[0]
+		}
+	}
 	taken, ok := m.scan()
 	if !ok {
 		m.end(24, "Damaged: a record that was synced is not what was written")

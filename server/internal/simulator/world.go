@@ -64,7 +64,8 @@ func newWorld(seed int64, options Options, story *strings.Builder) *world {
 		}
 	}
 	for count := w.between(3, 5); count > 0; count-- {
-		w.machines = append(w.machines, &machine{world: w, name: fmt.Sprintf("m%d", len(w.machines)+1), reported: -1})
+		w.machines = append(w.machines, &machine{world: w, number: len(w.machines),
+			name: fmt.Sprintf("m%d", len(w.machines)+1), reported: -1})
 	}
 	w.plan = w.drawPlan()
 	return w
@@ -153,14 +154,20 @@ func (w *world) run() {
 	for end := w.now + longest; w.now < end && !w.isAllDone() && len(w.wrong) == 0; {
 		w.until(w.now + second/4)
 	}
-	w.see(w.isAllDone(), "a client has no reply %d s after the last fault", longest/second)
+	w.see(w.isAllDone() || w.isLostEverywhere(), "a client has no reply %d s after the last fault", longest/second)
 	for round := 0; round < probes && len(w.wrong) == 0; round++ {
 		w.probe()
 		w.until(w.now + quiet)
 	}
-	if len(w.wrong) == 0 {
+	if len(w.wrong) == 0 && !w.isLostEverywhere() {
 		w.finish()
 	}
+}
+
+// isLostEverywhere reports whether each machine had read its log at a node that had lost an entry: then no
+// peer's copy is right.
+func (w *world) isLostEverywhere() bool {
+	return w.injected[nodeLoses] && len(w.rotten) == len(w.machines)
 }
 
 func (w *world) until(end int64) {
