@@ -171,7 +171,7 @@ func (e *Appended) apply(c *Core) {
 	s.isFull, s.isAway = false, false
 	it := s.sent[e.Number]
 	if it != nil && e.Place <= c.taken.Place {
-		c.checkPlace(e.Place)
+		s.wasPassedOver(e.Number, e.Place)
 	}
 	if it != nil && (c.reader.isSettled || c.has(TakesAmidReading)) && (e.IsNext || c.has(TakesLate)) {
 		c.reader.takeOwn(Item{Place: e.Place, Data: it.data})
@@ -180,6 +180,16 @@ func (e *Appended) apply(c *Core) {
 		it.lookAt = c.now.Running + elsewhere
 	}
 	s.finish(e.Number)
+}
+
+// wasPassedOver is that an own entry is before what was read: the node that is read from has lost it, or
+// the engine has lost what it acknowledged.
+func (s *sequencer) wasPassedOver(number uint64, place int64) {
+	s.nodes.test(s.taken.Position, func() {
+		if s.sent[number] != nil {
+			s.checkPlace(place)
+		}
+	})
 }
 
 // finish ends an append, and waits for those who are answered now: one entry for all takes less than

@@ -1,0 +1,5 @@
+//go:build race
+
+package simulator
+
+const seedsOfCI = 1000 // each takes ten times as long
