@@ -322,7 +322,12 @@ func testReadOn(t *testing.T, open func() agreed.Log) {
 	}()
 	for number := 1; number <= 20; number++ {
 		place := appended(ctx, t, log, a, number)
-		it := <-came
+		it := agreed.Item{}
+		select {
+		case it = <-came:
+		case <-ctx.Done():
+			t.Fatalf("entry %d does not come", number)
+		}
 		same(t, "what came", []any{it.Place, string(it.Data)}, []any{place, string(entry(number))})
 	}
 	end()
@@ -507,22 +512,42 @@ func testReadReports(t *testing.T, open func() agreed.Log) {
 	reader := opened(t, open)
 	reading, end := context.WithCancel(ctx)
 	defer end()
-	came, ended := make(chan string, 100), make(chan error, 1)
+	came, ended := make(chan string, 1000), make(chan error, 1)
 	go func() {
 		ended <- reader.Read(reading, 0, func(it agreed.Item) error {
 			came <- fmt.Sprintf("%s%s", it.Report, it.Data)
 			return nil
 		})
 	}()
+	for at := 0; len(came) == 0; at++ { // what was reported before it reads may not come
+		report(ctx, t, log, fmt.Sprint("before", at))
+		agreed.Pause(ctx, 100*time.Millisecond)
+	}
 	for at, to := range []agreed.Log{log, reader, log} {
 		data := fmt.Sprint(at)
-		if err := to.Report(ctx, "r", []byte(data)); err != nil {
-			t.Fatal(err)
+		report(ctx, t, to, data)
+		for {
+			select {
+			case it := <-came:
+				if strings.HasPrefix(it, "rbefore") {
+					continue
+				}
+				same(t, "what came", it, "r"+data)
+			case <-ctx.Done():
+				t.Fatalf("%s does not come", data)
+			}
+			break
 		}
-		same(t, "what came", <-came, "r"+data)
 	}
 	end()
 	same(t, "its end", <-ended, context.Canceled)
+}
+
+func report(ctx context.Context, t *testing.T, log agreed.Log, data string) {
+	t.Helper()
+	if err := log.Report(ctx, "r", []byte(data)); err != nil {
+		t.Fatal(err)
+	}
 }
 
 func testTrim(t *testing.T, open func() agreed.Log) {
