@@ -148,6 +148,10 @@ func testForeign(t *testing.T, c *cluster) {
 	defer log.Close()
 	ctx, end := context.WithTimeout(context.Background(), agreedtest.Wait)
 	defer end()
+	from, err := log.Last(ctx)
+	if err != nil {
+		t.Fatal(err)
+	}
 	for _, key := range []string{"log/x", "log/7", "log/x/1", "at/\xff", "at/", "other", "log/a/000000000000000000001"} {
 		if err := log.put(ctx, usual, "foreign/"+key, []byte("{}")); err != nil {
 			t.Fatal(err)
@@ -163,7 +167,7 @@ func testForeign(t *testing.T, c *cluster) {
 	got, enough := "", errors.New("enough")
 	for _, is := range []string{"watched", "listed"} {
 		got = ""
-		err = log.Read(ctx, 0, func(it agreed.Item) error {
+		err = log.Read(ctx, from, func(it agreed.Item) error {
 			got += fmt.Sprint(it.Place-place, it.Report, " ")
 			if it.Report != "" || is == "listed" {
 				return enough
@@ -235,30 +239,23 @@ func testKilled(t *testing.T, c *cluster) {
 	}
 }
 
-// TestFull fills the quota, and trims.
+// TestFull fills the quota, and trims: first without room for that, then with what reports have left.
 func TestFull(t *testing.T) {
-	c := start(t, "--quota-backend-bytes", fmt.Sprint(4<<20))
+	c := start(t, "--quota-backend-bytes", fmt.Sprint(6<<20))
 	log := c.open(t, "full", agreed.Access{})
 	defer log.Close()
-	ctx, end := context.WithTimeout(context.Background(), 2*agreedtest.Wait)
+	ctx, end := context.WithTimeout(context.Background(), 3*agreedtest.Wait)
 	defer end()
 	if _, err := log.Head(ctx, []byte("it")); err != nil {
 		t.Fatal(err)
 	}
 	data := append([]byte("TBENTRY2"), make([]byte, 1<<19)...)
-	last, number := agreed.Place(0), uint64(1)
-	for ; ; number++ {
-		place, err := log.Append(ctx, []byte("w"), number, data)
-		if errors.Is(err, agreed.ErrFull) {
-			break
-		}
-		if err != nil && !errors.Is(err, agreed.ErrNoLog) {
+	for number := 0; number < 4; number++ {
+		if err := log.Report(ctx, "r0", data); err != nil {
 			t.Fatal(err)
 		}
-		if err == nil {
-			last = place
-		}
 	}
+	last, number := fill(ctx, t, log, data)
 	if err := log.Report(ctx, "r0", nil); !errors.Is(err, agreed.ErrFull) {
 		t.Errorf("a report: %v", err)
 	}
@@ -280,6 +277,30 @@ func TestFull(t *testing.T) {
 		_, err := log.Append(ctx, []byte("w"), number, data)
 		return err == nil
 	})
+	other := c.open(t, "other", agreed.Access{})
+	defer other.Close()
+	last, _ = fill(ctx, t, other, data)
+	if _, err := other.Trim(ctx, 1, last); !errors.Is(err, agreed.ErrFull) {
+		t.Errorf("a trim without room: %v", err)
+	}
+}
+
+// fill appends until the log is full. It returns the last place, and the first number that has none.
+func fill(ctx context.Context, t *testing.T, log *Log, data []byte) (agreed.Place, uint64) {
+	t.Helper()
+	last := agreed.Place(0)
+	for number := uint64(1); ; {
+		place, err := log.Append(ctx, []byte("w"), number, data)
+		switch {
+		case err == nil:
+			last = place
+			number++
+		case errors.Is(err, agreed.ErrFull):
+			return last, number
+		case !errors.Is(err, agreed.ErrNoLog) || ctx.Err() != nil:
+			t.Fatal(err)
+		}
+	}
 }
 
 // TestPasswords has etcd ask for a user.

@@ -139,7 +139,7 @@ func (l *Log) say(text, ofKind string) {
 func (r *reader) some(ctx context.Context, at *address, moved <-chan struct{}) error {
 	err := r.watch(ctx, at, moved)
 	if err != nil && r.taken == nil && errors.Is(r.faultOf(at, err), agreed.ErrGone) {
-		return r.list(ctx)
+		return r.list(ctx, at)
 	}
 	return err
 }
@@ -380,14 +380,15 @@ type kept struct {
 	key   []byte
 }
 
-// list passes on the entries after the last one, in order. They are there though their history is not,
-// unless the log was trimmed beyond that place.
-func (r *reader) list(ctx context.Context) error {
-	revision, found, err := r.keysAfter(ctx, r.place)
+// list passes on the entries after the last one, in order, as one address has them. They are there though
+// their history is not, unless the log was trimmed beyond that place.
+func (r *reader) list(ctx context.Context, at *address) error {
+	only := r.only(at.place)
+	revision, found, err := only.keysAfter(ctx, r.place)
 	if err != nil {
 		return err
 	}
-	position, trimmed, err := r.Trimmed(ctx)
+	position, trimmed, err := only.Trimmed(ctx)
 	if err != nil {
 		return err
 	}
@@ -396,7 +397,7 @@ func (r *reader) list(ctx context.Context) error {
 	}
 	sort.Slice(found, func(i, j int) bool { return found[i].place < found[j].place })
 	for _, it := range found {
-		item, err := r.keptAt(ctx, it.key)
+		item, err := only.keptAt(ctx, it.key)
 		if err != nil {
 			return err
 		}
@@ -413,7 +414,7 @@ func (l *Log) keysAfter(ctx context.Context, place agreed.Place) (agreed.Place, 
 	revision, found, at := int64(0), []kept(nil), l.key("log/")
 	end := endOf(at)
 	for {
-		page, err := l.ranged(ctx, long, &pb.RangeRequest{Key: at, RangeEnd: end, Limit: listed, KeysOnly: true})
+		page, err := l.ranged(ctx, limits{0, walk}, &pb.RangeRequest{Key: at, RangeEnd: end, Limit: listed, KeysOnly: true})
 		if err != nil {
 			return 0, nil, err
 		}
@@ -438,7 +439,7 @@ func (l *Log) keysAfter(ctx context.Context, place agreed.Place) (agreed.Place, 
 
 // keptAt is an entry that was listed.
 func (l *Log) keptAt(ctx context.Context, key []byte) (agreed.Item, error) {
-	found, err := l.ranged(ctx, usual, &pb.RangeRequest{Key: key})
+	found, err := l.ranged(ctx, limits{0, try}, &pb.RangeRequest{Key: key})
 	if err != nil {
 		return agreed.Item{}, err
 	}

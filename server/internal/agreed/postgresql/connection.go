@@ -8,6 +8,7 @@ import (
 	"net"
 	"strconv"
 	"strings"
+	"syscall"
 	"time"
 
 	"github.com/jackc/pgconn"
@@ -275,15 +276,19 @@ func preferred(ctx context.Context, err error) error {
 // whyOf is what an error reports, in one line.
 func whyOf(err error) string {
 	var of *pgconn.PgError
-	var by *net.OpError
-	text := err.Error()
+	var number syscall.Errno
+	text := ""
 	switch {
 	case errors.As(err, &of):
 		text = of.Message
 	case errors.Is(err, context.DeadlineExceeded):
 		return fmt.Sprintf("no answer within %g s", try.Seconds())
-	case errors.As(err, &by):
-		text = report.Why(by)
+	case errors.As(err, &number):
+		text = report.Why(number)
+	default:
+		for inner := err; inner != nil; inner = errors.Unwrap(inner) {
+			text = inner.Error()
+		}
 	}
 	line, _, _ := strings.Cut(strings.TrimSpace(text), "\n")
 	return line
