@@ -2,21 +2,9 @@ package agreedtest
 
 import (
 	"net"
-	"os"
 	"testing"
 	"time"
 )
-
-// Slow is the variable with which tests run that start an engine.
-const Slow = "TB_SLOW"
-
-// IsSlow skips a test that takes long, unless slow tests are asked for.
-func IsSlow(t *testing.T, reason string, seconds int) {
-	t.Helper()
-	if os.Getenv(Slow) == "" {
-		t.Skipf("%s, in %d s: set %s=1", reason, seconds, Slow)
-	}
-}
 
 // FreePorts are ports of the loopback interface that nobody listens at.
 func FreePorts(t *testing.T, count int) []uint16 {

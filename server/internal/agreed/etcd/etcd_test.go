@@ -1,371 +1,260 @@
 package etcd
 
 import (
+	"bytes"
 	"context"
 	"errors"
 	"fmt"
-	"net"
 	"os"
-	"os/exec"
 	"path/filepath"
 	"strings"
-	"sync/atomic"
 	"testing"
 	"time"
 
 	pb "go.etcd.io/etcd/etcdserver/etcdserverpb"
+	"go.etcd.io/etcd/mvcc/mvccpb"
+	"google.golang.org/grpc/codes"
+	"google.golang.org/grpc/status"
 
 	"telovamish.org/server/internal/agreed"
 	"telovamish.org/server/internal/agreed/agreedtest"
 	"telovamish.org/server/internal/report"
 )
 
-// cluster is an etcd of three nodes on this machine.
-type cluster struct {
-	addresses []agreed.Address
-	commands  []*exec.Cmd
-	names     atomic.Int32
-}
-
-// start starts etcd, once for all cases of a test. It skips the test where slow tests do not run.
-func start(t *testing.T, more ...string) *cluster {
-	t.Helper()
-	agreedtest.IsSlow(t, "an etcd of three nodes", 60)
-	folder, c := t.TempDir(), &cluster{}
-	ports := agreedtest.FreePorts(t, 6)
-	peers := []string{}
-	for at, port := range ports[3:] {
-		peers = append(peers, fmt.Sprintf("n%d=http://127.0.0.1:%d", at, port))
-		c.addresses = append(c.addresses, agreed.Address{Host: "127.0.0.1", Port: ports[at]})
-	}
-	for at := range peers {
-		serves, peer := "http://"+c.addresses[at].String(), strings.SplitN(peers[at], "=", 2)[1]
-		words := []string{"--name", fmt.Sprintf("n%d", at), "--data-dir", filepath.Join(folder, fmt.Sprint(at)),
-			"--logger", "zap", "--log-level", "error", "--initial-cluster", strings.Join(peers, ","),
-			"--listen-peer-urls", peer, "--initial-advertise-peer-urls", peer,
-			"--listen-client-urls", serves, "--advertise-client-urls", serves, "--unsafe-no-fsync"}
-		it := exec.Command("etcd", append(words, more...)...)
-		it.Stderr = os.Stderr
-		if err := it.Start(); err != nil {
-			t.Fatal(err)
-		}
-		c.commands = append(c.commands, it)
-		t.Cleanup(func() { it.Process.Kill(); it.Wait() })
-	}
-	log := c.open(t, "up", agreed.Access{})
-	defer log.Close()
-	agreedtest.Until(t, "etcd is up", func() bool {
-		_, err := log.Head(context.Background(), []byte("it"))
-		return err == nil
-	})
-	return c
-}
-
-func (c *cluster) open(t *testing.T, name string, access agreed.Access) *Log {
-	t.Helper()
-	it, err := New(c.addresses, name, access, report.New("test", false))
-	if err != nil {
-		t.Fatal(err)
-	}
-	return it
-}
-
 func TestLog(t *testing.T) {
-	c := start(t)
+	defer func(before time.Duration) { idleFor = before }(idleFor)
+	idleFor = 200 * time.Millisecond
 	agreedtest.TestLog(t, func(t *testing.T) func() agreed.Log {
-		name := fmt.Sprintf("log%d/x", c.names.Add(1))
-		return func() agreed.Log { return c.open(t, name, agreed.Access{}) }
+		f := newFake()
+		return func() agreed.Log { return f.open(t, "bank", 3) }
 	})
-	t.Run("the leader is written to", func(t *testing.T) { testLeader(t, c) })
-	t.Run("an address that does not reply", func(t *testing.T) { testAway(t, c) })
-	t.Run("keys of others", func(t *testing.T) { testForeign(t, c) })
-	t.Run("a node that is killed", func(t *testing.T) { testKilled(t, c) })
 }
 
-// testLeader looks who leads, from each address on.
-func testLeader(t *testing.T, c *cluster) {
-	log := c.open(t, "leader", agreed.Access{})
+func within(t *testing.T) context.Context {
+	ctx, end := context.WithTimeout(context.Background(), agreedtest.Wait)
+	t.Cleanup(end)
+	return ctx
+}
+
+// TestItem has what a disk has made of a key, and keys of others.
+func TestItem(t *testing.T) {
+	log := newFake().open(t, "bank", 1)
 	defer log.Close()
-	ctx := context.Background()
-	for from := range c.addresses {
-		log.writing = from
+	r := &reader{Log: log, cursor: 4}
+	entry := "TBENTRY2 and more"
+	writer := "bank/log/" + strings.Repeat("0", 31) + "1/"
+	for name, c := range map[string]struct {
+		key, value  string
+		create, mod int64
+		want        string
+	}{
+		"entry":            {writer + "00000000000000000001", entry, 5, 5, "5 17 "},
+		"other number":     {writer + "x0", entry, 5, 5, "5 17 "},
+		"other key":        {"bank/mog/x", entry, 5, 5, "5 17 "},
+		"deflated":         {"bank/log/x", "TBENTRYZ", 5, 5, "5 8 "},
+		"changed value":    {writer + "00000000000000000001", "it", 5, 5, "5 2 "},
+		"two revisions":    {writer + "00000000000000000001", entry, 5, 7, "5 0 "},
+		"report":           {"bank/at/r0", "{}", 5, 7, "7 2 r0"},
+		"beyond the log":   {"bank/at/r0", "{}", 5, 10, "5 0 "},
+		"no key":           {"bank/ab/r0", "{}", 5, 7, ""},
+		"foreign":          {"bank/log/x", "{}", 5, 7, ""},
+		"a name not text":  {"bank/at/\xff", "{}", 5, 7, ""},
+		"an empty name":    {"bank/at/", "{}", 5, 7, ""},
+		"a short key":      {"b", "{}", 5, 7, ""},
+		"a short key that": {"b", entry, 5, 5, "5 17 "},
+	} {
+		t.Run(name, func(t *testing.T) {
+			pair := &mvccpb.KeyValue{Key: []byte(c.key), Value: []byte(c.value), CreateRevision: c.create, ModRevision: c.mod}
+			got := ""
+			if it := r.item(pair, "n0", 9); it != nil {
+				got = fmt.Sprintf("%d %d %s", it.Place, len(it.Data), it.Report)
+			}
+			if got != c.want {
+				t.Errorf("got %q, want %q", got, c.want)
+			}
+		})
+	}
+}
+
+// TestLeader has the leader be written to, as the one that is written to reports it, or the next one.
+func TestLeader(t *testing.T) {
+	for _, c := range []struct {
+		leaders    []uint64
+		start, end int
+	}{{[]uint64{3, 3, 3}, 0, 2}, {[]uint64{0, 2, 2}, 0, 1}, {[]uint64{1, 2, 2}, 1, 1}, {[]uint64{9, 9, 9}, 1, 1}} {
+		f := newFake()
+		log := f.open(t, "bank", 3)
+		f.leaders, log.writing = c.leaders, c.start
 		log.writeToLeader()
-		_, at := log.current()
-		said, err := at.current().care.Status(ctx, &pb.StatusRequest{})
-		if err != nil || said.Header.MemberId != said.Leader {
-			t.Errorf("from %d: %v is written to, and its leader is %v: %v", from, said.Header, said.Leader, err)
+		if log.writing != c.end {
+			t.Errorf("%v: %d is written to", c.leaders, log.writing)
+		}
+		log.Close()
+	}
+}
+
+// TestKeysUpTo finds all entries up to a place and no other, by few calls: etcd goes over all keys for
+// each page of a list.
+func TestKeysUpTo(t *testing.T) {
+	ctx, f := within(t), newFake()
+	log := f.open(t, "bank", 1)
+	defer log.Close()
+	places := map[string]agreed.Place{}
+	for _, c := range []struct {
+		writer       string
+		first, count uint64
+	}{{"a", 3, 20_000}, {"b", 1, 1}, {"c", 7, 30}, {"d", 1, 9}} {
+		for number := c.first; number < c.first+c.count; number++ {
+			key := fmt.Sprintf("bank/log/%s/%020d", c.writer, number)
+			place := agreed.Place(len(places) + int(number))
+			places[key] = place
+			f.pairs[key] = &mvccpb.KeyValue{Key: []byte(key), CreateRevision: int64(place), ModRevision: int64(place)}
+		}
+	}
+	for _, foreign := range []string{"", "0", "123", "a", "a/", "a/!", "a/1", "b/x", "b/999999999999999999999", "~"} {
+		key := "bank/log/" + foreign
+		f.pairs[key] = &mvccpb.KeyValue{Key: []byte(key), CreateRevision: 1, ModRevision: 1}
+	}
+	for _, place := range []agreed.Place{2, 3, 4, 12_345, 20_002, 20_003, 20_050, 1_000_000} {
+		f.calls = 0
+		parts, err := log.keysUpTo(ctx, place)
+		if err != nil || f.calls > 110 {
+			t.Errorf("up to %d: %d calls, %v", place, f.calls, err)
+		}
+		for key, at := range places {
+			isIn := false
+			for _, it := range parts {
+				isIn = isIn || it.first <= key && key <= it.last
+			}
+			if isIn != (at <= place) {
+				t.Fatalf("up to %d: %s at %d is removed: %v", place, key, at, isIn)
+			}
 		}
 	}
 }
 
-// testAway has one address that takes connections and never replies, and one that nobody listens at.
-func testAway(t *testing.T, c *cluster) {
-	agreedtest.NoLeak(t)
-	silent, err := net.Listen("tcp", "127.0.0.1:0")
-	if err != nil {
-		t.Fatal(err)
-	}
-	defer silent.Close()
-	of := func(at net.Addr) agreed.Address {
-		return agreed.Address{Host: "127.0.0.1", Port: uint16(at.(*net.TCPAddr).Port)}
-	}
-	nobody := agreed.Address{Host: "127.0.0.1", Port: agreedtest.FreePorts(t, 1)[0]}
-	log, err := New(append([]agreed.Address{nobody, of(silent.Addr())}, c.addresses...), "away", agreed.Access{}, nil)
-	if err != nil {
-		t.Fatal(err)
-	}
+// TestTrimOfFull removes no entry before `trimmed` is put.
+func TestTrimOfFull(t *testing.T) {
+	ctx, f := within(t), newFake()
+	log := f.open(t, "bank", 2)
 	defer log.Close()
-	ctx, end := context.WithTimeout(context.Background(), agreedtest.Wait)
-	defer end()
-	if _, err := log.Head(ctx, []byte("it")); err != nil {
-		t.Fatal(err)
-	}
 	place, err := log.Append(ctx, []byte("w"), 1, []byte("TBENTRY2"))
 	if err != nil {
 		t.Fatal(err)
 	}
-	enough := errors.New("enough")
-	err = log.Read(ctx, 0, func(it agreed.Item) error {
-		if it.Place != place {
-			return fmt.Errorf("place %d comes", it.Place)
-		}
-		return enough
-	})
-	if err != enough {
-		t.Error(err)
+	f.alarms = []*pb.AlarmMember{{MemberID: 1, Alarm: pb.AlarmType_NOSPACE}, {MemberID: 2, Alarm: pb.AlarmType_CORRUPT}}
+	if why, err := log.Full(ctx); why != "etcd has the alarm NOSPACE" || err != nil {
+		t.Errorf("got %q, %v", why, err)
 	}
-	for _, node := range []string{nobody.String(), of(silent.Addr()).String(), "unknown:1"} {
-		err := log.Seen(ctx, node, 0, func(it agreed.Item) error { return fmt.Errorf("%v comes", it) })
-		if err != nil {
-			t.Errorf("%s: %v", node, err)
-		}
+	if _, err := log.Append(ctx, []byte("w"), 2, nil); !errors.Is(err, agreed.ErrFull) {
+		t.Errorf("an append: %v", err)
 	}
-}
-
-// testForeign has keys below the log's name that no replica wrote.
-func testForeign(t *testing.T, c *cluster) {
-	log := c.open(t, "foreign", agreed.Access{})
-	defer log.Close()
-	ctx, end := context.WithTimeout(context.Background(), agreedtest.Wait)
-	defer end()
-	from, err := log.Last(ctx)
-	if err != nil {
-		t.Fatal(err)
+	said, err := log.Trim(ctx, 1, place)
+	want := "[entries up to position 1 are removed 127.0.0.1:1 is defragmented 127.0.0.1:2 is not defragmented: it is busy] <nil>"
+	if got := fmt.Sprint(said, err); got != want {
+		t.Errorf("got %s", got)
 	}
-	for _, key := range []string{"log/x", "log/7", "log/x/1", "at/\xff", "at/", "other", "log/a/000000000000000000001"} {
-		if err := log.put(ctx, usual, "foreign/"+key, []byte("{}")); err != nil {
+	if value, _, _ := log.get(ctx, "trimmed"); string(value) != fmt.Sprintf(`{"position": 1, "place": %d}`, place) {
+		t.Errorf("trimmed has %s", value)
+	}
+	for name, value := range map[string]string{"no text": "\xff", "empty": "", "number": "5", "list": "[]", "object": "{}",
+		"endless": `{"position": 1, "place": Infinity}`, "negative": `{"position": -1, "place": 1}`, "deep": strings.Repeat("[", 9999)} {
+		if err := log.put(ctx, usual, "bank/trimmed", []byte(value)); err != nil {
 			t.Fatal(err)
 		}
-	}
-	place, err := log.Append(ctx, []byte("w"), 1, []byte("TBENTRY2"))
-	if err != nil {
-		t.Fatal(err)
-	}
-	if err := log.Report(ctx, "r0", []byte("{}")); err != nil {
-		t.Fatal(err)
-	}
-	got, enough := "", errors.New("enough")
-	for _, is := range []string{"watched", "listed"} {
-		got = ""
-		err = log.Read(ctx, from, func(it agreed.Item) error {
-			got += fmt.Sprint(it.Place-place, it.Report, " ")
-			if it.Report != "" || is == "listed" {
-				return enough
-			}
-			return nil
-		})
-		if err != enough || got != map[string]string{"watched": "0 1r0 ", "listed": "0 "}[is] {
-			t.Errorf("%s: %q, %v", is, got, err)
-		}
-		if err := log.compact(ctx, int64(place)+1); err != nil {
-			t.Fatal(err)
-		}
-	}
-	reports, err := log.Reports(ctx)
-	if err != nil || len(reports) != 1 {
-		t.Errorf("reports %v, %v", reports, err)
-	}
-	if _, err := log.Trim(ctx, 1, place); err != nil {
-		t.Error(err)
-	}
-	if is, err := log.HasRemoved(ctx, place); err != nil || !is {
-		t.Errorf("it has removed: %v, %v", is, err)
-	}
-}
-
-// testKilled has the node be killed that is read and written at, amid appends.
-func testKilled(t *testing.T, c *cluster) {
-	agreedtest.NoLeak(t)
-	log := c.open(t, "killed", agreed.Access{})
-	defer log.Close()
-	ctx, end := context.WithTimeout(context.Background(), 2*agreedtest.Wait)
-	defer end()
-	if _, err := log.Head(ctx, []byte("it")); err != nil {
-		t.Fatal(err)
-	}
-	const count = 40
-	found, ended := []string{}, make(chan error, 1)
-	enough := errors.New("enough")
-	go func() {
-		ended <- log.Read(ctx, 0, func(it agreed.Item) error {
-			if found = append(found, string(it.Data)); len(found) == count {
-				return enough
-			}
-			return nil
-		})
-	}()
-	for number := 1; number <= count; number++ {
-		if number == count/2 {
-			at, _ := log.current()
-			c.commands[at].Process.Kill()
-		}
-		for {
-			_, err := log.Append(ctx, []byte("w"), uint64(number), []byte(fmt.Sprint("TBENTRY2", number)))
-			if err == nil {
-				break
-			}
-			if !errors.Is(err, agreed.ErrNoLog) || ctx.Err() != nil {
-				t.Fatal(err)
-			}
-		}
-	}
-	if err := <-ended; err != enough {
-		t.Fatal(err)
-	}
-	for at, it := range found {
-		if want := fmt.Sprint("TBENTRY2", at+1); it != want {
-			t.Errorf("entry %d is %s", at+1, it)
-		}
-	}
-}
-
-// TestFull fills the quota, and trims: first without room for that, then with what reports have left.
-func TestFull(t *testing.T) {
-	c := start(t, "--quota-backend-bytes", fmt.Sprint(6<<20))
-	log := c.open(t, "full", agreed.Access{})
-	defer log.Close()
-	ctx, end := context.WithTimeout(context.Background(), 3*agreedtest.Wait)
-	defer end()
-	if _, err := log.Head(ctx, []byte("it")); err != nil {
-		t.Fatal(err)
-	}
-	data := append([]byte("TBENTRY2"), make([]byte, 1<<19)...)
-	for number := 0; number < 4; number++ {
-		if err := log.Report(ctx, "r0", data); err != nil {
-			t.Fatal(err)
-		}
-	}
-	last, number := fill(ctx, t, log, data)
-	if err := log.Report(ctx, "r0", nil); !errors.Is(err, agreed.ErrFull) {
-		t.Errorf("a report: %v", err)
-	}
-	if head, err := log.Head(ctx, []byte("other")); string(head) != "it" || err != nil {
-		t.Errorf("the head is %q, %v", head, err)
-	}
-	agreedtest.Until(t, "the alarm", func() bool {
-		why, err := log.Full(ctx)
-		return err == nil && why == "etcd has the alarm NOSPACE"
-	})
-	said, err := log.Trim(ctx, number-1, last)
-	if err != nil || said[0] != fmt.Sprintf("entries up to position %d are removed", number-1) {
-		t.Fatal(said, err)
-	}
-	if why, err := log.Full(ctx); why != "" || err != nil {
-		t.Errorf("it is full: %s, %v", why, err)
-	}
-	agreedtest.Until(t, "an append", func() bool {
-		_, err := log.Append(ctx, []byte("w"), number, data)
-		return err == nil
-	})
-	other := c.open(t, "other", agreed.Access{})
-	defer other.Close()
-	last, _ = fill(ctx, t, other, data)
-	if _, err := other.Trim(ctx, 1, last); !errors.Is(err, agreed.ErrFull) {
-		t.Errorf("a trim without room: %v", err)
-	}
-}
-
-// fill appends until the log is full. It returns the last place, and the first number that has none.
-func fill(ctx context.Context, t *testing.T, log *Log, data []byte) (agreed.Place, uint64) {
-	t.Helper()
-	last := agreed.Place(0)
-	for number := uint64(1); ; {
-		place, err := log.Append(ctx, []byte("w"), number, data)
-		switch {
-		case err == nil:
-			last = place
-			number++
-		case errors.Is(err, agreed.ErrFull):
-			return last, number
-		case !errors.Is(err, agreed.ErrNoLog) || ctx.Err() != nil:
-			t.Fatal(err)
-		}
-	}
-}
-
-// TestPasswords has etcd ask for a user.
-func TestPasswords(t *testing.T) {
-	c := start(t)
-	ctx, end := context.WithTimeout(context.Background(), 2*agreedtest.Wait)
-	defer end()
-	file := filepath.Join(t.TempDir(), "password")
-	if err := os.WriteFile(file, []byte("secret\n"), 0o600); err != nil {
-		t.Fatal(err)
-	}
-	open := c.open(t, "bank", agreed.Access{})
-	defer open.Close()
-	if _, err := open.Head(ctx, []byte("it")); err != nil {
-		t.Fatal(err)
-	}
-	auth := open.addresses[0].current().auth
-	for _, name := range []string{"root", "other"} {
-		if _, err := auth.UserAdd(ctx, &pb.AuthUserAddRequest{Name: name, Password: "secret"}); err != nil {
-			t.Fatal(err)
-		}
-	}
-	if _, err := auth.RoleAdd(ctx, &pb.AuthRoleAddRequest{Name: "root"}); err != nil {
-		t.Fatal(err)
-	}
-	if _, err := auth.UserGrantRole(ctx, &pb.AuthUserGrantRoleRequest{User: "root", Role: "root"}); err != nil {
-		t.Fatal(err)
-	}
-	if _, err := auth.AuthEnable(ctx, &pb.AuthEnableRequest{}); err != nil {
-		t.Fatal(err)
-	}
-	root := c.open(t, "bank", agreed.Access{User: "root", PasswordFile: file})
-	defer root.Close()
-	if _, err := root.Append(ctx, []byte("w"), 1, []byte("TBENTRY2")); err != nil {
-		t.Error(err)
-	}
-	enough := errors.New("enough")
-	if err := root.Read(ctx, 0, func(agreed.Item) error { return enough }); err != enough {
-		t.Error(err)
-	}
-	for _, at := range root.addresses { // a token that etcd does not know is replaced
-		at.mu.Lock()
-		at.given = at.given.Copy()
-		at.given.Set("token", "x.1")
-		at.mu.Unlock()
-	}
-	if _, err := root.Append(ctx, []byte("w"), 2, []byte("TBENTRY2")); err != nil {
-		t.Error(err)
-	}
-	other := c.open(t, "bank", agreed.Access{User: "other", PasswordFile: file})
-	defer other.Close()
-	wrong := c.open(t, "bank", agreed.Access{User: "root", PasswordFile: os.DevNull})
-	defer wrong.Close()
-	var ended *report.Ended
-	for name, log := range map[string]*Log{"other": other, "wrong": wrong} {
-		_, err := log.Append(ctx, []byte("v"), 1, []byte("TBENTRY2"))
-		if !errors.As(err, &ended) || ended.Status != 1 {
+		_, _, err := log.Trimmed(ctx)
+		var ended *report.Ended
+		if !errors.As(err, &ended) || ended.Status != 25 || !strings.HasPrefix(ended.Line, "BadEntry: the log's `trimmed` has b'") {
 			t.Errorf("%s: %v", name, err)
 		}
-		// etcd ends the watch of who may not read without an error that says it is final
-		within, end := context.WithTimeout(ctx, time.Second)
-		err = log.Read(within, 0, func(it agreed.Item) error { return fmt.Errorf("%v comes", it) })
-		if !errors.As(err, &ended) && !errors.Is(err, context.DeadlineExceeded) {
-			t.Errorf("%s reads: %v", name, err)
+	}
+}
+
+// TestFaults has what etcd reports be tried again, or not.
+func TestFaults(t *testing.T) {
+	log := newFake().open(t, "bank", 1)
+	defer log.Close()
+	at := log.addresses[0]
+	for name, c := range map[string]struct {
+		err  error
+		want string
+	}{
+		"full":       {status.Error(codes.ResourceExhausted, "etcdserver: mvcc: database space exceeded"), "etcdserver: mvcc: database space exceeded"},
+		"large":      {status.Error(codes.ResourceExhausted, "message larger than max"), "<nil>"},
+		"permission": {status.Error(codes.PermissionDenied, "permission denied"), "127.0.0.1:1: permission denied"},
+		"password":   {status.Error(codes.InvalidArgument, "authentication failed"), "127.0.0.1:1: authentication failed"},
+		"compacted":  {status.Error(codes.OutOfRange, "etcdserver: mvcc: required revision has been compacted"), "etcdserver: mvcc: required revision has been compacted"},
+		"token":      {status.Error(codes.Unauthenticated, "etcdserver: invalid auth token"), "<nil>"},
+		"no token":   {status.Error(codes.InvalidArgument, "etcdserver: user name is empty"), "<nil>"},
+		"leader":     {status.Error(codes.Unavailable, "etcdserver: no leader"), "<nil>"},
+		"ended":      {report.End(1, "it"), "it"},
+	} {
+		t.Run(name, func(t *testing.T) {
+			at.given = map[string][]string{}
+			if got := fmt.Sprint(at.fault(c.err)); got != c.want {
+				t.Errorf("got %s, want %s", got, c.want)
+			}
+			if isForgotten := at.given == nil; isForgotten != strings.Contains(name, "token") {
+				t.Errorf("the token is forgotten: %v", isForgotten)
+			}
+		})
+	}
+}
+
+// TestTries has each address be tried, until a call succeeds or its time is over.
+func TestTries(t *testing.T) {
+	agreedtest.NoLeak(t)
+	f := newFake()
+	log := f.open(t, "bank", 3)
+	defer log.Close()
+	f.failing = status.Error(codes.Unavailable, "it is away")
+	ctx, end := context.WithTimeout(context.Background(), 400*time.Millisecond)
+	defer end()
+	_, err := log.Head(ctx, []byte("it"))
+	if !errors.Is(err, agreed.ErrNoLog) || f.calls < 6 {
+		t.Errorf("%d calls: %v", f.calls, err)
+	}
+	f.calls = 0
+	if _, err := log.ranged(within(t), limits{0, try}, &pb.RangeRequest{Key: []byte("it")}); f.calls != 1 ||
+		!strings.HasSuffix(err.Error(), ": it is away") {
+		t.Errorf("%d calls: %v", f.calls, err)
+	}
+}
+
+// TestFilesOfTLS has files that are wrong, at the start and when they are renewed.
+func TestFilesOfTLS(t *testing.T) {
+	folder := t.TempDir()
+	empty, none := filepath.Join(folder, "empty"), filepath.Join(folder, "none")
+	if err := os.WriteFile(empty, nil, 0o600); err != nil {
+		t.Fatal(err)
+	}
+	places := []agreed.Address{{Host: "127.0.0.1", Port: 1}}
+	for file, want := range map[string]string{
+		empty: ": no certificate or crl found", none: ": No such file or directory", "/dev/null": "",
+	} {
+		_, err := New(places, "bank", agreed.Access{Authority: file}, nil)
+		var ended *report.Ended
+		if !errors.As(err, &ended) || ended.Status != 1 || !strings.HasPrefix(ended.Line, file+want) {
+			t.Errorf("%s: %v", file, err)
 		}
-		end()
+	}
+	log := newFake().open(t, "bank", 1)
+	defer log.Close()
+	log.addresses[0].access.Authority = none
+	if err := log.Renew(); err == nil || err.Error() != none+": No such file or directory" {
+		t.Errorf("got %v", err)
+	}
+	log.addresses[0].access = agreed.Access{User: "u", PasswordFile: none}
+	if _, err := log.Head(within(t), nil); err == nil || err.Error() != none+": No such file or directory" {
+		t.Errorf("got %v", err)
+	}
+}
+
+// TestAbsent has the bytes of the transaction that puts an entry.
+func TestAbsent(t *testing.T) {
+	data, err := absent([]byte("k"), []byte("v")).Marshal()
+	want := []byte("\n\x07\x10\x01\x1a\x01k(\x00\x12\x08\x12\x06\n\x01k\x12\x01v\x1a\x05\n\x03\n\x01k") // as python3-etcd3 has it
+	if err != nil || !bytes.Equal(data, want) {
+		t.Errorf("got %q, %v", data, err)
 	}
 }

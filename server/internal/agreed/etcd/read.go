@@ -461,6 +461,9 @@ func (l *Log) Nodes() []string {
 	return nodes
 }
 
+// idleFor is for how long one node is waited for that has no more; less in a test.
+var idleFor = try
+
 // Seen implements agreed.Log.
 func (l *Log) Seen(ctx context.Context, node string, after agreed.Place, take func(agreed.Item) error) error {
 	only := l.only(node)
@@ -469,15 +472,15 @@ func (l *Log) Seen(ctx context.Context, node string, after agreed.Place, take fu
 	}
 	within, cancel := context.WithCancel(ctx)
 	defer cancel()
-	idle := time.AfterFunc(try, cancel)
+	idle := time.AfterFunc(idleFor, cancel)
 	defer idle.Stop()
 	err := only.read(within, &reader{Log: only, isSilent: true, cursor: after, place: after,
 		take: func(it agreed.Item) error {
 			if !idle.Stop() || it.Report != "" {
-				idle.Reset(try)
+				idle.Reset(idleFor)
 				return nil
 			}
-			defer idle.Reset(try)
+			defer idle.Reset(idleFor)
 			return take(it)
 		}})
 	switch {
