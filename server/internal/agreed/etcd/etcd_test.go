@@ -258,3 +258,32 @@ func TestAbsent(t *testing.T) {
 		t.Errorf("got %q, %v", data, err)
 	}
 }
+
+// TestOwnEntries has entries be taken once that were appended here, in the order of the log.
+func TestOwnEntries(t *testing.T) {
+	log := newFake().open(t, "bank", 1)
+	defer log.Close()
+	got := ""
+	r := &reader{Log: log, appended: log.appended, cursor: 4, place: 4, take: func(it agreed.Item) error {
+		got += fmt.Sprint(it.Place, it.Node, " ")
+		return nil
+	}}
+	log.appended.Begin()
+	for _, place := range []agreed.Place{7, 5} {
+		log.appended.Put(place, []byte("TBENTRY2"))
+	}
+	if err := r.takeOwn(); err != nil || got != "5 " || r.cursor != 5 {
+		t.Errorf("%q is taken, up to %d: %v", got, r.cursor, err)
+	}
+	said := &pb.WatchResponse{Header: &pb.ResponseHeader{Revision: 7}}
+	for revision := int64(5); revision <= 7; revision++ {
+		said.Events = append(said.Events, &mvccpb.Event{Kv: &mvccpb.KeyValue{Key: []byte("bank/log/x"),
+			Value: []byte("TBENTRY2"), CreateRevision: revision, ModRevision: revision}})
+	}
+	if err := r.takeResponse(log.addresses[0], said); err != nil {
+		t.Error(err)
+	}
+	if err := r.takeOwn(); err != nil || got != "5 6127.0.0.1:1 7127.0.0.1:1 " {
+		t.Errorf("%q is taken: %v", got, err)
+	}
+}
