@@ -56,7 +56,7 @@ lost_write_is_damage first batches before rest written lost is begins other =
 
 -- bytes
 
-read_back : (s : Stamped) → FitsSector s → stamped (raw s) ≡ s
+pub read_back : (s : Stamped) → FitsSector s → stamped (raw s) ≡ s
 unfolding raw stamp_bytes
 read_back s fits =
     let used = from_le_bytes-to_le_bytes_2 (length s.bytes) (omega (arith, fits.bytes)) in
@@ -66,7 +66,7 @@ read_back s fits =
     ∙ ap (λ (n : ℕ). record { number = s.number; begun = s.begun; ends = s.ends; bytes = take n (s.bytes ++ replicate (492 - length s.bytes) 0) }) used
     ∙ ap (λ (l : List ℕ). record { number = s.number; begun = s.begun; ends = s.ends; bytes = l }) (take-append_seam s.bytes (replicate (492 - length s.bytes) 0))
 
-raw_length : (s : Stamped) → length s.bytes ≤ 492 → length (raw s) ≡ 512
+pub raw_length : (s : Stamped) → length s.bytes ≤ 492 → length (raw s) ≡ 512
 unfolding raw stamp_bytes
 raw_length s fits = omega (arith, length-append s.bytes (replicate (492 - length s.bytes) 0), length-replicate {A = ℕ} (492 - length s.bytes) 0)
 

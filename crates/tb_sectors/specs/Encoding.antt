@@ -1,7 +1,7 @@
 -- The bytes of sectors, and how a batch is cut into them.
-use Rattle.std.specs.Prelude.{◌≡◌, ℕ, ◌-◌, ◌<◌, ◌≤◌, ◌^◌, zero, suc, List, [], ◌∷◌, ◌++◌, length, take, drop, flat_map, replicate}
+use Rattle.std.specs.Prelude.{◌≡◌, ℕ, ◌+◌, ◌-◌, ◌*◌, ◌<◌, ◌≤◌, ◌^◌, zero, suc, Bool, if◌then◌else◌, List, [], ◌∷◌, ◌++◌, length, take, drop, flat_map, replicate}
 use Rattle.std.specs.Int.{w16, w64, to_le_bytes}
-use Rattle.tb_sectors.specs.Stamped.{Stamped, batch_sectors, further_sectors}
+use Rattle.tb_sectors.specs.Stamped.{Stamped, Batch, batch_sectors, further_sectors, new_after}
 
 -- a sector's stamp: number, batches begun, bytes used, where the last batch ends, and six zeros
 unfoldable pub stamp_bytes : ℕ → ℕ → ℕ → ℕ → List ℕ
@@ -41,3 +41,15 @@ cut_batch last bytes = batch_sectors last (take (492 - length last.bytes) bytes)
 -- its bytes
 abbrev pub further_raws : ℕ → List ℕ → List ℕ
 further_raws number bytes = raws (further_sectors number (pieces_of bytes))
+
+-- a batch with these bytes: it shares a sector that has these ones already, or begins in a new sector, which has none
+abbrev pub batch_of : Bool → List ℕ → List ℕ → Batch
+batch_of shares kept bytes = record { shares = shares; first = take (492 - length kept) bytes; more = pieces_of (drop (492 - length kept) bytes) }
+
+-- where a batch is written: over the last sector, or after it
+abbrev pub place_of : Bool → List Stamped → ℕ
+place_of shares before = 512 * (if shares then length before else length before + 1)
+
+-- what is written there
+abbrev pub written_of : Bool → Stamped → List ℕ → List ℕ
+written_of shares last bytes = raws (cut_batch (if shares then last else new_after last.number) bytes)

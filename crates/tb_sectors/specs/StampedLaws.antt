@@ -1,8 +1,8 @@
 -- What holds of every journal in the stamped format, over a disk whose sectors are old or new.
-use Rattle.std.specs.Prelude.{◌≡◌, ◌≢◌, ◌⊎◌, ℕ, ◌+◌, true, List, [], ◌∷◌, ◌++◌, length, Some}
-use Rattle.tb_sectors.specs.Sectors.{IsMixed, sector}
-use Rattle.tb_sectors.specs.Stamped.{Stamped, nothing_taken, read_on, Damaged, begins_in, Batch, stream, sector_at, after_batches, all_bytes, stamped, file_sectors}
-use Rattle.tb_sectors.specs.Encoding.{raw, FitsSector}
+use Rattle.std.specs.Prelude.{◌≡◌, ◌≢◌, ◌⊎◌, ℕ, ◌+◌, ◌<◌, ◌≤◌, ◌^◌, true, Bool, if◌then◌else◌, List, [], ◌∷◌, ◌++◌, length, Some}
+use Rattle.tb_sectors.specs.Sectors.{IsMixed, sector, overwritten}
+use Rattle.tb_sectors.specs.Stamped.{Stamped, nothing_taken, read_on, Damaged, begins_in, Batch, batch_bytes, with_batch, stream, sector_at, after_batches, all_bytes, stamped, file_sectors}
+use Rattle.tb_sectors.specs.Encoding.{raw, FitsSector, batch_of, place_of, written_of}
 
 -- each sector of what is left is that of the one or that of the other, in any combination
 abbrev pub IsAnyMix : List Stamped → List Stamped → List Stamped → Type 0
@@ -37,3 +37,13 @@ LostWriteIsDamage = (first : List ℕ) (batches : List Batch) (before rest : Lis
 -- the bytes of a sector are read as they were written
 abbrev pub SectorIsReadBack : Type 0
 SectorIsReadBack = (s : Stamped) → FitsSector s → (stamped (raw s) ≡ s) × (length (raw s) ≡ 512)
+
+-- the bytes that a batch is cut into, written at their place, make a journal with that batch: over the last sector if there is space, or after it
+abbrev pub BatchIsWritten : Type 0
+BatchIsWritten = (file : List ℕ) (before : List Stamped) (last : Stamped) (shares : Bool) (bytes : List ℕ)
+    → HasSectors file (before ++ last ∷ []) → place_of shares before ≤ length file → FitsSector last → last.number + 1 < 2 ^ 64 → last.begun + 1 < 2 ^ 16
+    → HasSectors (overwritten file (place_of shares before) (written_of shares last bytes)) (with_batch (before ++ last ∷ []) (batch_of shares (if shares then last.bytes else []) bytes))
+
+-- it has the bytes of the batch, all of them and in their order
+abbrev pub BatchHasItsBytes : Type 0
+BatchHasItsBytes = (shares : Bool) (kept bytes : List ℕ) → batch_bytes (batch_of shares kept bytes) ≡ bytes

@@ -1,5 +1,5 @@
 //! What holds of every journal in the stamped format.
-ghost use Rattle.tb_sectors.specs.StampedLaws.{CrashLeavesAllOrNone, CommittedIsRead, FileIsAllOrNone, LostWriteIsDamage, SectorIsReadBack};
+ghost use Rattle.tb_sectors.specs.StampedLaws.{CrashLeavesAllOrNone, CommittedIsRead, FileIsAllOrNone, LostWriteIsDamage, SectorIsReadBack, BatchIsWritten, BatchHasItsBytes};
 
 /// A crash amid the commit of a batch, after any others, leaves the batch whole or nothing of it, and all earlier ones.
 pub fn crash_leaves_all_or_none()
@@ -24,4 +24,14 @@ pub fn lost_write_is_damage()
 /// The bytes of a sector are read as they were written.
 pub fn sector_is_read_back()
     ensures { SectorIsReadBack }
+{}
+
+/// What a commit writes makes a journal with its batch.
+pub fn batch_is_written()
+    ensures { BatchIsWritten }
+{}
+
+/// A batch that is cut has all of its bytes.
+pub fn batch_has_its_bytes()
+    ensures { BatchHasItsBytes }
 {}
