@@ -4,11 +4,11 @@ use Rattle.std.proofs.lemmas.List.{append-nil, take_all, append_assoc}
 use Rattle.std.proofs.Math.ListN.{drop_of_length-le}
 use Rattle.tb_sectors.specs.declared.devices.SectorFault.{SectorFault}
 use Rattle.tb_sectors.specs.Sectors.{Disk, IsSettled, IsMixed, Only, Elapses, LeavesOnly, Writes, Syncs, overwritten, sector}
-use Rattle.tb_sectors.specs.Stamped.{Batch, stream, file_sectors, after_batches, all_bytes}
+use Rattle.tb_sectors.specs.Stamped.{Batch, stream, stamped, file_sectors, after_batches, all_bytes}
 use Rattle.tb_sectors.specs.StampedLaws.{HasSectors}
-use Rattle.tb_sectors.specs.Steps.{Overwrites, Commits, WritesBatch, IsBeforeOrAfter, HasSameSectors, Reserves}
+use Rattle.tb_sectors.specs.Steps.{Overwrites, Commits, WritesBatch, IsBeforeOrAfter, ClearsTorn, HasSameSectors, Reserves}
 use Rattle.tb_sectors.specs.private.MemoryLaws.{mixed_old, mixed_new}
-use Rattle.tb_sectors.proofs.Journals.{file_is_all_or_none}
+use Rattle.tb_sectors.proofs.Journals.{crash_leaves_all_or_none, file_is_all_or_none, file_sector}
 
 -- how a run of calls goes on
 
@@ -146,3 +146,19 @@ reserves end zeros result before after ends are settled writes =
         → OnOk r (IsSettled after × (after.seen ≡ before.seen ++ zeros) × HasSameSectors before.seen after.seen)
     kept (Ok x) grown same settles seen = (settles, seen ∙ grown, λ k. ap (sector k) (seen ∙ grown) ∙ same k)
     kept (Err e) grown same settles seen = tt
+
+-- a clear
+pub clears : (at : ℕ) (bytes : List ℕ) (result : Result (Unit {0}) SectorFault) (before after : Disk) → Overwrites at bytes result before after → ClearsTorn at bytes result before after
+clears at bytes result before after writes first batches batch old new settled has will torn done =
+    let cleared = overwritten before.seen at bytes in
+    record {
+      cleared = both result (IsSettled after) (HasSectors after.seen (after_batches first batches)) (writes.settled settled)
+          (through result (after.seen ≡ cleared) (HasSectors after.seen (after_batches first batches)) (λ e. subst (λ (f : List ℕ). HasSectors f (after_batches first batches)) (sym e) done) writes.ok);
+      any_moment = weaker before after (IsMixed before.seen cleared) (IsBeforeOrAfter first batches batch)
+          (λ c mixed. crash_leaves_all_or_none first batches batch (file_sectors c) (λ k.
+          ⊎_elim
+          (λ e. ⊎_elim (λ was. inl (file_sector k c ∙ ap stamped (e ∙ was) ∙ has k)) (λ was. inr (file_sector k c ∙ ap stamped (e ∙ was) ∙ will k)) (torn.each k))
+          (λ e. inl (file_sector k c ∙ ap stamped e ∙ done k))
+          (mixed.each k)))
+          (writes.any_moment settled);
+    }

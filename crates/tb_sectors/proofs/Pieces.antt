@@ -1,12 +1,12 @@
 -- A batch is cut into pieces, and its sectors have its bytes.
 use Rattle.std.proofs.Common.{◌≡◌, ℕ, zero, suc, ◌+◌, ◌-◌, ◌≤◌, ◌<◌, ap, Bool, true, false, List, [], ◌∷◌, ◌++◌, length, take, drop, flat_map, replicate, min, ⊎_elim, refl, sym, ◌∙◌, subst, arith, append_assoc, length-append, length-drop}
 use Rattle.std.specs.Prelude.{◌==◌, not, if◌then◌else◌}
-use Rattle.std.proofs.lemmas.List.{take-append-drop, take_all, take_min}
+use Rattle.std.proofs.lemmas.List.{append-nil, take-append-drop, take_min}
 use Rattle.std.proofs.lemmas.Bool.{cases_lt}
 use Rattle.std.proofs.lemmas.Bool.Decides.{nat_tests}
 use Rattle.std.proofs.Math.ListN.{drop_of_length-le}
-use Rattle.tb_sectors.specs.Stamped.{Stamped, grown, further, goes_on, further_sectors}
-use Rattle.tb_sectors.specs.Encoding.{stamp_bytes, raw, raws, pieces, pieces_of, open_sector, cut_batch, further_raws}
+use Rattle.tb_sectors.specs.Stamped.{Stamped, blank, grown, further, goes_on, further_sectors}
+use Rattle.tb_sectors.specs.Encoding.{stamp_bytes, raw, raws, pieces, pieces_of, open_sector, cut_batch, further_raws, cleared_bytes, whole_sector}
 
 -- any number that is large enough gives the same pieces
 enough : (m n : ℕ) (bytes : List ℕ) → length bytes ≤ m → length bytes ≤ n → pieces m bytes ≡ pieces n bytes
@@ -124,3 +124,26 @@ batch_built out out1 out2 kept bytes first more number begun ends k last is f m 
     which : (last : Bool) (kept first : List ℕ) → (if last then length kept + length first else length kept) ≡ (if not last then length kept else length (kept ++ first))
     which true kept first = sym (length-append kept first)
     which false kept first = refl
+
+-- clearing
+
+pub no_blank : (out : List ℕ) → out ≡ out ++ raws (replicate 0 blank)
+no_blank out = sym (append-nil out)
+
+more_blanks : (n : ℕ) → raws (replicate n blank) ++ raw blank ≡ raws (replicate (suc n) blank)
+more_blanks zero = sym (append-nil (raw blank))
+more_blanks (suc n) = append_assoc (raw blank) (raws (replicate n blank)) (raw blank) ∙ ap (λ (l : List ℕ). raw blank ++ l) (more_blanks n)
+
+pub one_blank : (out before after : List ℕ) (n : ℕ) → before ≡ out ++ raws (replicate n blank) → after ≡ before ++ raw blank → after ≡ out ++ raws (replicate (n + 1) blank)
+one_blank out before after n is more =
+    more ∙ ap (λ (l : List ℕ). l ++ raw blank) is ∙ append_assoc out (raws (replicate n blank)) (raw blank) ∙ ap (λ (l : List ℕ). out ++ l) (more_blanks n)
+    ∙ ap (λ (k : ℕ). out ++ raws (replicate k blank)) (let e : suc n ≡ n + 1 = omega arith in e)
+
+pub cleared_built : (out first second kept : List ℕ) (number begun ends torn : ℕ) → ends ≡ length kept
+    → first ≡ out ++ raw (record { number = number; begun = begun; ends = ends; bytes = kept ++ [] }) → second ≡ first ++ raws (replicate torn blank)
+    → second ≡ out ++ cleared_bytes (whole_sector number begun kept) torn
+cleared_built out first second kept number begun ends torn e p q =
+    q ∙ ap (λ (l : List ℕ). l ++ raws (replicate torn blank))
+    (p ∙ ap (λ (n : ℕ). out ++ raw (record { number = number; begun = begun; ends = n; bytes = kept ++ [] })) e
+    ∙ ap (λ (l : List ℕ). out ++ raw (record { number = number; begun = begun; ends = length kept; bytes = l })) (append-nil kept))
+    ∙ append_assoc out (raw (whole_sector number begun kept)) (raws (replicate torn blank))

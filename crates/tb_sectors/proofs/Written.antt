@@ -1,11 +1,11 @@
 -- What a commit writes, sector by sector.
 use Rattle.std.proofs.Common.{◌≡◌, ◌⊎◌, inl, inr, ⊎_elim, ℕ, zero, suc, ◌+◌, ◌-◌, ◌*◌, ◌^◌, ◌≤◌, ◌<◌, ap, Bool, true, false, List, [], ◌∷◌, ◌++◌, length, take, drop, replicate, refl, sym, ◌∙◌, subst, arith, append_assoc, length-append, length-drop, length-take}
 use Rattle.std.specs.Prelude.{if◌then◌else◌}
-use Rattle.std.proofs.lemmas.List.{take_at, drop_at, take-append-le, drop-take, length-take-le, take-append-drop}
+use Rattle.std.proofs.lemmas.List.{length-replicate, take_at, drop_at, take-append-le, drop-take, length-take-le, take-append-drop}
 use Rattle.std.proofs.lemmas.Bool.{cases_lt}
 use Rattle.tb_sectors.specs.Sectors.{overwritten, sector}
 use Rattle.tb_sectors.specs.Stamped.{Stamped, blank, Batch, grown, further, goes_on, further_sectors, batch_sectors, new_after, after_last, with_batch, sector_at, stamped}
-use Rattle.tb_sectors.specs.StampedLaws.{HasSectors, BatchIsWritten, BatchHasItsBytes}
+use Rattle.tb_sectors.specs.StampedLaws.{HasSectors, BatchIsWritten, BatchHasItsBytes, TornIsCleared}
 use Rattle.tb_sectors.specs.Encoding.{raw, raws, FitsSector, pieces, pieces_of, cut_batch, batch_of, place_of, written_of}
 use Rattle.tb_sectors.proofs.Losses.{read_back, raw_length}
 use Rattle.tb_sectors.proofs.Readers.{shifted}
@@ -166,7 +166,7 @@ batch_is_written file before last false bytes has within fits number begun =
     subst (HasSectors (overwritten file (512 * (length before + 1)) (raws news)))
     (append_assoc before (last ∷ []) news ∙ sym (with_last before last (batch_of false [] bytes)))
     (subst (λ (n : ℕ). HasSectors (overwritten file (512 * n) (raws news)) (front ++ news)) (sym long)
-      (written_over file front [] news (λ k. has k ∙ same front k) (omega arith) (omega (arith, within, long)) (cut_fits o bytes (omega arith) number (omega arith))))
+    (written_over file front [] news (λ k. has k ∙ same front k) (omega arith) (omega (arith, within, long)) (cut_fits o bytes (omega arith) number (omega arith))))
   where
     same : (l : List Stamped) (k : ℕ) → sector_at l k ≡ sector_at (l ++ []) k
     same [] k = refl
@@ -177,3 +177,51 @@ pub batch_has_its_bytes : BatchHasItsBytes
 batch_has_its_bytes shares kept bytes =
     let n = 492 - length kept in
     ap (λ (l : List ℕ). take n bytes ++ l) (pieces_join (drop n bytes)) ∙ take-append-drop n bytes
+
+-- clearing
+
+blank_fits : FitsSector blank
+blank_fits = record { number = omega arith; begun = omega arith; ends = omega arith; bytes = omega arith }
+
+blanks_fit : (n : ℕ) → AllFit (replicate n blank)
+blanks_fit zero = tt
+blanks_fit (suc n) = (blank_fits, blanks_fit n)
+
+blank_at : (n i : ℕ) → sector_at (replicate n blank) i ≡ blank
+blank_at zero i = refl
+blank_at (suc n) zero = refl
+blank_at (suc n) (suc i) = blank_at n i
+
+last_and_blanks : (last : Stamped) (n i : ℕ) → sector_at (last ∷ replicate n blank) i ≡ sector_at (last ∷ []) i
+last_and_blanks last n zero = refl
+last_and_blanks last n (suc i) = blank_at n i
+
+pub torn_is_cleared : TornIsCleared
+torn_is_cleared file front last torn has others within fits k = ⊎_elim in_front behind_front (cases_lt k (length front))
+  where
+    news_long : length (raws (last ∷ replicate torn blank)) ≡ 512 * (torn + 1)
+    news_long = raws_length (last ∷ replicate torn blank) (fits, blanks_fit torn) ∙ ap (λ (n : ℕ). 512 * n) (let e : length (last ∷ replicate torn blank) ≡ torn + 1 = omega (arith, length-replicate {A = Stamped} torn blank) in e)
+
+    in_front : k < length front → stamped (sector k (overwritten file (512 * length front) (raws (last ∷ replicate torn blank)))) ≡ sector_at (front ++ last ∷ []) k
+    in_front less = ap stamped (before file (length front) (raws (last ∷ replicate torn blank)) (torn + 1) within news_long k less) ∙ has k less ∙ sym (at_front front (last ∷ []) k less)
+
+    new_one : (i : ℕ) → i < torn + 1 → stamped (sector (length front + i) (overwritten file (512 * length front) (raws (last ∷ replicate torn blank)))) ≡ sector_at (front ++ last ∷ []) (length front + i)
+    new_one i less =
+        ap stamped (inside file (length front) (raws (last ∷ replicate torn blank)) (torn + 1) within news_long i)
+        ∙ raws_at (last ∷ replicate torn blank) _ i (omega (arith, less, length-replicate {A = Stamped} torn blank)) (fits, blanks_fit torn)
+        ∙ last_and_blanks last torn i ∙ sym (at_behind front (last ∷ []) i)
+
+    after_all : (i : ℕ) → stamped (sector (length front + (torn + 1 + i)) (overwritten file (512 * length front) (raws (last ∷ replicate torn blank)))) ≡ sector_at (front ++ last ∷ []) (length front + (torn + 1 + i))
+    after_all i =
+        ap stamped (after file (length front) (raws (last ∷ replicate torn blank)) (torn + 1) within news_long i) ∙ others (length front + (torn + 1 + i)) (omega arith)
+        ∙ sym (at_behind front (last ∷ []) (torn + 1 + i) ∙ at_end (last ∷ []) (torn + 1 + i) (omega arith))
+
+    at_place : (j : ℕ) → j ≡ k → stamped (sector j (overwritten file (512 * length front) (raws (last ∷ replicate torn blank)))) ≡ sector_at (front ++ last ∷ []) j
+        → stamped (sector k (overwritten file (512 * length front) (raws (last ∷ replicate torn blank)))) ≡ sector_at (front ++ last ∷ []) k
+    at_place j is holds = subst (λ (x : ℕ). stamped (sector x (overwritten file (512 * length front) (raws (last ∷ replicate torn blank)))) ≡ sector_at (front ++ last ∷ []) x) is holds
+
+    behind_front : length front ≤ k → stamped (sector k (overwritten file (512 * length front) (raws (last ∷ replicate torn blank)))) ≡ sector_at (front ++ last ∷ []) k
+    behind_front le = ⊎_elim
+        (λ less. at_place (length front + (k - length front)) (omega (arith, le)) (new_one (k - length front) less))
+        (λ far. at_place (length front + (torn + 1 + (k - length front - (torn + 1)))) (omega (arith, le, far)) (after_all (k - length front - (torn + 1))))
+        (cases_lt (k - length front) (torn + 1))

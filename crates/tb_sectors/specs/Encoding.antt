@@ -1,7 +1,7 @@
 -- The bytes of sectors, and how a batch is cut into them.
 use Rattle.std.specs.Prelude.{◌≡◌, ℕ, ◌+◌, ◌-◌, ◌*◌, ◌<◌, ◌≤◌, ◌^◌, zero, suc, Bool, if◌then◌else◌, List, [], ◌∷◌, ◌++◌, length, take, drop, flat_map, replicate}
 use Rattle.std.specs.Int.{w16, w64, to_le_bytes}
-use Rattle.tb_sectors.specs.Stamped.{Stamped, Batch, batch_sectors, further_sectors, new_after}
+use Rattle.tb_sectors.specs.Stamped.{Stamped, blank, Batch, batch_sectors, further_sectors, new_after}
 
 -- a sector's stamp: number, batches begun, bytes used, where the last batch ends, and six zeros
 unfoldable pub stamp_bytes : ℕ → ℕ → ℕ → ℕ → List ℕ
@@ -34,6 +34,10 @@ pieces_of bytes = pieces (length bytes) bytes
 abbrev pub open_sector : ℕ → ℕ → List ℕ → Stamped
 open_sector number begun kept = record { number = number; begun = begun; ends = 0; bytes = kept }
 
+-- a sector with these bytes, all of them of whole batches
+abbrev pub whole_sector : ℕ → ℕ → List ℕ → Stamped
+whole_sector number begun bytes = record { number = number; begun = begun; ends = length bytes; bytes = bytes }
+
 -- the sectors of a batch with these bytes that begins in a sector with so many batches and these bytes: as many as fit there, and the others after it
 abbrev pub cut_batch : Stamped → List ℕ → List Stamped
 cut_batch last bytes = batch_sectors last (take (492 - length last.bytes) bytes) (pieces_of (drop (492 - length last.bytes) bytes))
@@ -53,3 +57,7 @@ place_of shares before = 512 * (if shares then length before else length before 
 -- what is written there
 abbrev pub written_of : Bool → Stamped → List ℕ → List ℕ
 written_of shares last bytes = raws (cut_batch (if shares then last else new_after last.number) bytes)
+
+-- what clears a torn end: the last sector of the batches that are whole, and so many sectors of zeros
+abbrev pub cleared_bytes : Stamped → ℕ → List ℕ
+cleared_bytes last torn = raws (last ∷ replicate torn blank)

@@ -1,8 +1,8 @@
 -- What holds of every journal in the stamped format, over a disk whose sectors are old or new.
-use Rattle.std.specs.Prelude.{◌≡◌, ◌≢◌, ◌⊎◌, ℕ, ◌+◌, ◌<◌, ◌≤◌, ◌^◌, true, Bool, if◌then◌else◌, List, [], ◌∷◌, ◌++◌, length, Some}
+use Rattle.std.specs.Prelude.{◌≡◌, ◌≢◌, ◌⊎◌, ℕ, ◌+◌, ◌*◌, ◌<◌, ◌≤◌, ◌^◌, true, Bool, if◌then◌else◌, List, [], ◌∷◌, ◌++◌, length, Some}
 use Rattle.tb_sectors.specs.Sectors.{IsMixed, sector, overwritten}
-use Rattle.tb_sectors.specs.Stamped.{Stamped, nothing_taken, read_on, Damaged, begins_in, Batch, batch_bytes, with_batch, stream, sector_at, after_batches, all_bytes, stamped, file_sectors}
-use Rattle.tb_sectors.specs.Encoding.{raw, FitsSector, batch_of, place_of, written_of}
+use Rattle.tb_sectors.specs.Stamped.{Stamped, blank, nothing_taken, read_on, Damaged, begins_in, Batch, batch_bytes, with_batch, stream, sector_at, after_batches, all_bytes, stamped, file_sectors}
+use Rattle.tb_sectors.specs.Encoding.{raw, FitsSector, batch_of, place_of, written_of, cleared_bytes}
 
 -- each sector of what is left is that of the one or that of the other, in any combination
 abbrev pub IsAnyMix : List Stamped → List Stamped → List Stamped → Type 0
@@ -43,6 +43,14 @@ abbrev pub BatchIsWritten : Type 0
 BatchIsWritten = (file : List ℕ) (before : List Stamped) (last : Stamped) (shares : Bool) (bytes : List ℕ)
     → HasSectors file (before ++ last ∷ []) → place_of shares before ≤ length file → FitsSector last → last.number + 1 < 2 ^ 64 → last.begun + 1 < 2 ^ 16
     → HasSectors (overwritten file (place_of shares before) (written_of shares last bytes)) (with_batch (before ++ last ∷ []) (batch_of shares (if shares then last.bytes else []) bytes))
+
+-- a file whose first sectors are those of a journal but its last one, and whose others are anything up to one after which all are blank: the last sector,
+-- as it was, and zeros after it make it that journal
+abbrev pub TornIsCleared : Type 0
+TornIsCleared = (file : List ℕ) (before : List Stamped) (last : Stamped) (torn : ℕ)
+    → ((k : ℕ) → k < length before → stamped (sector k file) ≡ sector_at before k) → ((k : ℕ) → length before + torn < k → stamped (sector k file) ≡ blank)
+    → 512 * length before ≤ length file → FitsSector last
+    → HasSectors (overwritten file (512 * length before) (cleared_bytes last torn)) (before ++ last ∷ [])
 
 -- it has the bytes of the batch, all of them and in their order
 abbrev pub BatchHasItsBytes : Type 0

@@ -22,10 +22,23 @@ pub record Commits (first : List ℕ) (batches : List Batch) (batch : Batch) (re
   pub acknowledged : OnOk result (IsSettled after × HasSectors after.seen (after_batches first (batch ∷ batches)))
   pub any_moment : LeavesOnly before after (IsBeforeOrAfter first batches batch)
 
+-- a clear: once it returns, the file has the batches before the torn one and nothing of that one, and all of it is durable
+pub record Clears (first : List ℕ) (batches : List Batch) (batch : Batch) (result : Result (Unit {0}) SectorFault) (before after : Disk) : Type 0 where
+  pub cleared : OnOk result (IsSettled after × HasSectors after.seen (after_batches first batches))
+  pub any_moment : LeavesOnly before after (IsBeforeOrAfter first batches batch)
+
 abbrev pub WritesBatch : ℕ → List ℕ → Result (Unit {0}) SectorFault → Disk → Disk → Type 0
 WritesBatch at bytes result before after =
     (first : List ℕ) (batches : List Batch) (batch : Batch) → IsSettled before → HasSectors before.seen (after_batches first batches)
     → HasSectors (overwritten before.seen at bytes) (after_batches first (batch ∷ batches)) → Commits first batches batch result before after
+
+-- a start clears what a crash amid the commit of a batch left: these bytes at this offset make the file the journal of the batches before it again. A
+-- crash at any moment of it leaves what a crash amid the commit may leave. Only then a batch is written there again
+abbrev pub ClearsTorn : ℕ → List ℕ → Result (Unit {0}) SectorFault → Disk → Disk → Type 0
+ClearsTorn at bytes result before after =
+    (first : List ℕ) (batches : List Batch) (batch : Batch) (old new : List ℕ) → IsSettled before
+    → HasSectors old (after_batches first batches) → HasSectors new (after_batches first (batch ∷ batches)) → IsMixed old new before.seen
+    → HasSectors (overwritten before.seen at bytes) (after_batches first batches) → Clears first batches batch result before after
 
 -- each sector is as it was
 abbrev pub HasSameSectors : List ℕ → List ℕ → Type 0

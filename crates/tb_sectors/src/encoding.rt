@@ -1,7 +1,7 @@
 //! A batch as the bytes of its sectors.
 ghost use Rattle.std.specs.Prelude.{◌≡◌, ◌≤◌, ◌<◌, ◌+◌, ◌^◌, ◌++◌, ◌-◌, not, length, replicate, if◌then◌else◌, OnOk};
-ghost use Rattle.tb_sectors.specs.Stamped.{further};
-ghost use Rattle.tb_sectors.specs.Encoding.{stamp_bytes, raw, raws, further_raws, open_sector, cut_batch};
+ghost use Rattle.tb_sectors.specs.Stamped.{blank, further};
+ghost use Rattle.tb_sectors.specs.Encoding.{stamp_bytes, raw, raws, further_raws, open_sector, cut_batch, cleared_bytes, whole_sector};
 
 use std::alloc::AllocError;
 
@@ -30,6 +30,33 @@ pub fn push_batch(
     let ends = end_in(more.is_empty(), kept.len() + first.len(), kept.len());
     push_sector(out, number + 1, begun + 1, ends, kept, first)?;
     push_further(out, number + 1, more)?;
+    Ok(())
+}
+
+/// Adds what clears a torn end: the last sector of the batches that are whole, with these bytes, and so many sectors of zeros.
+pub fn push_cleared(
+    out: &mut Vec<u8>,
+    number: u64,
+    begun: u16,
+    kept: &[u8],
+    torn: usize,
+) -> Result<(), AllocError>
+    requires { length kept.now ≤ 492 }
+    ensures { OnOk result (out.new.items ≡ out.old.items ++ cleared_bytes (whole_sector number begun kept.now) torn) }
+{
+    let ends = end_in(true, kept.len(), 0);
+    push_sector(out, number, begun, ends, kept, &[])?;
+    push_blanks(out, torn)?;
+    Ok(())
+}
+
+// Adds sectors of zeros.
+fn push_blanks(out: &mut Vec<u8>, count: usize) -> Result<(), AllocError>
+    ensures { OnOk result (out.new.items ≡ out.old.items ++ raws (replicate count blank)) }
+{
+    for _added in 0..count {
+        push_sector(out, 0, 0, 0, &[], &[])?;
+    }
     Ok(())
 }
 

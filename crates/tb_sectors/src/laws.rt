@@ -1,5 +1,5 @@
 //! What holds of every journal in the stamped format.
-ghost use Rattle.tb_sectors.specs.StampedLaws.{CrashLeavesAllOrNone, CommittedIsRead, FileIsAllOrNone, LostWriteIsDamage, SectorIsReadBack, BatchIsWritten, BatchHasItsBytes};
+ghost use Rattle.tb_sectors.specs.StampedLaws.{CrashLeavesAllOrNone, CommittedIsRead, FileIsAllOrNone, LostWriteIsDamage, SectorIsReadBack, BatchIsWritten, BatchHasItsBytes, TornIsCleared};
 
 /// A crash amid the commit of a batch, after any others, leaves the batch whole or nothing of it, and all earlier ones.
 pub fn crash_leaves_all_or_none()
@@ -34,4 +34,9 @@ pub fn batch_is_written()
 /// A batch that is cut has all of its bytes.
 pub fn batch_has_its_bytes()
     ensures { BatchHasItsBytes }
+{}
+
+/// What clears a torn end makes the file the journal of the batches that are whole.
+pub fn torn_is_cleared()
+    ensures { TornIsCleared }
 {}

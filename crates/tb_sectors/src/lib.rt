@@ -6,7 +6,7 @@
 //! - `memory`: `MemorySectors`, a file in memory that is such a disk.
 //! - `encoding`: a batch as the bytes of its sectors.
 //! - `reading`: `SectorReader`, the sectors of a file taken in order.
-//! - `writing`: a batch, and zeros ahead of the batches, each written with one sync.
+//! - `writing`: a batch, what clears a torn one, and zeros ahead of the batches, each written with one sync.
 //! - `laws`: what holds of every journal in the stamped format.
 #![tactic(auto)]
 
@@ -18,7 +18,7 @@ mod reading;
 mod writing;
 
 pub use devices::{SectorFault, SectorFile};
-pub use encoding::{BYTES_IN_A_SECTOR, SECTOR_BYTES, push_batch};
+pub use encoding::{BYTES_IN_A_SECTOR, SECTOR_BYTES, push_batch, push_cleared};
 pub use memory::MemorySectors;
 pub use reading::SectorReader;
-pub use writing::{RESERVE_MAX, RESERVE_MIN, commit, next_reserve, reserve};
+pub use writing::{RESERVE_MAX, RESERVE_MIN, clear, commit, next_reserve, reserve};

@@ -1,7 +1,7 @@
 //! The two ways in which a journal's file is written: a batch, and zeros ahead of the batches, each with one sync.
 ghost use Rattle.std.specs.Prelude.{◌≡◌, ◌≤◌, ◌^◌, length, replicate, min, max};
 ghost use Rattle.tb_sectors.specs.Sectors.{IsSettled};
-ghost use Rattle.tb_sectors.specs.Steps.{Overwrites, WritesBatch, Reserves};
+ghost use Rattle.tb_sectors.specs.Steps.{Overwrites, WritesBatch, ClearsTorn, Reserves};
 
 use crate::devices::{SectorFault, SectorFile};
 
@@ -21,6 +21,15 @@ pub fn commit<D: SectorFile>(device: &mut D, at: usize, sectors: &[u8]) -> Resul
         Ok(()) => device.sync(),
         Err(fault) => Err(fault),
     }
+}
+
+/// Writes over what a crash left of a commit, and syncs. Before that nothing is written there: a batch with the same number would take the sectors of the
+/// torn one for its own.
+pub fn clear<D: SectorFile>(device: &mut D, at: usize, sectors: &[u8]) -> Result<(), SectorFault>
+    requires { at ≤ length (D.disk device.old).seen }
+    ensures { ClearsTorn at sectors.now result (D.disk device.old) (D.disk device.new) }
+{
+    commit(device, at, sectors)
 }
 
 /// Writes zeros after the end of a file, and syncs, so that commits there change neither its length nor where its bytes are on the disk.

@@ -2,7 +2,7 @@
 use crate::steps::{expect, expect_bytes, mixed, over, sure};
 use std::alloc::Global;
 use std::process::Abort;
-use tb_sectors::{SectorReader, push_batch};
+use tb_sectors::{SectorReader, push_batch, push_cleared};
 
 // A batch that takes three sectors, and the end of the one before it.
 const BATCH: [u8; 1400] = [7; 1400];
@@ -73,6 +73,19 @@ fn a_batch_in_new_sectors_is_whole_or_not_there(rt: HostRuntime) {
     let old = created(&rt, alloc);
     let new = over(&rt, &old, 1, &sectors(&rt, alloc, 1, 0, &[], &BATCH));
     expect_all_or_none(&rt, alloc, &old, &new, 0b1110);
+}
+
+#[test]
+fn a_torn_end_is_cleared(rt: HostRuntime) {
+    let alloc = rt.alloc();
+    let old = created(&rt, alloc);
+    let new = over(&rt, &old, 0, &sectors(&rt, alloc, 1, 1, b"head", &BATCH));
+    let mut cleared = Vec::new(alloc);
+    sure(&rt, push_cleared(&mut cleared, 1, 1, b"head", 2));
+    for mask in 0..8u32 {
+        let left = mixed(&old, &new, mask);
+        expect_bytes(&rt, &over(&rt, &left, 0, &cleared), &old);
+    }
 }
 
 #[test]
