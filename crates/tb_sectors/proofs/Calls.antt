@@ -1,13 +1,12 @@
 -- One more call joins those that a file in memory has had.
 use Rattle.std.proofs.lemmas.Grind.{common_steps}
-use Rattle.std.proofs.Common.{◌≡◌, ◌⊎◌, inl, inr, ⊎_elim, ℕ, ◌+◌, ◌≤◌, ap, Bool, List, [], ◌∷◌, ◌++◌, length, take, refl, sym, ◌∙◌, subst, arith, reverse, length-append, Result, Ok, Err, OnOk}
+use Rattle.std.proofs.Common.{◌≡◌, ◌⊎◌, inl, inr, ⊎_elim, ℕ, ◌+◌, ◌≤◌, Bool, List, [], ◌∷◌, ◌++◌, length, take, refl, sym, ◌∙◌, subst, arith, reverse, length-append, Result, Ok, Err, OnOk}
 use Rattle.std.proofs.lemmas.List.{take_all, take-append-le, reverse-append}
 use Rattle.std.proofs.lemmas.Bool.{cases_lt}
 use Rattle.std.specs.Prelude.{Vec}
 use Rattle.std.specs.declared.alloc.Global.{Global}
 use Rattle.tb_sectors.specs.Sectors.{Elapses, IsMixed, Writes, Syncs, overwritten}
 use Rattle.tb_sectors.specs.Memory.{LeftBy, disk_after}
-use Rattle.tb_sectors.specs.declared.devices.SectorFault.{SectorFault}
 use Rattle.tb_sectors.specs.declared.memory.Call.{Call}
 use Rattle.tb_sectors.specs.declared.memory.Call.TheVariants as variants
 

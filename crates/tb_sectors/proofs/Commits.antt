@@ -1,12 +1,12 @@
 -- A write and a sync.
-use Rattle.std.proofs.Common.{◌≡◌, ◌⊎◌, inl, inr, ⊎_elim, ℕ, zero, suc, ◌+◌, ◌-◌, ◌*◌, ◌≤◌, ap, true, List, [], ◌∷◌, ◌++◌, length, take, drop, replicate, refl, sym, ◌∙◌, subst, arith, Result, Ok, Err, OnOk}
+use Rattle.std.proofs.Common.{◌≡◌, inl, inr, ⊎_elim, ℕ, zero, suc, ◌+◌, ◌*◌, ◌≤◌, ap, true, List, [], ◌∷◌, ◌++◌, length, take, drop, replicate, refl, sym, ◌∙◌, subst, arith, Result, Ok, Err, OnOk}
 use Rattle.std.proofs.lemmas.List.{append-nil, take_all, append_assoc}
 use Rattle.std.proofs.Math.ListN.{drop_of_length-le}
 use Rattle.tb_sectors.specs.declared.devices.SectorFault.{SectorFault}
 use Rattle.tb_sectors.specs.Sectors.{Disk, IsSettled, IsMixed, Only, Elapses, LeavesOnly, Writes, Syncs, overwritten, sector}
-use Rattle.tb_sectors.specs.Stamped.{Batch, stream, stamped, file_sectors, after_batches, all_bytes}
+use Rattle.tb_sectors.specs.Stamped.{stamped, file_sectors, after_batches}
 use Rattle.tb_sectors.specs.StampedLaws.{HasSectors}
-use Rattle.tb_sectors.specs.Steps.{Overwrites, Commits, WritesBatch, IsBeforeOrAfter, ClearsTorn, HasSameSectors, Reserves}
+use Rattle.tb_sectors.specs.Steps.{Overwrites, WritesBatch, IsBeforeOrAfter, ClearsTorn, HasSameSectors, Reserves}
 use Rattle.tb_sectors.specs.private.MemoryLaws.{mixed_old, mixed_new}
 use Rattle.tb_sectors.proofs.Journals.{crash_leaves_all_or_none, file_is_all_or_none, file_sector}
 

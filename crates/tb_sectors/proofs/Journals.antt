@@ -1,12 +1,12 @@
 -- A journal after any batches is at rest, and has their bytes.
-use Rattle.std.proofs.Common.{◌≡◌, ◌⊎◌, inl, inr, ⊎_elim, ℕ, zero, suc, ◌+◌, ◌-◌, ◌*◌, ◌/◌, ◌%◌, ◌≤◌, ◌<◌, ap, Bool, true, false, List, [], ◌∷◌, ◌++◌, length, take, drop, flat_map, replicate, refl, sym, ◌∙◌, subst, arith, Some, append_assoc}
+use Rattle.std.proofs.Common.{◌≡◌, inl, inr, ⊎_elim, ℕ, zero, suc, ◌+◌, ◌*◌, ◌/◌, ◌≤◌, ◌<◌, ap, Bool, true, false, List, [], ◌∷◌, ◌++◌, length, take, flat_map, replicate, refl, sym, ◌∙◌, subst, arith, Some, append_assoc}
 use Rattle.std.specs.Prelude.{nat_le, if◌then◌else◌}
 use Rattle.std.proofs.lemmas.List.{append-nil}
 use Rattle.std.proofs.Math.Seq.{take-length}
 use Rattle.std.proofs.Math.ListN.{drop_of_length-le}
 use Rattle.std.proofs.lemmas.Bool.Decides.{nat_tests}
 use Rattle.tb_sectors.specs.Sectors.{IsMixed, sector}
-use Rattle.tb_sectors.specs.Stamped.{Stamped, blank, Taken, nothing_taken, with_sector, read_on, stream, stream_of, Batch, batch_bytes, grown, further, goes_on, further_sectors, batch_sectors, new_after, after_last, with_batch, created, after_batches, all_bytes, sector_at, stamped, sectors_from, file_sectors}
+use Rattle.tb_sectors.specs.Stamped.{Stamped, blank, Taken, nothing_taken, with_sector, Batch, batch_bytes, grown, further, goes_on, further_sectors, batch_sectors, new_after, after_last, with_batch, after_batches, all_bytes, sector_at, stamped, sectors_from, file_sectors}
 use Rattle.tb_sectors.specs.StampedLaws.{IsAnyMix, CrashLeavesAllOrNone, CommittedIsRead, HasSectors, FileIsAllOrNone}
 use Rattle.tb_sectors.proofs.Mixes.{IsNext, IsAtRest, sector_bytes, at_rest_reads, batch_or_none}
 

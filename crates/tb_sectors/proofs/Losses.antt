@@ -1,14 +1,14 @@
 -- A sector that lost a write, and the bytes of one that did not.
-use Rattle.std.proofs.Common.{◌≡◌, ◌≢◌, ◌⊎◌, inl, inr, ⊎_elim, ℕ, ◌+◌, ◌-◌, ◌≤◌, ◌<◌, ap, Bool, true, false, List, [], ◌∷◌, ◌++◌, length, take, replicate, refl, sym, ◌∙◌, subst, arith, length-append}
+use Rattle.std.proofs.Common.{◌≡◌, ◌≢◌, ◌⊎◌, inl, inr, ⊎_elim, ℕ, ◌+◌, ◌-◌, ◌≤◌, ap, Bool, true, false, List, [], ◌∷◌, ◌++◌, length, take, replicate, refl, ◌∙◌, subst, arith, length-append}
 use Rattle.std.specs.Prelude.{nat_lt, ◌==◌, ◌&&◌, ◌||◌, if◌then◌else◌}
 use Rattle.std.proofs.lemmas.List.{length-replicate}
 use Rattle.std.proofs.Math.Seq.{take-append_seam}
 use Rattle.std.proofs.lemmas.Nat.{from_le_bytes-to_le_bytes_2, from_le_bytes-to_le_bytes_8}
 use Rattle.std.proofs.lemmas.Bool.Decides.{nat_tests}
-use Rattle.tb_sectors.specs.Stamped.{Stamped, Taken, nothing_taken, follows, with_sector, begins_in, Verdict, Ends, Damaged, read_on, Batch, after_batches, stamped}
+use Rattle.tb_sectors.specs.Stamped.{Stamped, Taken, nothing_taken, follows, with_sector, begins_in, Ends, Damaged, read_on, stamped}
 use Rattle.tb_sectors.specs.StampedLaws.{LostWriteIsDamage, SectorIsReadBack}
 use Rattle.tb_sectors.specs.Encoding.{stamp_bytes, raw, FitsSector}
-use Rattle.tb_sectors.proofs.Mixes.{IsNext, IsAtRest, takes}
+use Rattle.tb_sectors.proofs.Mixes.{IsAtRest, takes}
 use Rattle.tb_sectors.proofs.Journals.{batches_at_rest}
 
 either : (b : Bool) → (b ≡ true) ⊎ (b ≡ false)

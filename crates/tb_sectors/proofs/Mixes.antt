@@ -4,7 +4,7 @@ use Rattle.std.specs.Prelude.{nat_lt, nat_le, ◌==◌, ◌&&◌, ◌||◌, if�
 use Rattle.std.proofs.lemmas.List.{append-nil}
 use Rattle.std.proofs.Math.Seq.{take-append_seam, take-length}
 use Rattle.std.proofs.lemmas.Bool.Decides.{nat_tests}
-use Rattle.tb_sectors.specs.Stamped.{Stamped, blank, Taken, follows, with_sector, begins_in, Verdict, Ends, Damaged, read_on, stream_of, Batch, batch_bytes, grown, further, goes_on, further_sectors, batch_sectors, new_after, after_last, with_batch, sector_at}
+use Rattle.tb_sectors.specs.Stamped.{Stamped, blank, Taken, follows, with_sector, begins_in, Verdict, Ends, Damaged, read_on, stream_of, Batch, batch_bytes, grown, further, goes_on, further_sectors, new_after, after_last, with_batch, sector_at}
 
 -- tests
 

@@ -1,12 +1,12 @@
 -- What a commit writes, sector by sector.
-use Rattle.std.proofs.Common.{◌≡◌, ◌⊎◌, inl, inr, ⊎_elim, ℕ, zero, suc, ◌+◌, ◌-◌, ◌*◌, ◌^◌, ◌≤◌, ◌<◌, ap, Bool, true, false, List, [], ◌∷◌, ◌++◌, length, take, drop, replicate, refl, sym, ◌∙◌, subst, arith, append_assoc, length-append, length-drop, length-take}
+use Rattle.std.proofs.Common.{◌≡◌, ⊎_elim, ℕ, zero, suc, ◌+◌, ◌-◌, ◌*◌, ◌^◌, ◌≤◌, ◌<◌, ap, Bool, true, false, List, [], ◌∷◌, ◌++◌, length, take, drop, replicate, refl, sym, ◌∙◌, subst, arith, append_assoc, length-append, length-drop, length-take}
 use Rattle.std.specs.Prelude.{if◌then◌else◌}
 use Rattle.std.proofs.lemmas.List.{length-replicate, take_at, drop_at, take-append-le, drop-take, length-take-le, take-append-drop}
 use Rattle.std.proofs.lemmas.Bool.{cases_lt}
 use Rattle.tb_sectors.specs.Sectors.{overwritten, sector}
-use Rattle.tb_sectors.specs.Stamped.{Stamped, blank, Batch, grown, further, goes_on, further_sectors, batch_sectors, new_after, after_last, with_batch, sector_at, stamped}
+use Rattle.tb_sectors.specs.Stamped.{Stamped, blank, Batch, grown, further, goes_on, further_sectors, new_after, after_last, with_batch, sector_at, stamped}
 use Rattle.tb_sectors.specs.StampedLaws.{HasSectors, BatchIsWritten, BatchHasItsBytes, TornIsCleared}
-use Rattle.tb_sectors.specs.Encoding.{raw, raws, FitsSector, pieces, pieces_of, cut_batch, batch_of, place_of, written_of}
+use Rattle.tb_sectors.specs.Encoding.{raw, raws, FitsSector, pieces, pieces_of, cut_batch, batch_of}
 use Rattle.tb_sectors.proofs.Losses.{read_back, raw_length}
 use Rattle.tb_sectors.proofs.Readers.{shifted}
 use Rattle.tb_sectors.proofs.Pieces.{pieces_join}

@@ -1,5 +1,5 @@
 -- The bytes of sectors, and how a batch is cut into them.
-use Rattle.std.specs.Prelude.{◌≡◌, ℕ, ◌+◌, ◌-◌, ◌*◌, ◌<◌, ◌≤◌, ◌^◌, zero, suc, Bool, if◌then◌else◌, List, [], ◌∷◌, ◌++◌, length, take, drop, flat_map, replicate}
+use Rattle.std.specs.Prelude.{ℕ, ◌+◌, ◌-◌, ◌*◌, ◌<◌, ◌≤◌, ◌^◌, zero, suc, Bool, if◌then◌else◌, List, [], ◌∷◌, ◌++◌, length, take, drop, flat_map, replicate}
 use Rattle.std.specs.Int.{w16, w64, to_le_bytes}
 use Rattle.tb_sectors.specs.Stamped.{Stamped, blank, Batch, batch_sectors, further_sectors, new_after}
 

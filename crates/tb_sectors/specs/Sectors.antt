@@ -1,5 +1,5 @@
 -- A disk whose sectors are old or new: what its calls do to a file, and what a crash may leave between two syncs.
-use Rattle.std.specs.Prelude.{◌≡◌, ◌⊎◌, ℕ, ◌+◌, ◌*◌, ◌≤◌, min, max, Bool, true, false, List, ◌++◌, length, take, drop, replicate, Result, OnOk, OnErr, IfOk}
+use Rattle.std.specs.Prelude.{◌≡◌, ◌⊎◌, ℕ, ◌+◌, ◌*◌, ◌≤◌, min, max, Bool, true, false, List, ◌++◌, length, take, drop, replicate, Result, OnOk, OnErr}
 use Rattle.tb_sectors.specs.declared.devices.SectorFault.{SectorFault}
 
 -- a sector of a file, 512 bytes at a multiple of 512: what the file has there, and zeros after its end

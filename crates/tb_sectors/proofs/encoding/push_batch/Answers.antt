@@ -1,4 +1,4 @@
-use Rattle.std.proofs.Common.{arith, ◌∙◌}
+use Rattle.std.proofs.Common.{arith}
 use Rattle.std.proofs.lemmas.Grind.{common_steps}
 use Rattle.tb_sectors.proofs.Pieces.{batch_built}
 use Rattle.tb_sectors.proofs.encoding.push_batch.Goals as goal

@@ -1,4 +1,4 @@
-use Rattle.std.proofs.Common.{ap, ◌∙◌, ◌++◌, List, ℕ, refl, arith}
+use Rattle.std.proofs.Common.{ap, ◌∙◌, ◌++◌, List, ℕ, refl}
 use Rattle.tb_sectors.proofs.Pieces.{sector_built}
 use Rattle.tb_sectors.proofs.encoding.push_sector.Goals as goal
 

@@ -1,4 +1,4 @@
-use Rattle.std.proofs.Common.{◌≡◌, ◌∙◌, ap, arith, rules, ℕ, take, drop}
+use Rattle.std.proofs.Common.{◌∙◌, ap, arith, rules, ℕ, take, drop}
 use Rattle.std.proofs.lemmas.Grind.{common_steps}
 use Rattle.tb_sectors.specs.Stamped.{Taken, stamped, with_sector}
 use Rattle.tb_sectors.proofs.Readers.{sector_taken, never}
