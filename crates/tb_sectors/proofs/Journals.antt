@@ -7,8 +7,8 @@ use Rattle.std.proofs.Math.ListN.{drop_of_length-le}
 use Rattle.std.proofs.lemmas.Bool.Decides.{nat_tests}
 use Rattle.tb_sectors.specs.Sectors.{IsMixed, sector}
 use Rattle.tb_sectors.specs.Stamped.{Stamped, blank, Taken, nothing_taken, with_sector, Batch, batch_bytes, grown, further, goes_on, further_sectors, batch_sectors, new_after, after_last, with_batch, after_batches, all_bytes, sector_at, stamped, sectors_from, file_sectors}
-use Rattle.tb_sectors.specs.StampedLaws.{IsAnyMix, CrashLeavesAllOrNone, CommittedIsRead, HasSectors, FileIsAllOrNone}
-use Rattle.tb_sectors.proofs.Mixes.{IsNext, IsAtRest, sector_bytes, at_rest_reads, batch_or_none}
+use Rattle.tb_sectors.specs.StampedLaws.{IsAnyMix, CrashLeavesAllOrNone, CommittedIsRead, FileIsRead, HasSectors, FileIsAllOrNone}
+use Rattle.tb_sectors.proofs.Mixes.{IsNext, IsAtRest, sector_bytes, at_rest_reads, batch_or_none, same_reads}
 
 completes : (t : Taken) (s : Stamped) → s.ends ≡ length s.bytes → (with_sector t s).whole ≡ t.all ++ s.bytes
 completes t s ends =
@@ -136,3 +136,7 @@ pub file_is_all_or_none : FileIsAllOrNone
 file_is_all_or_none first batches batch old new left has will mixed =
     crash_leaves_all_or_none first batches batch (file_sectors left)
     (mixed_sectors old new left (after_batches first batches) (after_batches first (batch ∷ batches)) has will mixed)
+
+pub file_is_read : FileIsRead
+file_is_read first batches file has =
+    same_reads nothing_taken (after_batches first batches) (file_sectors file) (batches_at_rest first batches) (λ k. file_sector k file ∙ has k) ∙ ap Some (batches_bytes first batches)

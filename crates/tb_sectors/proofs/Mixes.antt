@@ -213,3 +213,12 @@ batch_or_none t (s ∷ r ∷ more) batch (x ∷ left) (next, rests) h =
     (append_assoc t.all s.bytes bytes)
     (append_assoc t.all s.bytes (bytes ++ batch_bytes batch) ∙ ap (λ (l : List ℕ). t.all ++ l) (sym (append_assoc s.bytes bytes (batch_bytes batch))))
     (batch_or_none (with_sector t s) (r ∷ more) batch left rests (λ k. h (suc k)))
+
+-- what has the sectors of a journal at rest, and blank ones after them, is read as that journal
+pub same_reads : (t : Taken) (sectors left : List Stamped) → IsAtRest t sectors → ((k : ℕ) → sector_at left k ≡ sector_at sectors k)
+    → stream_of (read_on t left) ≡ Some (t.all ++ sector_bytes sectors)
+same_reads t [] left whole h = ap stream_of (all_blank t left (λ k. inl (h k))) ∙ ap Some (whole ∙ sym (append-nil t.all))
+same_reads t (s ∷ rest) [] (next, more) h = absurd (not_blank s next.stamped (h 0))
+same_reads t (s ∷ rest) (x ∷ left) (next, more) h =
+    ap (λ (y : Stamped). stream_of (read_on t (y ∷ left))) (h 0) ∙ ap stream_of (takes t s left next)
+    ∙ same_reads (with_sector t s) rest left more (λ k. h (suc k)) ∙ ap Some (append_assoc t.all s.bytes (sector_bytes rest))

@@ -22,7 +22,11 @@ CommittedIsRead = (first : List ℕ) (batches : List Batch) → stream (after_ba
 abbrev pub HasSectors : List ℕ → List Stamped → Type 0
 HasSectors file sectors = (k : ℕ) → stamped (sector k file) ≡ sector_at sectors k
 
--- the same for files: their sectors are mixed by a crash
+-- a file that has the sectors of a journal, and any number of blank ones after them, is read as that journal
+abbrev pub FileIsRead : Type 0
+FileIsRead = (first : List ℕ) (batches : List Batch) (file : List ℕ) → HasSectors file (after_batches first batches) → stream (file_sectors file) ≡ Some (all_bytes first batches)
+
+-- the law of a crash for files, whose sectors it mixes
 abbrev pub FileIsAllOrNone : Type 0
 FileIsAllOrNone = (first : List ℕ) (batches : List Batch) (batch : Batch) (old new left : List ℕ)
     → HasSectors old (after_batches first batches) → HasSectors new (after_batches first (batch ∷ batches)) → IsMixed old new left

@@ -1,5 +1,5 @@
 //! What holds of every journal in the stamped format.
-ghost use Rattle.tb_sectors.specs.StampedLaws.{CrashLeavesAllOrNone, CommittedIsRead, FileIsAllOrNone, LostWriteIsDamage, SectorIsReadBack, BatchIsWritten, BatchHasItsBytes, TornIsCleared};
+ghost use Rattle.tb_sectors.specs.StampedLaws.{CrashLeavesAllOrNone, CommittedIsRead, FileIsRead, FileIsAllOrNone, LostWriteIsDamage, SectorIsReadBack, BatchIsWritten, BatchHasItsBytes, TornIsCleared};
 
 /// A crash amid the commit of a batch, after any others, leaves the batch whole or nothing of it, and all earlier ones.
 pub fn crash_leaves_all_or_none()
@@ -11,7 +11,12 @@ pub fn committed_is_read()
     ensures { CommittedIsRead }
 {}
 
-/// The same for the bytes of files that a crash mixes by sectors.
+/// The same for a file, with reserved zeros after its sectors.
+pub fn file_is_read()
+    ensures { FileIsRead }
+{}
+
+/// A crash amid a commit, for the bytes of files.
 pub fn file_is_all_or_none()
     ensures { FileIsAllOrNone }
 {}
