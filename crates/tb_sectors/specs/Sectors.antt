@@ -1,5 +1,5 @@
 -- A disk whose sectors are old or new: what its calls do to a file, and what a crash may leave between two syncs.
-use Rattle.std.specs.Prelude.{◌≡◌, ◌⊎◌, ℕ, ◌+◌, ◌*◌, ◌≤◌, min, max, Bool, true, false, List, ◌++◌, length, take, drop, replicate, Result, OnOk, OnErr}
+use Rattle.std.specs.Prelude.{◌≡◌, ◌⊎◌, ℕ, ◌+◌, ◌*◌, ◌≤◌, min, max, Bool, true, false, List, [], ◌∷◌, ◌++◌, length, take, drop, replicate, Result, OnOk, OnErr}
 use Rattle.tb_sectors.specs.declared.devices.SectorFault.{SectorFault}
 
 -- a sector of a file, 512 bytes at a multiple of 512: what the file has there, and zeros after its end
@@ -45,6 +45,20 @@ pub record LeavesOnly (before after : Disk) (P : List ℕ → Type 0) : Type 0 w
   pub each : (c : List ℕ) → after.left_since before.moment c → P c
   -- for a run that began earlier
   pub earlier : (t : ℕ) (c : List ℕ) → t ≤ before.moment → after.left_since t c → before.left_since t c ⊎ P c
+
+-- what a crash may leave of a file that was synced, after these writes since, each by the file that it made, the newest first
+abbrev pub LeftAfter : List ℕ → List (List ℕ) → List ℕ → Type 0
+LeftAfter synced [] left = left ≡ synced
+LeftAfter synced (newest ∷ earlier) left = (d : List ℕ) × LeftAfter synced earlier d × IsMixed d newest left
+
+-- a sector is as it was synced, or as it was after one of these writes
+abbrev pub IsAVersion : ℕ → List ℕ → List (List ℕ) → List ℕ → Type 0
+IsAVersion k synced [] left = sector k left ≡ sector k synced
+IsAVersion k synced (newest ∷ earlier) left = (sector k left ≡ sector k newest) ⊎ IsAVersion k synced earlier left
+
+-- so each sector of what a crash leaves is one of its versions, whatever the others are
+abbrev pub EachSectorIsAVersion : Type 0
+EachSectorIsAVersion = (synced : List ℕ) (writes : List (List ℕ)) (left : List ℕ) → LeftAfter synced writes left → (k : ℕ) → IsAVersion k synced writes left
 
 -- what a crash may leave after a write: what it might have left before, each sector as it was there or as the write made it. So a sector that several
 -- writes changed since the last sync may be as any of them made it, or as it was synced

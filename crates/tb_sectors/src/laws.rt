@@ -1,5 +1,11 @@
-//! What holds of every journal in the stamped format.
+//! What holds of a disk whose sectors are old or new, and of every journal in the stamped format.
+ghost use Rattle.tb_sectors.specs.Sectors.{EachSectorIsAVersion};
 ghost use Rattle.tb_sectors.specs.StampedLaws.{CrashLeavesAllOrNone, CommittedIsRead, FileIsRead, FileIsAllOrNone, LostWriteIsDamage, SectorIsReadBack, BatchIsWritten, BatchHasItsBytes, TornIsCleared};
+
+/// After a crash each sector is as it was synced, or as one of the writes since then made it: any subset of those that were not synced may be lost.
+pub fn each_sector_is_a_version()
+    ensures { EachSectorIsAVersion }
+{}
 
 /// A crash amid the commit of a batch, after any others, leaves the batch whole or nothing of it, and all earlier ones.
 pub fn crash_leaves_all_or_none()

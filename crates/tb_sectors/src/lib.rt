@@ -7,7 +7,7 @@
 //! - `encoding`: a batch as the bytes of its sectors.
 //! - `reading`: `SectorReader`, the sectors of a file taken in order.
 //! - `writing`: a batch, what clears a torn one, and zeros ahead of the batches, each written with one sync.
-//! - `laws`: what holds of every journal in the stamped format.
+//! - `laws`: what holds of such a disk, and of every journal in the stamped format.
 #![tactic(auto)]
 
 mod devices;
