@@ -1,3 +1,4 @@
+pub mod Folder
 pub mod Named
 pub mod Opening
 pub mod Saved

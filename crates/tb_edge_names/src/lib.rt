@@ -7,8 +7,10 @@
 //! - `opening`: what opens a file, to serve it, to make it, or to read it.
 //! - `names`: `Name`, what the name of an open file leads to, and the copies next to it.
 //! - `named_files`: `NamedFiles`, what opens the files of a file system by their names.
+//! - `laws`: the contracts of the system's calls can be met.
 #![tactic(auto)]
 
+pub mod laws;
 mod named_files;
 mod names;
 mod opening;
