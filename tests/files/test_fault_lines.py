@@ -65,19 +65,29 @@ def test_files_without_a_record_or_of_another_kind(tbd, tmp_path, data, words, t
     assert (tmp_path / "ledger").read_bytes() == data and not (tmp_path / "new").exists()
 
 
-@pytest.mark.parametrize("words", ["check ledger", "run ledger 2", "run other 2"])
-def test_too_many_open_files(tbd, tmp_path, words):
-    """Each file takes one descriptor more for a moment."""
+FEW = [
+    ("check ledger", 4, "ledger"),
+    ("run ledger 2", 4, "ledger"),
+    ("run other 2", 4, "other"),
+    ("run other 2", 5, "other"),
+    ("backup ledger new", 5, "new"),
+]
+
+
+@pytest.mark.parametrize("words, limit, file", FEW)
+def test_too_many_open_files(tbd, tmp_path, words, limit, file):
+    """Each file takes one descriptor more for a moment, and one that is made its folder's. No empty
+    file is left."""
     kinds.made(tmp_path, "a ledger")
 
     def few():
-        resource.setrlimit(resource.RLIMIT_NOFILE, (4, 4))
+        resource.setrlimit(resource.RLIMIT_NOFILE, (limit, limit))
 
     told = ran(tbd, tmp_path, words.split(), preexec_fn=few)
-    file = words.split()[1]
     line = "too many files are open; raise their number by ulimit -n"
     assert told == (1, b"", f"tbd: Device: cannot open {file}: {line}\n")
     assert (tmp_path / "ledger").read_bytes() == LEDGER
+    assert [it.name for it in tmp_path.iterdir()] == ["ledger"]
 
 
 READ_ONLY = 'mount --bind "$1" "$1" && mount -o remount,bind,ro "$1" && shift && exec "$@"'

@@ -159,7 +159,8 @@ DROPPED = "tbd: cut 5 bytes of a batch that was not committed, after byte 191\n"
 def summary(behind):
     return (
         "records 3\nentries 2\nprofile 1\nclients_max 2\nlast time 11\n"
-        f"bytes after the records {behind}\n"
+        f"last date 1970-01-01T00:00:00Z\nbytes after the records {behind}\n"
+        "whole: every entry was replayed\n"
     ).encode()
 
 
@@ -167,11 +168,11 @@ def summary(behind):
 DONE = [
     ("run ledger 2", "nothing", REPLIES, MADE),
     ("run ledger 2", "no byte", REPLIES, MADE),
-    ("run ledger 2", "no record", REPLIES, ""),
+    ("run ledger 2", "no record", REPLIES, MADE),
     ("run ledger 2", "a ledger", AGAIN, ""),
     ("run ledger 2", "torn", AGAIN, CUT),
     ("run ledger 2 1", "no byte", REPLIES, MADE),
-    ("run ledger 2 --existing", "no record", REPLIES, ""),
+    ("run ledger 2 --existing", "no record", REPLIES, MADE),
     ("run ledger 2 --existing", "a ledger", AGAIN, ""),
     ("run ledger 2 --progress", "a ledger", AGAIN, READY),
     ("run ledger 2 1 --progress", "a ledger", AGAIN, READY),
@@ -355,7 +356,7 @@ LOST = "tbd: Device: standard output\n"
 OUTPUTS = [
     ("run ledger 2", "no byte", 0, REPLIES, MADE + LOST),
     ("run ledger 2", "no byte", 95, REPLIES, MADE + LOST),
-    ("run ledger 2", "no record", 95, REPLIES, LOST),
+    ("run ledger 2", "no record", 95, REPLIES, MADE + LOST),
     ("dump ledger", "a ledger", 0, DUMP, LOST),
     ("dump ledger", "a ledger", 159, DUMP, LOST),
     ("dump ledger --follow", "a ledger", 159, DUMP, LOST),
@@ -408,22 +409,32 @@ def test_an_input_that_fails(tbd, tmp_path):
     assert done.stderr == b"tbd: Device: standard input\n"
 
 
-# What a copy prints, of which kind of file, and how much of the ledger the new file has.
+def lost(count, at):
+    """The line of a salvage that did not copy so many bytes."""
+    return (
+        f"tbd: Damaged: ledger: {count} bytes after byte {at} were not copied; restore a backup, or"
+        " enter again what is missing\n"
+    )
+
+
+# What a copy prints, of which kind of file, what is said of what is lost, and how much of the
+# ledger the new file has.
 WHOLE = "entries 2\nlast commit 2\nlast time 11\nbytes after the records 0\n"
 TORN = (
     "entries 2\nlast commit 2\nlast time 11\n"
     "bytes after the records 5, not committed yet or torn\n"
 )
 COPIES = [
-    ("salvage", "a ledger", WHOLE, kinds.END),
-    ("backup", "a ledger", WHOLE, kinds.END),
-    ("salvage", "torn", TORN, kinds.END),
-    ("backup", "torn", TORN, kinds.END),
+    ("salvage", "a ledger", WHOLE, "", kinds.END),
+    ("backup", "a ledger", WHOLE, "", kinds.END),
+    ("salvage", "torn", TORN, "", kinds.END),
+    ("backup", "torn", TORN, "", kinds.END),
     (
         "salvage",
         "torn long",
         f"entries 2\nlast commit 2\nlast time 11\nbytes lost {kinds.TOO_LONG} after byte 191:"
         f" Damaged: {kinds.TOO_LONG} bytes after byte 191, more than one batch can have\n",
+        lost(kinds.TOO_LONG, 191),
         kinds.END,
     ),
     (
@@ -431,6 +442,7 @@ COPIES = [
         "second entry changed",
         "entries 1\nlast commit 1\nlast time 10\n"
         "bytes lost 91 after byte 100: Damaged: at byte 100\n",
+        lost(91, 100),
         kinds.FIRST_END,
     ),
     (
@@ -438,6 +450,7 @@ COPIES = [
         "first entry changed",
         "entries 0\nlast commit 0\nlast time 0\n"
         "bytes lost 166 after byte 25: Damaged: at byte 25\n",
+        lost(166, 25),
         kinds.HEAD_END,
     ),
     (
@@ -445,16 +458,17 @@ COPIES = [
         "no entry",
         "entries 0\nlast commit 0\nlast time 0\n"
         "bytes lost 14 after byte 25: Damaged: record 1: Short\n",
+        lost(14, 25),
         kinds.HEAD_END,
     ),
 ]
 
 
-@pytest.mark.parametrize("form, kind, printed, end", COPIES, ids=named)
-def test_what_is_whole_is_copied(tbd, tmp_path, form, kind, printed, end):
+@pytest.mark.parametrize("form, kind, printed, said, end", COPIES, ids=named)
+def test_what_is_whole_is_copied(tbd, tmp_path, form, kind, printed, said, end):
     path = kinds.made(tmp_path, kind)
     told = kinds.ran(tbd, tmp_path, [form, "ledger", "new"])
-    assert told == (0, printed.encode(), "")
+    assert told == (6 if said else 0, printed.encode(), said)
     assert (tmp_path / "new").read_bytes() == kinds.up_to(end)
     assert path.read_bytes() == FILES[kind]
 

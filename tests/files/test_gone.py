@@ -162,6 +162,43 @@ def test_what_was_acknowledged_is_in_the_file(tbd, tmp_path, harm):
     assert served.answered and all(it in dump.stdout for it in served.answered)
 
 
+@pytest.mark.parametrize("harm", [moved, removed, replaced])
+def test_a_dump_follows_no_other_file(tbd, tmp_path, harm):
+    """What was committed before is written, and then the follower is told."""
+    path = tmp_path / "ledger"
+    script = pair(1, 0, 0, Operation.register)
+    subprocess.run([tbd, "run", path, "64"], input=script, capture_output=True, check=True)
+    whole = subprocess.run([tbd, "dump", path], capture_output=True, check=True).stdout
+    words = [tbd, "dump", path, "--follow"]
+    with subprocess.Popen(words, stdout=subprocess.PIPE, stderr=subprocess.PIPE) as follower:
+        assert follower.stdout.read(len(whole)) == whole
+        harm(path)
+        rest, said = follower.communicate(timeout=SECONDS)
+    assert (follower.returncode, rest, said.decode()) == (GONE, b"", line(path))
+
+
+@pytest.mark.parametrize("first", range(1, 13))
+def test_a_look_that_fails_is_no_file_that_is_gone(tbd, tmp_path, first):
+    """strace has each look at the name and at the file fail with EIO from one on: those of the
+    start, and those of the commit."""
+    path = tmp_path / "ledger"
+    script = pair(1, 0, 0, Operation.register)
+    subprocess.run([tbd, "run", path, "64"], input=script, capture_output=True, check=True)
+    looks = "statx,newfstatat"
+    inject = ["-e", f"trace={looks}", "-e", f"inject={looks}:error=EIO:when={first}+"]
+    words = ["strace", "-f", "-qq", "-P", path, *inject, "-o", tmp_path / "calls"]
+    done = subprocess.run(
+        [*words, tbd, "run", path, "64"],
+        input=pair(2, 0, 0, Operation.register),
+        capture_output=True,
+        check=False,
+        timeout=SECONDS,
+    )
+    failed = "EIO" in (tmp_path / "calls").read_text()
+    assert (done.returncode, bool(done.stdout)) == ((1, False) if failed else (0, True))
+    assert done.stderr.decode().startswith("tbd: Device: " if failed else "")
+
+
 def test_another_name_does_no_harm(tbd, tmp_path):
     """A hard link more, and a start through a symbolic link."""
     os.symlink("ledger", tmp_path / "link")

@@ -1225,7 +1225,9 @@ def test_salvages(tbd, folder, data, latches, rng):
         report = f"entries {got}\nlast commit {got}\n".encode()
         lost = f"\nbytes lost {left} after byte {latch}: Damaged: ".encode()
         on = f"\nread on {got - taken} of the entries from byte {latch}\n".encode()
-        well = (status, line) == (0, "") and said.startswith(report) and lost in said and same
+        missing = f"tbd: Damaged: {path}: {left} bytes after byte {latch} were not copied; restore a backup, or enter again what is missing\n"
+        well = (status, line) == ((6, missing) if left else (0, ""))
+        well = well and said.startswith(report) and lost in said and same
         well = well and said.endswith(on) == (got > taken)
         if not well or kept != dump[: ends[got]]:
             wrong.append((at, status, said, line))

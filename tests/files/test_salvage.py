@@ -13,7 +13,8 @@ from .test_damage import CHECKSUM, LATCH, LENGTH, MAGIC, serve
 
 CLOSED = bytes([90, 195, 150, 105])  # a closed latch
 FIXED = LATCH + LENGTH + CHECKSUM
-REFUSED = (5, 6)  # exit statuses: NotAJournal, Damaged
+DAMAGED = 6  # the exit status if bytes are lost
+REFUSED = (5, DAMAGED)  # exit statuses: NotAJournal, Damaged
 
 
 @dataclass
@@ -96,7 +97,7 @@ def test_no_entry_is_lost_with_bytes_between_blocks(whole, tmp_path, change):
     place = whole.blocks[10]
     there = {"in": b"between" * 100 + whole.data[place:], "out": whole.data[place + 4 :]}
     status, printed, dump = whole.salvaged(tmp_path, whole.data[:place] + there[change])
-    assert (status, dump) == (0, whole.dump), printed
+    assert (status, dump) == ({"in": DAMAGED, "out": 0}[change], whole.dump), printed
 
 
 def test_nothing_is_lost_with_the_last_latch(whole, tmp_path):
@@ -112,7 +113,7 @@ def test_an_entry_that_is_lost_takes_the_later_ones(whole, tmp_path, at, count):
     old = whole.data[place + at : place + at + count]
     data = put(whole.data, place + at, bytes(it ^ 255 for it in old))
     status, printed, dump = whole.salvaged(tmp_path, data)
-    assert status == 0
+    assert status == DAMAGED
     assert whole.dump.startswith(dump)
     assert lines_of(printed)["entries"] == "9", printed
     assert f"bytes lost {len(data) - place - LATCH} after byte {place}: Damaged: " in printed
@@ -123,6 +124,14 @@ def test_nothing_is_lost_with_the_magic(whole, tmp_path, at, values):
     data = put(whole.data, at, values)
     status, printed, dump = whole.salvaged(tmp_path, data)
     assert (status, dump) == (0, whole.dump)
+    assert printed.endswith("\ndamaged magic: the first 8 bytes are not a journal's\n"), printed
+
+
+def test_a_loss_and_a_magic_are_said(whole, tmp_path):
+    place = whole.blocks[10]
+    data = put(put(whole.data, 0, b"\0"), place + FIXED, bytes(4))
+    status, printed, dump = whole.salvaged(tmp_path, data)
+    assert status == DAMAGED and whole.dump.startswith(dump)
     assert printed.endswith("\ndamaged magic: the first 8 bytes are not a journal's\n"), printed
 
 

@@ -10,7 +10,7 @@ use Rattle.tb_machine.specs.Histories.{State}
 use Rattle.tb_machine.proofs.RepeatLaws.{commit_is}
 use Rattle.tb_edge_file.specs.declared.copies.Copied.{Copied}
 use Rattle.tb_edge_file.specs.declared.rescues.Rescued.{Rescued}
-use Rattle.tb_edge_file.specs.Copies.{IsCopy, EndsCopy, copied_of, copied_text, rescued_of, rescued_text}
+use Rattle.tb_edge_file.specs.Copies.{IsCopy, EndsCopy, Reports, copied_of, copied_text, rescued_of}
 use Rattle.tb_edge_file.specs.declared.faults.KeepCommandFault.{KeepCommandFault}
 use Rattle.tb_edge_file.specs.ExitStatuses.{started_fault}
 use Rattle.tb_edge_file.specs.Naming.{Names}
@@ -47,6 +47,6 @@ refused its asked fault copied named from after start is names =
 
 -- the same of what was read on
 pub rescued_printed : (found : Rescued) (copied c : Copied) (S : State) (on : ReadOn) (outcome : FileOutcome) (start written : Output) → found ≡ rescued_of copied S on → copied ≡ c
-    → PrintsText (rescued_text found) outcome start written → PrintsText (rescued_text (rescued_of c S on)) outcome start written
-rescued_printed found copied c S on outcome start written is same prints =
-    subst (λ (r : Rescued). PrintsText (rescued_text r) outcome start written) (is ∙ ap (λ (d : Copied). rescued_of d S on) same) prints
+    → Reports found outcome start written → Reports (rescued_of c S on) outcome start written
+rescued_printed found copied c S on outcome start written is same reports =
+    subst (λ (r : Rescued). Reports r outcome start written) (is ∙ ap (λ (d : Copied). rescued_of d S on) same) reports

@@ -9,5 +9,6 @@ pub mod PartCauses
 pub mod DumpPrefixes
 pub mod Passing
 pub mod PrintedText
+pub mod ReadAfter
 pub mod Rounds
 pub mod WholeFiles

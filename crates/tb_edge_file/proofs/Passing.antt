@@ -5,7 +5,7 @@ use Rattle.tb_records.specs.Transport.{Output, Sent, CutOff, IsSent}
 use Rattle.tb_records.proofs.Sendings.{sent_rest}
 use Rattle.tb_edge_words.specs.declared.faults.Wrong.{Wrong}
 use Rattle.tb_edge_words.specs.Words.{word_fault_text}
-use Rattle.tb_edge_file.specs.ExitStatuses.{said_text, wrong_line, cut_line, PassesOn, SaysLine, PrintsCut}
+use Rattle.tb_edge_file.specs.ExitStatuses.{said_text, wrong_line, cut_line, PassesOn, SaysLine, PrintsCut, PrintsMade}
 
 sent_passed : (xs : List ℕ) (old mid new : Output) → Sent xs old mid → Sent [] mid new → Sent xs old new
 sent_passed xs old mid new one two = sent_rest xs [] old mid new xs (append-nil xs) one (Ok tt) two
@@ -31,3 +31,8 @@ wrong_sent wrong words shown what r old new same_shown same_what sent = rw (← 
 -- what was cut off is reported, with the place where the records end
 pub printed_cut : (cut len bytes at : ℕ) (before after : Output) → bytes ≡ cut → at ≡ len - bytes - 4 → PrintsCut bytes at before after → PrintsCut cut (len - cut - 4) before after
 printed_cut cut len bytes at before after same place told = rw (← same, ← place) told
+
+-- the same place decides whether a ledger was made
+pub printed_made : (cut len bytes at : ℕ) (path : List ℕ) (before after : Output) → bytes ≡ cut → at ≡ len - bytes - 4 → PrintsMade at path before after
+    → PrintsMade (len - cut - 4) path before after
+printed_made cut len bytes at path before after same place told = rw (← same, ← place) told

@@ -1,5 +1,5 @@
 -- What is copied of a file into a new one, up to its first damage, and what is reported of it.
-use Rattle.std.specs.Prelude.{ℕ, Bool, true, false, zero, suc, ◌≡◌, ◌-◌, List, [], ◌∷◌, ◌++◌, length, codes, Option, None, Some, Result, Ok, Err, OnOk, IfErr, MatchResult, refl}
+use Rattle.std.specs.Prelude.{ℕ, Bool, true, false, zero, suc, ◌≡◌, ◌==◌, if◌then◌else◌, ◌-◌, List, [], ◌∷◌, ◌++◌, length, codes, Option, None, Some, Result, Ok, Err, OnOk, IfErr, MatchResult, refl}
 use Rattle.std.specs.Fmt.{decimal, digits}
 use Rattle.tb_records.specs.Transport.{Output}
 use Rattle.tb_file_journal.specs.declared.devices.Device as devices
@@ -24,7 +24,8 @@ use Rattle.tb_edge_file.specs.declared.rescues.Rescued.{Rescued}
 use Rattle.tb_edge_file.specs.declared.faults.Damage.{Damage}
 use Rattle.tb_edge_file.specs.declared.faults.Damage.TheVariants.{Block}
 use Rattle.tb_edge_file.specs.declared.faults.KeepCommandFault.{KeepCommandFault}
-use Rattle.tb_edge_file.specs.declared.faults.KeepCommandFault.TheVariants.{Damaged, Opening, Making, NotAJournal}
+use Rattle.tb_edge_file.specs.declared.faults.Loss.{Loss}
+use Rattle.tb_edge_file.specs.declared.faults.KeepCommandFault.TheVariants.{Damaged, Lost, Opening, Making, NotAJournal}
 use Rattle.tb_edge_file.specs.declared.mending.Mended.{Mended}
 use Rattle.tb_edge_file.specs.Ends.{FileOutput, KnownFiles, KnownReading, OpenerOutput, opener_output, reading_of}
 use Rattle.tb_edge_file.specs.Mending.{mended_device, mended_reading}
@@ -66,6 +67,23 @@ copied_of len salvaged = record {
   damage = damage_of salvaged.stop;
 }
 
+-- what is lost of a damaged file of which this was copied: the bytes after the damage that are in no block that was taken. None if there are none
+abbrev pub lost_bytes : Copied → Option Damage → Option Loss
+lost_bytes c None = None
+lost_bytes c (Some damage) = if c.behind == 0 then None else Some (record { bytes = c.behind; at = c.end })
+
+abbrev pub loss_of : Copied → Option Loss
+loss_of c = lost_bytes c c.damage
+
+-- a salvage that was reported is done if nothing is lost
+abbrev pub loss_outcome : Option Loss → FileOutcome
+loss_outcome None = Ok tt
+loss_outcome (Some loss) = Err (Lost loss)
+
+abbrev pub salvage_outcome : Copied → FileOutcome → FileOutcome
+salvage_outcome c (Ok done) = loss_outcome (loss_of c)
+salvage_outcome c (Err fault) = Err fault
+
 -- one more line if entries were read on after the damage: how many, and from which offset on
 abbrev pub read_on_line : ℕ → ℕ → List ℕ
 read_on_line zero first = []
@@ -81,6 +99,12 @@ rescued_of c S on = record {
   more = S.commit - c.entries;
   first = on.first;
 }
+
+-- what was copied of a file was printed, and the outcome is that of its loss
+pub record Reports (r : Rescued) (outcome : FileOutcome) (start written : Output) : Type 0 where
+  pub reported : FileOutcome
+  pub prints : PrintsText (rescued_text r) reported start written
+  pub outcome_is : outcome ≡ salvage_outcome r.copied reported
 
 -- the new file keeps a history whose records were copied, up to the first that cannot be, and this is reported: how many entries it has, the
 -- time of the last, where they end, and how much is after them in a file of so many bytes
@@ -140,7 +164,7 @@ module _ {E : Type 0} (its : KnownReading E) {D : Type 0} (new_file : devices.Gh
     pub any_moment : new_file.tells → (h : History) → Keeps new_file.disk h salvaged.keeper
         → LeavesLonger h (new_file.disk salvaged.keeper.journal.device) (new_file.disk keeper.journal.device)
     pub ends : MatchResult result
-        (λ it. PrintsText (rescued_text (rescued_of (copied_of len salvaged) keeper.state it)) outcome before.sink after.sink × (after.file ≡ between))
+        (λ it. Reports (rescued_of (copied_of len salvaged) keeper.state it) outcome before.sink after.sink × (after.file ≡ between))
         (λ fault. (named : KeepCommandFault) × (outcome ≡ Err named) × NamesCopy its.device fault named between after.file × (after.sink ≡ before.sink))
 
   -- a copy of a file that is to be whole ends there, and any other is read on
@@ -179,8 +203,14 @@ is_mended whole fault = false
 abbrev pub mended_line : List ℕ
 mended_line = codes "damaged magic: the first 8 bytes are not a journal's\n"
 
+-- the same if something of it is lost, which is the outcome then
+abbrev pub or_lost : Loss → FileOutcome → FileOutcome
+or_lost loss (Ok done) = Err (Lost loss)
+or_lost loss (Err fault) = Err fault
+
 abbrev pub NotesMended : FileOutcome → FileOutcome → Output → Output → Type 0
 NotesMended (Ok done) outcome start written = PrintsWhole mended_line outcome start written
+NotesMended (Err (Lost loss)) outcome start written = (printed : FileOutcome) × PrintsWhole mended_line printed start written × (outcome ≡ or_lost loss printed)
 NotesMended (Err fault) outcome start written = (outcome ≡ Err fault) × (written ≡ start)
 
 module _ {O D E : Type 0} (its : KnownFiles O D E) (new : List ℕ) where

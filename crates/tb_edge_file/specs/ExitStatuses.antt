@@ -43,9 +43,10 @@ use Rattle.tb_edge_file.specs.declared.faults.KeepCommandFault.{KeepCommandFault
 use Rattle.tb_edge_file.specs.Asides.{uncopied_text}
 use Rattle.tb_edge_file.specs.declared.asides.Reason.{Reason}
 use Rattle.tb_edge_file.specs.declared.asides.Reason.TheVariants as reasons
-use Rattle.tb_edge_file.specs.declared.faults.KeepCommandFault.TheVariants.{Usage, Device, Opening, Making, NoMemory, Request, Item, NotAJournal, NoHead, Damaged, OtherRules, Full, SyncFailed, Gone, NotCopied}
+use Rattle.tb_edge_file.specs.declared.faults.KeepCommandFault.TheVariants.{Usage, Device, Opening, Making, NoMemory, Request, Item, NotAJournal, NoHead, Damaged, Lost, OtherRules, Full, SyncFailed, Gone, NotCopied}
 use Rattle.tb_edge_file.specs.declared.faults.Failed.{Failed}
 use Rattle.tb_edge_file.specs.declared.faults.Failed.TheVariants.{Input, Output as OutputSide, File, New}
+use Rattle.tb_edge_file.specs.declared.faults.Loss.{Loss}
 use Rattle.tb_edge_file.specs.declared.faults.Mismatch.{Mismatch}
 use Rattle.tb_edge_file.specs.declared.faults.Numbers.{Numbers}
 use Rattle.tb_edge_file.specs.declared.kinds.FileKind.{FileKind}
@@ -140,6 +141,7 @@ new_fault fault = fault
 -- the fault of a call that failed for this reason
 abbrev pub reason_fault : Reason → KeepCommandFault
 reason_fault reasons.Gone = Gone
+reason_fault reasons.Unseen = Device File
 reason_fault (reasons.NotCopied why) = NotCopied why
 
 -- the path that a fault is printed with
@@ -194,6 +196,7 @@ file_exit_status (Item fault) = 2
 file_exit_status (NotAJournal kind) = 5
 file_exit_status NoHead = 5
 file_exit_status (Damaged damage) = 6
+file_exit_status (Lost loss) = 6
 file_exit_status (OtherRules numbers) = 7
 file_exit_status Full = 8
 file_exit_status SyncFailed = 9
@@ -239,6 +242,12 @@ harm_text (Torn at bytes) = counted_text bytes (codes " bytes are after byte ") 
 -- a text, what is damaged in the file of this path, and what to do about it
 abbrev pub damaged_text : List ℕ → Damage → List ℕ → List ℕ → List ℕ
 damaged_text first damage path next = named first path (codes ": ") ++ (harm_text damage ++ next)
+
+-- how much of the damaged file of this path was not copied, and what to do about it
+abbrev pub lost_text : Loss → List ℕ → List ℕ
+lost_text loss path =
+    named (codes "Damaged: ") path (codes ": ")
+    ++ (counted_text loss.bytes (codes " bytes after byte ") ++ counted_text loss.at (codes " were not copied; restore a backup, or enter again what is missing"))
 
 -- the head is known to be damaged: without it no file is read
 abbrev pub is_of_head : Damage → Bool
@@ -339,6 +348,7 @@ fault_text (Item fault) path = item_text fault
 fault_text (NotAJournal kind) path = kind_text kind path
 fault_text NoHead path = named (codes "NotAJournal: ") path (codes " has a first record that is no ledger's head; restore a backup")
 fault_text (Damaged damage) path = damaged_text (codes "Damaged: ") damage path (next_of damage)
+fault_text (Lost loss) path = lost_text loss path
 fault_text (OtherRules numbers) path = mismatch_text numbers path
 fault_text Full path = full_text path
 fault_text SyncFailed path = sync_text path
@@ -365,9 +375,10 @@ abbrev pub PrintsWhere : Bool → List ℕ → Output → Output → Type 0
 PrintsWhere false line before after = after ≡ before
 PrintsWhere true line before after = SaysLine line before after
 
--- a file that had no bytes is reported as made; for any other, nothing is reported
+-- a ledger is reported as made if the records of its file ended at this place before, and so were none: the first one begins at byte 8. For any
+-- other file, nothing is reported
 abbrev pub PrintsMade : ℕ → List ℕ → Output → Output → Type 0
-PrintsMade len path before after = PrintsWhere (nat_eq len 0) (made_line path) before after
+PrintsMade at path before after = PrintsWhere (nat_le at 8) (made_line path) before after
 
 -- the line of a start that cut bytes off: how many, and where the records that stay end
 abbrev pub cut_line : ℕ → ℕ → List ℕ
@@ -465,6 +476,12 @@ pub line_of_a_block :
     ≡ codes "tbd: Damaged: ledger: the block at byte 94 (entry 3) is not what was written; tbd salvage makes a new file of the entries before it\n"
 unfolding digits printable chars lib.Utf8.encode
 line_of_a_block = refl
+
+pub line_of_a_loss :
+    file_fault_line (Lost (record { bytes = 88; at = 94 })) (codes "ledger")
+    ≡ codes "tbd: Damaged: ledger: 88 bytes after byte 94 were not copied; restore a backup, or enter again what is missing\n"
+unfolding digits printable chars lib.Utf8.encode
+line_of_a_loss = refl
 
 pub line_of_a_head :
     file_fault_line (Damaged (Block 8 (Some 0))) (codes "ledger")

@@ -1,6 +1,7 @@
 pub mod Asides
 pub mod Copies
 pub mod CutCopies
+pub mod Dates
 pub mod DumpLaws
 pub mod Ends
 pub mod Exits

@@ -143,11 +143,11 @@ module _ {D : Type 0} (its : devices.Ghosts D) where
     pub checks : MatchResult len (λ n. ChecksLong n quick outcome (record before { file = between }) after)
         (λ fault. (outcome ≡ Err (disk_fault fault)) × (after.sink ≡ before.sink))
 
-  -- it was reported if the start made a file or found it empty, how much it cut off after the records of a file of so many bytes, and, if its
+  -- it was reported if the start made a ledger in a file of so many bytes, which had no record, how much it cut off after the records, and, if its
   -- progress is reported, that it is done; then a ledger was kept
   pub record ServesKept (outcome : FileOutcome) (keeper : Keeping D) (path : List ℕ) (reports : Bool) (len : ℕ) (before after : Streams) : Type 0 where
     pub noted : Output
-    pub made : PrintsMade len path before.faults noted
+    pub made : PrintsMade (len - keeper.cut - 4) path before.faults noted
     pub started : Output
     pub cut : PrintsCut keeper.cut (len - keeper.cut - 4) noted started
     pub ready : PrintsReady reports keeper.state.commit keeper.state.books.time started after.faults
@@ -248,12 +248,18 @@ pub record RunsOver {O D E : Type 0} (its : KnownFiles O D E) (before left : O) 
   pub outcome_is : outcome ≡ named_by (λ fault. fault) reason served
   pub runs : ServesOpened its.file (made_by its file.existing before file.path) left served file notes.progress (record first { faults = noted }) last
 
+-- the outcome of a dump: if it is known why nobody waits for more, that is the fault
+abbrev pub ended_by : Option Reason → FileOutcome → FileOutcome
+ended_by (Some reason) outcome = Err (reason_fault reason)
+ended_by None outcome = outcome
+
 module _ {O D E : Type 0} (its : KnownFiles O D E) (name : List ℕ) (before left : O) where
+  -- a dump of the device of a name, and its outcome: if what opened it knows why it is not followed any more, that is the fault
   abbrev pub DumpsOver : Option ℕ → Bool → FileOutcome → Output → Output → Type 0
   DumpsOver from follows outcome start written =
       Opens Opening (its.opener.opens before name) left outcome (written ≡ start)
-      (λ device. (after : E)
-      × DumpsPart its.reading (its.opener.ended left) from follows outcome (record { file = device; sink = start }) (record { file = after; sink = written }))
+      (λ device. (after : E) × (dumped : FileOutcome) × (reason : Option Reason) × its.opener.reasons left reason × (outcome ≡ ended_by reason dumped)
+      × DumpsPart its.reading (its.opener.ended left) from follows dumped (record { file = device; sink = start }) (record { file = after; sink = written }))
 
   abbrev pub ChecksOver : Bool → FileOutcome → Output → Output → Type 0
   ChecksOver quick outcome start written =

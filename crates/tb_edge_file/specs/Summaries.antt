@@ -8,6 +8,7 @@ use Rattle.tb_file.specs.declared.faults.StartFault.{StartFault}
 use Rattle.tb_file.specs.Keeping.{History, history_state, IsLedger}
 use Rattle.tb_file.specs.Quick.{IsInOrder, IsNotInOrder}
 use Rattle.tb_file.specs.Reading.{IsNoHistory, rules_of}
+use Rattle.tb_edge_file.specs.Dates.{date_of, moment_text}
 use Rattle.tb_edge_file.specs.declared.summaries.Found.{Found}
 use Rattle.tb_edge_file.specs.declared.summaries.Summary.{Summary}
 
@@ -59,9 +60,9 @@ line_before name number others = name ++ (decimal number ++ 10 ∷ others)
 abbrev pub behind_text : ℕ → List ℕ
 behind_text bytes = if nat_eq bytes 0 then [] else codes ", not committed yet or torn"
 
--- what a summary ends with if the ledger was not replayed
+-- what a summary ends with: the file is whole, or the ledger was not replayed
 abbrev pub replayed_text : Bool → List ℕ
-replayed_text true = []
+replayed_text true = codes "whole: every entry was replayed\n"
 replayed_text false = codes "not replayed: only checksums, commit numbers and times were checked\n"
 
 abbrev pub summary_text : Summary → List ℕ
@@ -71,16 +72,16 @@ summary_text s =
     (line_before (codes "profile ") (profile_number s.rules.profile)
     (line_before (codes "clients_max ") s.rules.clients_max
     (line_before (codes "last time ") s.time
-    (codes "bytes after the records " ++ (decimal s.behind ++ (behind_text s.behind ++ 10 ∷ replayed_text s.replayed)))))))
+    (codes "last date " ++ (moment_text s.time ++ 10 ∷ (codes "bytes after the records " ++ (decimal s.behind ++ (behind_text s.behind ++ 10 ∷ replayed_text s.replayed)))))))))
 
 -- rows
 
 pub two_entries : summary_text (record { rules = rules_of One 2; records = 3; entries = 2; time = 11; behind = 0; replayed = true })
-    ≡ codes "records 3\nentries 2\nprofile 1\nclients_max 2\nlast time 11\nbytes after the records 0\n"
-unfolding digits
+    ≡ codes "records 3\nentries 2\nprofile 1\nclients_max 2\nlast time 11\nlast date 1970-01-01T00:00:00Z\nbytes after the records 0\nwhole: every entry was replayed\n"
+unfolding digits date_of
 two_entries = refl
 
 pub two_entries_quickly : summary_text (record { rules = rules_of One 2; records = 3; entries = 2; time = 11; behind = 0; replayed = false })
-    ≡ codes "records 3\nentries 2\nprofile 1\nclients_max 2\nlast time 11\nbytes after the records 0\nnot replayed: only checksums, commit numbers and times were checked\n"
-unfolding digits
+    ≡ codes "records 3\nentries 2\nprofile 1\nclients_max 2\nlast time 11\nlast date 1970-01-01T00:00:00Z\nbytes after the records 0\nnot replayed: only checksums, commit numbers and times were checked\n"
+unfolding digits date_of
 two_entries_quickly = refl

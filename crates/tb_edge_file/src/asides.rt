@@ -25,6 +25,8 @@ pub const COPIES_MAX: usize = 16;
 pub enum Reason {
     /// The name no longer leads to what was opened.
     Gone,
+    /// What the name leads to could not be looked at.
+    Unseen,
     /// What a start was to cut off was not copied.
     NotCopied(Uncopied),
 }

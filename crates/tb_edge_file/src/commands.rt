@@ -2,7 +2,7 @@
 ghost use Rattle.std.specs.Prelude.{◌≡◌, true, IfOk};
 ghost use Rattle.tb_edge_file.specs.Ends.{made_by};
 ghost use Rattle.tb_edge_file.specs.private.Stages.{DumpsAsked, RunsOpened};
-ghost use Rattle.tb_edge_file.specs.Outcomes.{ChecksOver, DumpsOver, PrintsWhole, RunsOn, named_by};
+ghost use Rattle.tb_edge_file.specs.Outcomes.{ChecksOver, DumpsOver, PrintsWhole, RunsOn, ended_by, named_by};
 
 use crate::asides::Reason;
 use crate::ends::{Ends, Files, Pipes};
@@ -89,7 +89,21 @@ fn dump_part<O: Opener, W: Outlet>(
     }
 }
 
-/// Writes the dump of the device of a name, or the part of one that was asked for.
+/// The outcome of a dump. If it is known why nobody waits for more, that is the fault.
+fn ended_by(
+    reason: Option<Reason>,
+    dumped: Result<(), KeepCommandFault>,
+) -> Result<(), KeepCommandFault>
+    ensures { result ≡ ended_by reason dumped }
+{
+    match reason {
+        Some(reason) => Err(reason_fault(reason)),
+        None => dumped,
+    }
+}
+
+/// Writes the dump of the device of a name, or the part of one that was asked for. One that is followed ends as Gone if the name leads to
+/// another file.
 pub fn dump_over<O: Opener, W: Outlet>(
     alloc: Global,
     opener: &mut O,
@@ -106,7 +120,8 @@ pub fn dump_over<O: Opener, W: Outlet>(
             let mut device = device;
             let dumped = dump_part(alloc, opener, &mut device, writer, part);
             drop(device);
-            dumped
+            let ended = opener.reason();
+            ended_by(ended, dumped)
         }
         Err(fault) => Err(KeepCommandFault::Opening(fault)),
     }

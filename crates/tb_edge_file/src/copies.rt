@@ -1,8 +1,8 @@
 //! What is reported of a file that was copied into a new one.
 ghost use Rattle.std.specs.Prelude.{◌≡◌};
-ghost use Rattle.tb_edge_file.specs.Copies.{damage_of};
+ghost use Rattle.tb_edge_file.specs.Copies.{damage_of, loss_of, salvage_outcome};
 
-use crate::faults::{Damage, KeepCommandFault, started_fault};
+use crate::faults::{Damage, KeepCommandFault, Loss, started_fault};
 use crate::summaries::behind_text;
 use std::fmt;
 use tb_file::StartFault;
@@ -29,6 +29,35 @@ pub(crate) fn damage_of(stop: Option<StartFault>) -> Option<Damage>
     match started_fault(stop?) {
         KeepCommandFault::Damaged(damage) => Some(damage),
         _ => None,
+    }
+}
+
+/// What is lost of a damaged file of which this was copied: None if each byte after the damage is in a block that was taken.
+fn loss_of(copied: Copied) -> Option<Loss>
+    ensures { result ≡ loss_of copied }
+{
+    if copied.damage.is_none() || copied.behind == 0 {
+        return None;
+    }
+    Some(Loss {
+        bytes: copied.behind,
+        at: copied.end,
+    })
+}
+
+/// The outcome of a salvage of which this was copied and reported: it is done if nothing is lost.
+pub(crate) fn salvage_outcome(
+    copied: Copied,
+    reported: Result<(), KeepCommandFault>,
+) -> Result<(), KeepCommandFault>
+    ensures { result ≡ salvage_outcome copied reported }
+{
+    match reported {
+        Ok(()) => match loss_of(copied) {
+            Some(loss) => Err(KeepCommandFault::Lost(loss)),
+            None => Ok(()),
+        },
+        Err(fault) => Err(fault),
     }
 }
 

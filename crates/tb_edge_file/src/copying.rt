@@ -1,14 +1,14 @@
 //! A file copied into a new one: what can be read of it, or all of it if it is whole.
 ghost use Rattle.std.specs.Prelude.{◌≡◌, true};
-ghost use Rattle.tb_edge_file.specs.Copies.{copied_of, is_mended, mended_line, copied_text, rescued_text, refused_by, NamesCopy, Rescues, EndsOrReadsOn, CopiesLong, CopiesFile, CopiesOver};
+ghost use Rattle.tb_edge_file.specs.Copies.{copied_of, is_mended, mended_line, or_lost, copied_text, rescued_text, refused_by, Reports, NamesCopy, Rescues, EndsOrReadsOn, CopiesLong, CopiesFile, CopiesOver};
 ghost use Rattle.tb_file.specs.Keeping.{IsUsable, IsFresh};
 ghost use Rattle.tb_edge_file.specs.Outcomes.{PrintsWhole, PrintsText};
 ghost use Rattle.tb_edge_file.specs.Ends.{OnDevice, known_reading};
 ghost use Rattle.tb_edge_file.specs.private.Stages.{CopiesHeadedOn, CopiesMendedOn, EndsSalvage, MakesCopyOn, NotesMendedOn};
 
-use crate::copies::{Copied, damage_of};
+use crate::copies::{Copied, damage_of, salvage_outcome};
 use crate::ends::Files;
-use crate::faults::{Failed, KeepCommandFault, disk_fault, new_fault, started_fault};
+use crate::faults::{Failed, KeepCommandFault, Loss, disk_fault, new_fault, started_fault};
 use crate::live::Live;
 use crate::mending::Mended;
 use crate::naming::named;
@@ -116,6 +116,18 @@ fn report_rescued<W: Sink>(
     }
 }
 
+/// Writes what was copied of a file that was also read on, and ends with what is lost of it.
+fn end_rescue<W: Sink>(
+    alloc: Global,
+    rescued: Rescued,
+    writer: &mut W,
+) -> Result<(), KeepCommandFault>
+    ensures { Reports rescued result (W.output writer.old) (W.output writer.new) }
+{
+    let reported = report_rescued(alloc, rescued, writer);
+    salvage_outcome(rescued.copied, reported)
+}
+
 /// Reads a file of this many bytes on after what was copied of it, and writes what was copied.
 fn rescue<D: Live, N: Device + Drop, W: Sink>(
     alloc: Global,
@@ -136,7 +148,7 @@ fn rescue<D: Live, N: Device + Drop, W: Sink>(
         Ok(on) => {
             let rescued = rescued_of(copied, &keeper, on);
             drop(keeper);
-            report_rescued(alloc, rescued, writer)
+            end_rescue(alloc, rescued, writer)
         }
         Err(fault) => {
             drop(keeper);
@@ -244,7 +256,17 @@ pub(crate) fn print_mended<W: Sink>(writer: &mut W) -> Result<(), KeepCommandFau
     }
 }
 
-/// Reports of a file that was copied that its first bytes are not a journal's.
+/// The outcome of a last line about a file of which this is lost.
+fn or_lost(loss: Loss, printed: Result<(), KeepCommandFault>) -> Result<(), KeepCommandFault>
+    ensures { result ≡ or_lost loss printed }
+{
+    match printed {
+        Ok(()) => Err(KeepCommandFault::Lost(loss)),
+        Err(fault) => Err(fault),
+    }
+}
+
+/// Reports of a file that was copied, all of it or not, that its first bytes are not a journal's.
 fn note_mended<W: Sink>(
     copied: Result<(), KeepCommandFault>,
     writer: &mut W,
@@ -253,6 +275,7 @@ fn note_mended<W: Sink>(
 {
     match copied {
         Ok(()) => print_mended(writer),
+        Err(KeepCommandFault::Lost(loss)) => or_lost(loss, print_mended(writer)),
         Err(fault) => Err(fault),
     }
 }

@@ -67,6 +67,13 @@ pub enum Damage {
     Torn { at: u64, bytes: u64 },
 }
 
+/// What a salvage did not copy: so many bytes that are in no block that was taken, after the entries that end at this offset.
+#[derive(Clone, Copy, Debug, PartialEq, Eq)]
+pub struct Loss {
+    pub bytes: usize,
+    pub at: u64,
+}
+
 impl Damage {
     /// Says whether the head is known to be damaged: without it no file is read.
     pub(crate) fn is_of_head(self) -> bool
@@ -105,6 +112,8 @@ pub enum KeepCommandFault {
     NoHead,
     /// The file is damaged. It is as it was.
     Damaged(Damage),
+    /// The file is damaged, and not all of it was copied. It is as it was.
+    Lost(Loss),
     /// The file was made with another profile, or for another number of clients.
     OtherRules(Option<Mismatch>),
     /// The disk is full.
@@ -123,6 +132,7 @@ pub(crate) fn reason_fault(reason: Reason) -> KeepCommandFault
 {
     match reason {
         Reason::Gone => KeepCommandFault::Gone,
+        Reason::Unseen => KeepCommandFault::Device(Failed::File),
         Reason::NotCopied(why) => KeepCommandFault::NotCopied(why),
     }
 }
@@ -288,7 +298,7 @@ impl KeepCommandFault {
             KeepCommandFault::Usage | KeepCommandFault::Request(_) | KeepCommandFault::Item(_) => 2,
             KeepCommandFault::Device(_) | KeepCommandFault::NoMemory => 1,
             KeepCommandFault::NotAJournal(_) | KeepCommandFault::NoHead => 5,
-            KeepCommandFault::Damaged(_) => 6,
+            KeepCommandFault::Damaged(_) | KeepCommandFault::Lost(_) => 6,
             KeepCommandFault::OtherRules(_) => 7,
             KeepCommandFault::Full => 8,
             KeepCommandFault::Gone => 10,

@@ -37,10 +37,11 @@ macro_rules! page {
                                   checked, in little memory: the ledger is not replayed"
 "
   salvage FILE NEW                copies what is whole before the first damage into NEW, and what
-                                  can be read after it, and prints what is lost and where. NEW
-                                  must not exist"
+                                  can be read after it, and prints what is lost and where; status 6
+                                  if bytes are lost. NEW must not exist"
 "
-  backup FILE NEW                 the same for a FILE that is whole, otherwise status 6"
+  backup FILE NEW                 copies a whole FILE into NEW, which must not exist; status 6 if
+                                  FILE is damaged"
 "
 
 CLIENTS_MAX is 1 to 64, PROFILE 1 or 2; a file keeps those that it was made with. FILE is no

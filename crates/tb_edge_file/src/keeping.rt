@@ -58,8 +58,8 @@ fn kept_outcome(kept: Result<u64, KeepFault>, pipe: Failed) -> Result<(), KeepCo
     }
 }
 
-/// Serves pairs over a ledger until they end. First it reports what its start did to the file of this path: made it, if it had no bytes, or cut
-/// bytes off after the records. Then it reports that the start is done, if that is wanted.
+/// Serves pairs over a ledger until they end. First it reports what its start did to the file of this path: made a ledger, if it had no record, or
+/// cut bytes off after the records. Then it reports that the start is done, if that is wanted.
 fn serve<D: Device + Drop, A: Allocator + Clone, R: Source, W: Sink, E: Sink>(
     alloc: Global,
     keeper: Keeper<D, A>,
@@ -77,7 +77,7 @@ fn serve<D: Device + Drop, A: Allocator + Clone, R: Source, W: Sink, E: Sink>(
     let at = (len as u64)
         .saturating_sub(cut)
         .saturating_sub(LATCH_BYTES as u64);
-    print_made(len, file.path, faults);
+    print_made(at, file.path, faults);
     print_cut(cut, at, faults);
     let machine = keeper.machine();
     print_ready(file.reports, machine.commit(), machine.time(), faults);

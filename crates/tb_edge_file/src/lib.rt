@@ -10,7 +10,7 @@
 //! - `laws`: what holds of every dump of a file that grows.
 //! - `openers`: `Opener`, what opens the device of a name, and why it does not.
 //! - `outlets`: `Outlet`, a writer that says at its end whether all that was put was sent.
-//! - `steady`: `Steady`, a writer whose calls are repeated if a signal interrupts them.
+//! - `steady`: `Steady`, a reader or a writer whose calls are repeated if a signal interrupts them.
 //! - `refusals`: the calls that a wrapper of a device refuses itself.
 //! - `places`: `Named`, a file that is compared with what its name leads to, and whose bytes are set aside before they are cut off.
 //! - `asides`: why bytes that were to be cut off were not copied.
@@ -22,6 +22,7 @@
 //! - `printable`: a path or an argument as a line shows it, without control characters.
 //! - `lines`: the lines that report faults, and what is wrong with arguments.
 //! - `reports`: `Reported`, a file that reports how far it was read.
+//! - `dates`: moments as dates.
 //! - `summaries`: what `check` reports of a file.
 //! - `naming`: what there is to say of a file that is refused.
 //! - `files`: `dump` and `check`, a file read without a write.
@@ -45,6 +46,7 @@ mod commands;
 mod copies;
 mod copying;
 mod cut_copies;
+mod dates;
 mod ends;
 mod executing;
 mod faults;

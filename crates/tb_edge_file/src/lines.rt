@@ -1,12 +1,12 @@
 //! The lines of standard error.
 ghost use Rattle.std.specs.Prelude.{◌≡◌, ◌++◌, Some, [], codes, map, string_bytes, take};
-ghost use Rattle.tb_edge_file.specs.ExitStatuses.{file_exit_status, harm_text, unread_text, next_of, damaged_text, opening_text, making_text, failed_text, kind_text, numbers_text, both_text, mismatch_text, fault_text, item_text, file_fault_line, reading_line, shown_words, said_text, wrong_line, usage_lines, counted_text, line_of, named, numbered, read_line, rules_text, said_with, PassesOn, Says, PrintsMade, PrintsCut, PrintsReading, PrintsReady, PrintsFrames};
+ghost use Rattle.tb_edge_file.specs.ExitStatuses.{file_exit_status, harm_text, unread_text, next_of, damaged_text, opening_text, making_text, failed_text, kind_text, numbers_text, both_text, mismatch_text, fault_text, item_text, lost_text, file_fault_line, reading_line, shown_words, said_text, wrong_line, usage_lines, counted_text, line_of, named, numbered, read_line, rules_text, said_with, PassesOn, Says, PrintsMade, PrintsCut, PrintsReading, PrintsReady, PrintsFrames};
 ghost use Rattle.tb_edge_file.specs.Asides.{uncopied_text};
 ghost use Rattle.tb_edge_file.specs.Printable.{printable};
 ghost use Rattle.tb_edge_file.specs.private.Changes.{PutsText};
 
 use crate::asides::{Uncopied, uncopied_text};
-use crate::faults::{Damage, Failed, KeepCommandFault, Mismatch, Numbers};
+use crate::faults::{Damage, Failed, KeepCommandFault, Loss, Mismatch, Numbers};
 use crate::help::USAGE;
 use crate::kinds::FileKind;
 use crate::openers::OpeningFault;
@@ -292,6 +292,25 @@ fn put_damaged<E: Sink>(
     }
 }
 
+/// What to do about entries that were not copied.
+const LOST: &str = " were not copied; restore a backup, or enter again what is missing";
+
+/// Writes how much of a damaged file of this path was not copied.
+fn put_lost<E: Sink>(faults: &mut E, loss: Loss, path: &str) -> Result<(), FrameFault>
+    ensures { PutsText E.Sink result (lost_text loss path.now) faults }
+{
+    match put_named(faults, "Damaged: ", path, ": ") {
+        Ok(()) => put_torn(
+            faults,
+            loss.bytes as u64,
+            " bytes after byte ",
+            loss.at,
+            LOST,
+        ),
+        Err(fault) => Err(fault),
+    }
+}
+
 /// Writes what failed of a program over a file of this path.
 fn put_failed<E: Sink>(faults: &mut E, which: Failed, path: &str) -> Result<(), FrameFault>
     ensures { PutsText E.Sink result (failed_text which path.now) faults }
@@ -530,6 +549,7 @@ fn put_fault<E: Sink>(faults: &mut E, fault: KeepCommandFault, path: &str) -> Re
         KeepCommandFault::Damaged(damage) => {
             put_damaged(faults, "Damaged: ", damage, path, next_of(damage))
         }
+        KeepCommandFault::Lost(loss) => put_lost(faults, loss, path),
         KeepCommandFault::OtherRules(numbers) => put_mismatch(faults, numbers, path),
         KeepCommandFault::Full => put_named(faults, "Full: ", path, FULL),
         KeepCommandFault::SyncFailed => put_named(faults, "SyncFailed: ", path, SYNC),
@@ -698,11 +718,15 @@ fn put_wrong<E: Sink>(
     }
 }
 
-/// Reports that a file of this path was made, if it had no bytes; otherwise nothing.
-pub(crate) fn print_made<E: Sink>(len: usize, path: &str, faults: &mut E)
-    ensures { PrintsMade len path.now (E.output faults.old) (E.output faults.new) }
+/// Where the first record of a file begins.
+const FIRST_RECORD_AT: u64 = 8;
+
+/// Reports that a ledger was made in a file of this path, if its records ended at this place before that: it had none. Otherwise nothing.
+#[tactic(auto, using(crate::proofs::Passing::said))]
+pub(crate) fn print_made<E: Sink>(at: u64, path: &str, faults: &mut E)
+    ensures { PrintsMade at path.now (E.output faults.old) (E.output faults.new) }
 {
-    if len == 0 {
+    if at <= FIRST_RECORD_AT {
         pass(put_named(faults, "tbd: made ", path, "\n"), faults);
     }
 }

@@ -99,7 +99,7 @@ pub trait Opener {
     /// What `make_new` may return: it makes a file that does not exist.
     ghost makes_new: { Self → List ℕ → Result Self.File OpeningFault → Self → Type 0 } = { λ before name answer after. Unit {0} };
 
-    /// Nobody waits for more commits. Anything, if an opener does not define it.
+    /// Nobody waits for more commits, or they would be in another file. Anything, if an opener does not define it.
     ghost ended: { Self → Type 0 } = { λ opener. Unit {0} };
 
     /// Opens the device of this name, and makes it if it is missing. No sync has failed on it.
@@ -112,7 +112,7 @@ pub trait Opener {
         ensures taken { takes self.old name.now result self.new }
         ensures sound { Self.File.tells → IfOk result (λ device. (Self.File.disk device).sound ≡ true) };
 
-    /// Why a call on a device that it made or took failed, if it knows more than the call's fault says.
+    /// Why a call on a device that it made or took failed, or why one that it opened is not followed any more, if it knows that.
     fn reason(&self) -> Option<Reason>
         ensures { reasons self.now result };
 
@@ -125,7 +125,7 @@ pub trait Opener {
     fn open(&mut self, name: &str) -> Result<Self::Reading, OpeningFault>
         ensures { opens self.old name.now result self.new };
 
-    /// Waits a moment for more commits; false if nobody waits for any.
+    /// Waits a moment for more commits; false if nobody waits for any, or the name leads to another file by now.
     fn pause(&self) -> bool
         ensures { result ≡ false → ended self.now };
 }

@@ -1,21 +1,39 @@
-//! A writer whose calls are repeated if a signal interrupts them.
+//! A reader or a writer whose calls are repeated if a signal interrupts them.
 ghost use Rattle.std.specs.Prelude.{take, IfOk, OnErr};
-ghost use Rattle.std.specs.Io.{WritesAtMost};
-ghost use Rattle.std.specs.Io.KnownBytes.{Appends, Keeps};
+ghost use Rattle.std.specs.Io.{ReadsAtMost, WritesAtMost};
+ghost use Rattle.std.specs.Io.KnownBytes.{Appends, Keeps, ReadConsumes};
 
-use std::io::{self, ErrorKind, Write};
+use std::io::{self, ErrorKind, Read, Write};
 
-/// A writer whose calls are repeated if a signal interrupts them: a call that it interrupted has written nothing.
+/// A reader or a writer whose calls are repeated if a signal interrupts them: a call that it interrupted has read and written nothing.
 #[derive(Drop)]
-pub struct Steady<W> {
-    inner: W,
+pub struct Steady<T> {
+    inner: T,
 }
 
-impl<W: Write + Drop> Steady<W> {
-    /// The writer, of which no call was made yet.
-    pub fn new(inner: W) -> Steady<W> {
+impl<T: Drop> Steady<T> {
+    /// The reader or writer, of which no call was made yet.
+    pub fn new(inner: T) -> Steady<T> {
         Steady { inner }
     }
+}
+
+/// Reads some bytes, and repeats the call as long as a signal interrupts it.
+#[tactic(auto, using(crate::proofs::ReadAfter::read_after))]
+fn read_again<R: Read>(reader: &mut R, buf: &mut [u8]) -> io::Result<usize>
+    ensures bound { ReadsAtMost result buf.new }
+    ensures bytes { ReadConsumes (R.remaining reader.old) (R.remaining reader.new) result buf.new }
+{
+    for _ in 0..u64::MAX {
+        match reader.read(buf) {
+            Ok(read) => return Ok(read),
+            Err(error) => match error.kind() {
+                ErrorKind::Interrupted => {}
+                _ => return Err(error),
+            },
+        }
+    }
+    Err(io::Error::from(ErrorKind::Interrupted))
 }
 
 /// Writes some bytes, and repeats the call as long as a signal interrupts it.
@@ -50,6 +68,14 @@ fn flush_again<W: Write>(writer: &mut W) -> io::Result<()>
         }
     }
     Err(io::Error::from(ErrorKind::Interrupted))
+}
+
+impl<R: Read + Drop> Read for Steady<R> {
+    ghost remaining = { λ steady. R.remaining steady.inner };
+
+    fn read(&mut self, buf: &mut [u8]) -> io::Result<usize> {
+        read_again(&mut self.inner, buf)
+    }
 }
 
 impl<W: Write + Drop> Write for Steady<W> {

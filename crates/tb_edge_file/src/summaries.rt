@@ -3,6 +3,7 @@ ghost use Rattle.std.specs.Prelude.{◌≡◌, ◌-◌};
 ghost use Rattle.tb_records.specs.DumpBytes.{profile_number};
 ghost use Rattle.tb_edge_file.specs.Summaries.{summary_of, behind_text, replayed_text};
 
+use crate::dates::Moment;
 use std::fmt;
 use tb_file::Rules;
 use tb_file_journal::LATCH_BYTES;
@@ -72,12 +73,12 @@ pub(crate) fn behind_text(bytes: usize) -> &'static str
     }
 }
 
-/// What is printed of a file whose entries were not replayed.
+/// What a summary ends with: whether the entries were replayed.
 fn replayed_text(replayed: bool) -> &'static str
     ensures { result.now ≡ replayed_text replayed }
 {
     if replayed {
-        ""
+        "whole: every entry was replayed\n"
     } else {
         "not replayed: only checksums, commit numbers and times were checked\n"
     }
@@ -94,9 +95,10 @@ impl fmt::Display for Summary {
         let clients_max = self.rules.clients_max.get();
         let what = behind_text(self.behind);
         let note = replayed_text(self.replayed);
+        let date = Moment { time: self.time };
         write!(
             f,
-            "records {}\nentries {}\nprofile {profile}\nclients_max {clients_max}\nlast time {}\nbytes after the records {}{what}\n{note}",
+            "records {}\nentries {}\nprofile {profile}\nclients_max {clients_max}\nlast time {}\nlast date {date}\nbytes after the records {}{what}\n{note}",
             self.records, self.entries, self.time, self.behind
         )
     }

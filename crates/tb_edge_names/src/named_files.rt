@@ -5,7 +5,7 @@ ghost use Rattle.tb_edge_names.specs.Served.{IsStillThere};
 
 use crate::names::{Copies, Name, Notes};
 use crate::opening::{Opened, create_new, open_existing, open_or_create, open_to_read};
-use crate::served::ServedFiles;
+use crate::served::{Identity, ServedFiles};
 use std::alloc::Global;
 use std::marker::PhantomData;
 use tb_edge_file::{Named, Opener, OpeningFault, Reason, Reported, opening_fault, unread_fault};
@@ -27,8 +27,11 @@ pub trait Surroundings {
     /// Why a call on a file failed, if that was noted.
     fn reason(&self) -> Option<Reason>;
 
-    /// Waits a moment.
-    fn pause(&self);
+    /// A file of this identity was opened, to be read.
+    fn note_read(&mut self, opened: Identity);
+
+    /// Waits a moment; false if the name of the file that is read leads to another file by now, which is noted.
+    fn pause(&self) -> bool;
 }
 
 /// The files of a file system, by their names.
@@ -154,8 +157,6 @@ impl<F: ServedFiles + Drop, H: Surroundings + Drop, C: Copies> Opener for NamedF
     ghost makes_new = { λ before name answer after. F.tells → F.Served.tells
         → CreatesNew F.numbered F.locked (⟦<ServedFile<F, H, C> as Device>⟧.disk) name answer (F.names before.files) (F.names after.files) };
 
-    ghost ended = { λ files. ⊥ };
-
     #[tactic(auto, using(crate::proofs::Openings::makes_served, crate::proofs::Openings::makes_none))]
     fn make(&mut self, name: &str) -> Result<Self::File, OpeningFault> {
         match open_or_create(&mut self.files, name) {
@@ -189,13 +190,16 @@ impl<F: ServedFiles + Drop, H: Surroundings + Drop, C: Copies> Opener for NamedF
 
     fn open(&mut self, name: &str) -> Result<Self::Reading, OpeningFault> {
         match open_to_read(&mut self.files, name) {
-            Ok(file) => Snapshot::new(self.alloc, file).map_err(|fault| unread_fault(fault)),
+            Ok(opened) => {
+                let Opened { file, identity } = opened;
+                self.around.note_read(identity);
+                Snapshot::new(self.alloc, file).map_err(|fault| unread_fault(fault))
+            }
             Err(fault) => Err(fault_of(&fault)),
         }
     }
 
     fn pause(&self) -> bool {
-        self.around.pause();
-        true
+        self.around.pause()
     }
 }

@@ -6,6 +6,7 @@ ghost use Rattle.tb_edge_names.specs.Served.{IsLed};
 
 use crate::served::{Identity, ServedFiles};
 use std::alloc::Global;
+use std::io::ErrorKind;
 use std::marker::PhantomData;
 use tb_edge_file::{Place, Reason, copy_cut};
 use tb_file_journal::JournalFault;
@@ -59,7 +60,17 @@ pub struct Name<F, N, C> {
     path: String,
     opened: Identity,
     notes: N,
+    // Why the last look failed, if it did.
+    unseen: Option<Reason>,
     copies: PhantomData<C>,
+}
+
+/// Why a name does not lead to a file, by the fault of the look at it.
+fn unseen(kind: ErrorKind) -> Reason {
+    match kind {
+        ErrorKind::NotFound | ErrorKind::NotADirectory => Reason::Gone,
+        _ => Reason::Unseen,
+    }
 }
 
 impl<F: ServedFiles, N: Notes, C: Copies> Name<F, N, C> {
@@ -74,6 +85,7 @@ impl<F: ServedFiles, N: Notes, C: Copies> Name<F, N, C> {
             path,
             opened,
             notes,
+            unseen: None,
             copies: PhantomData,
         }
     }
@@ -84,6 +96,7 @@ impl<F: ServedFiles, N: Notes, C: Copies> Name<F, N, C> {
         ensures led { F.tells → result ≡ true → IsLed F.names (path_of self.old) (identity_of self.old) len }
     {
         self.files.meanwhile();
+        self.unseen = None;
         match self.files.follow(self.path.as_str()) {
             Ok(status) => {
                 if status.links == 0 || status.len != len as u64 {
@@ -91,7 +104,10 @@ impl<F: ServedFiles, N: Notes, C: Copies> Name<F, N, C> {
                 }
                 status.identity.is(self.opened)
             }
-            Err(_) => false,
+            Err(error) => {
+                self.unseen = Some(unseen(error.kind()));
+                false
+            }
         }
     }
 }
@@ -104,7 +120,7 @@ impl<F: ServedFiles, N: Notes, C: Copies> Place for Name<F, N, C> {
     fn leads(&mut self, len: usize) -> bool {
         let leads = self.look(len);
         if !leads {
-            self.notes.note(Reason::Gone);
+            self.notes.note(self.unseen.unwrap_or(Reason::Gone));
         }
         leads
     }

@@ -196,9 +196,9 @@ pub fn create_new<F: ServedFiles>(files: &mut F, name: &str) -> Result<Opened<F:
 pub fn open_to_read<F: ServedFiles>(
     files: &mut F,
     name: &str,
-) -> Result<Posix<F::Served>, FileFault>
+) -> Result<Opened<F::Served>, FileFault>
     ensures same { F.tells → IsUntouched (F.names files.old) (F.names files.new) }
-    ensures read { F.tells → IfOk result (λ file. IsReadFrom name.now (⟦<Posix<F::Served> as Device>⟧.disk file) (F.names files.new)) }
+    ensures read { F.tells → IfOk result (λ opened. IsReadFrom name.now (⟦<Posix<F::Served> as Device>⟧.disk opened.file) (F.names files.new)) }
 {
     find_regular(files, name)?;
     let file = match files.open_read(name) {
@@ -206,7 +206,10 @@ pub fn open_to_read<F: ServedFiles>(
         Err(error) => return Err(FileFault::System(error)),
     };
     match regular(files, &file) {
-        Ok(_) => Ok(Posix::new(file)),
+        Ok(identity) => {
+            let file = Posix::new(file);
+            Ok(Opened { file, identity })
+        }
         Err(fault) => {
             drop(file);
             Err(fault)

@@ -19,6 +19,18 @@ impl<'a> HighFiles<'a> {
     pub fn new(rt: &'a HostRuntime) -> HighFiles<'a> {
         HighFiles { rt }
     }
+
+    /// An error if fewer descriptors are free than the making of a file takes: its own, the one that it is opened on first,
+    /// and one for its folder.
+    pub fn check_room(&self) -> io::Result<()> {
+        let first = File::open(self.rt, "/dev/null")?;
+        let second = File::try_clone(&first)?;
+        let third = File::try_clone(&second)?;
+        drop(third);
+        drop(second);
+        drop(first);
+        Ok(())
+    }
 }
 
 impl<'a> Alloc for HighFiles<'a> {

@@ -215,6 +215,7 @@ impl<'a> ServedFiles for HostNames<'a> {
     }
 
     fn create_served(&mut self, name: &str) -> Result<OpenFile, Error> {
+        self.files.check_room()?;
         let mut how = File::options();
         let how = how.read(true).write(true).create_new(true).mode(0o600);
         let file = how.open(&self.files, name)?;

@@ -22,6 +22,8 @@ fn run<C: Copies>(
     let around = HostSurroundings {
         rt,
         reason: &reason,
+        path: command.file,
+        opened: None,
     };
     let files = HostNames::new(rt);
     let mut files = NamedFiles::<HostNames, HostSurroundings, C>::new(
@@ -31,7 +33,7 @@ fn run<C: Copies>(
         reports,
     );
     let pipes = Pipes {
-        reader: rt.stdin(),
+        reader: Steady::new(rt.stdin()),
         writer: Steady::new(rt.stdout()),
     };
     serve(rt.alloc(), &mut files, command, ends, pipes, faults)

@@ -46,7 +46,7 @@ fn number(record: &[u8]) -> Option<u64> {
 /// The number of the next entry in the history of the file of this path, whose records end before this offset. None if they
 /// are not read.
 fn next_number(rt: &HostRuntime, path: &str, at: usize) -> Option<u64> {
-    let mut file = open_to_read(&mut HostNames::new(rt), path).ok()?;
+    let mut file = open_to_read(&mut HostNames::new(rt), path).ok()?.file;
     let mut scan = Scan::start(rt.alloc(), &mut file).ok()?;
     let mut last = 0_u64;
     for _ in 0..at {

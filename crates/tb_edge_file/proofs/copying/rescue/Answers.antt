@@ -12,7 +12,7 @@ returns-in-Ok g c = record {
   keeper = c.read_on.new.keeper;
   on = c.in-Ok.ensures.on;
   any_moment = c.in-Ok.ensures.any_moment;
-  ends = (rescued_printed _ _ _ c.read_on.new.keeper.state c.in-Ok.on _ _ _ c.rescued_of-rescued.ensures c.copied_of-copied.ensures c.report_rescued.ensures, refl);
+  ends = (rescued_printed _ _ _ c.read_on.new.keeper.state c.in-Ok.on _ _ _ c.rescued_of-rescued.ensures c.copied_of-copied.ensures c.end_rescue.ensures, refl);
 }
 
 pub returns-in-Err : goal.returns-in-Err

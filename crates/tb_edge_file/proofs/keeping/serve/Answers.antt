@@ -1,11 +1,11 @@
 use Rattle.std.proofs.Common.{refl, arith}
-use Rattle.tb_edge_file.proofs.Passing.{printed_cut}
+use Rattle.tb_edge_file.proofs.Passing.{printed_cut, printed_made}
 use Rattle.tb_edge_file.proofs.keeping.serve.Goals as goal
 
 pub returns : goal.returns
 returns g c = record {
   noted = _;
-  made = c.print_made.ensures;
+  made = printed_made _ _ _ _ _ _ _ c.cut_bytes-cut.ensures (omega arith) c.print_made.ensures;
   started = _;
   cut = printed_cut _ _ _ _ _ _ c.cut_bytes-cut.ensures (omega arith) c.print_cut.ensures;
   ready = rw (c.commit.ensures.value, c.time.ensures, c.machine-machine.ensures) at c.print_ready.ensures;
