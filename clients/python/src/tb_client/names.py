@@ -19,8 +19,6 @@ class Operation(enum.IntEnum):
     CREATE_TRANSFERS = 130
     LOOKUP_ACCOUNTS = 131
     LOOKUP_TRANSFERS = 132
-
-
 # end of operation
 
 
@@ -34,8 +32,6 @@ class Status(enum.IntEnum):
     Collision = 5
     NewerRequest = 6
     NotYet = 7
-
-
 # end of status
 
 
@@ -75,8 +71,6 @@ class AccountFlags(enum.IntFlag):
     HISTORY = 8
     IMPORTED = 16
     CLOSED = 32
-
-
 # end of account_flags
 
 
@@ -102,8 +96,6 @@ class TransferFlags(enum.IntFlag):
     CLOSING_DEBIT = 64
     CLOSING_CREDIT = 128
     IMPORTED = 256
-
-
 # end of transfer_flags
 
 
@@ -153,8 +145,6 @@ class CreateAccountResult(enum.IntEnum):
     EXISTS_WITH_DIFFERENT_LEDGER = 19
     EXISTS_WITH_DIFFERENT_CODE = 20
     EXISTS = 21
-
-
 # end of account_result
 
 
@@ -280,6 +270,4 @@ class CreateTransferResult(enum.IntEnum):
     CREDIT_ACCOUNT_ALREADY_CLOSED = 66
     EXISTS_WITH_DIFFERENT_LEDGER = 67
     ID_ALREADY_FAILED = 68
-
-
 # end of transfer_result

@@ -60,18 +60,9 @@ def _read(kind: Type[Record], data: bytes, flags: Any, places: Iterable[str]) ->
 
 # generated: account, by tools/tables.py from tools/ledger.json
 _ACCOUNT = {
-    "id": U128,
-    "debits_pending": U128,
-    "debits_posted": U128,
-    "credits_pending": U128,
-    "credits_posted": U128,
-    "user_data_128": U128,
-    "user_data_64": U64,
-    "user_data_32": U32,
-    "reserved": U32,
-    "ledger": U32,
-    "code": U16,
-    "timestamp": U64,
+    "id": U128, "debits_pending": U128, "debits_posted": U128, "credits_pending": U128,
+    "credits_posted": U128, "user_data_128": U128, "user_data_64": U64, "user_data_32": U32,
+    "reserved": U32, "ledger": U32, "code": U16, "timestamp": U64,
 }
 
 
@@ -122,21 +113,11 @@ class Account:
         self.reserved = reserved
         if not (  # a number out of range leaves a bit above those of its width
             {
-                type(id),
-                type(debits_pending),
-                type(debits_posted),
-                type(credits_pending),
-                type(credits_posted),
-                type(user_data_128),
-                type(user_data_64),
-                type(user_data_32),
-                type(ledger),
-                type(code),
-                type(timestamp),
-                type(reserved),
+                type(id), type(debits_pending), type(debits_posted), type(credits_pending),
+                type(credits_posted), type(user_data_128), type(user_data_64), type(user_data_32),
+                type(ledger), type(code), type(timestamp), type(reserved),
             }
-            == INTEGER
-            and type(flags) is AccountFlags
+            == INTEGER and type(flags) is AccountFlags
             and not code >> 16
             and not flags >> 16
             and not (user_data_32 | ledger | reserved) >> 32
@@ -149,46 +130,26 @@ class Account:
     def to_bytes(self) -> bytes:
         _settle(self, _ACCOUNT, AccountFlags)  # again, since it may have been changed
         wide = (
-            self.id,
-            self.debits_pending,
-            self.debits_posted,
-            self.credits_pending,
-            self.credits_posted,
-            self.user_data_128,
+            self.id, self.debits_pending, self.debits_posted, self.credits_pending,
+            self.credits_posted, self.user_data_128,
         )
         narrow = (
-            self.user_data_64,
-            self.user_data_32,
-            self.reserved,
-            self.ledger,
-            self.code,
-            self.flags,
-            self.timestamp,
+            self.user_data_64, self.user_data_32, self.reserved, self.ledger, self.code,
+            self.flags, self.timestamp,
         )
         return b"".join(map(u128, wide)) + NARROW.pack(*narrow)
 
     @classmethod
     def from_bytes(cls, data: bytes) -> Account:
         return _read(cls, data, AccountFlags, ACCOUNT_PLACES)
-
-
 # end of account
 
 
 # generated: transfer, by tools/tables.py from tools/ledger.json
 _TRANSFER = {
-    "id": U128,
-    "debit_account_id": U128,
-    "credit_account_id": U128,
-    "amount": U128,
-    "pending_id": U128,
-    "user_data_128": U128,
-    "user_data_64": U64,
-    "user_data_32": U32,
-    "timeout": U32,
-    "ledger": U32,
-    "code": U16,
-    "timestamp": U64,
+    "id": U128, "debit_account_id": U128, "credit_account_id": U128, "amount": U128,
+    "pending_id": U128, "user_data_128": U128, "user_data_64": U64, "user_data_32": U32,
+    "timeout": U32, "ledger": U32, "code": U16, "timestamp": U64,
 }
 
 
@@ -239,21 +200,11 @@ class Transfer:
         self.timestamp = timestamp
         if not (  # a number out of range leaves a bit above those of its width
             {
-                type(id),
-                type(debit_account_id),
-                type(credit_account_id),
-                type(amount),
-                type(pending_id),
-                type(user_data_128),
-                type(user_data_64),
-                type(user_data_32),
-                type(timeout),
-                type(ledger),
-                type(code),
-                type(timestamp),
+                type(id), type(debit_account_id), type(credit_account_id), type(amount),
+                type(pending_id), type(user_data_128), type(user_data_64), type(user_data_32),
+                type(timeout), type(ledger), type(code), type(timestamp),
             }
-            == INTEGER
-            and type(flags) is TransferFlags
+            == INTEGER and type(flags) is TransferFlags
             and not code >> 16
             and not flags >> 16
             and not (user_data_32 | timeout | ledger) >> 32
@@ -266,20 +217,11 @@ class Transfer:
     def to_bytes(self) -> bytes:
         _settle(self, _TRANSFER, TransferFlags)  # again, since it may have been changed
         wide = (
-            self.id,
-            self.debit_account_id,
-            self.credit_account_id,
-            self.amount,
-            self.pending_id,
+            self.id, self.debit_account_id, self.credit_account_id, self.amount, self.pending_id,
             self.user_data_128,
         )
         narrow = (
-            self.user_data_64,
-            self.user_data_32,
-            self.timeout,
-            self.ledger,
-            self.code,
-            self.flags,
+            self.user_data_64, self.user_data_32, self.timeout, self.ledger, self.code, self.flags,
             self.timestamp,
         )
         return b"".join(map(u128, wide)) + NARROW.pack(*narrow)
@@ -287,8 +229,6 @@ class Transfer:
     @classmethod
     def from_bytes(cls, data: bytes) -> Transfer:
         return _read(cls, data, TransferFlags, TRANSFER_PLACES)
-
-
 # end of transfer
 
 
