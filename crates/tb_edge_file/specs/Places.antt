@@ -1,7 +1,7 @@
 -- A file that is compared with what its name leads to.
 use Rattle.std.specs.Prelude.{ℕ, ◌≡◌, ◌+◌, ◌&&◌, Bool, true, false, not, List, [], drop, Result, Ok, Err}
 use Rattle.tb_file_journal.specs.declared.faults.JournalFault.{JournalFault}
-use Rattle.tb_file_journal.specs.Device.{Disk}
+use Rattle.tb_file_journal.specs.Device.{AddsNone, Disk}
 use Rattle.tb_edge_file.specs.declared.places.Named.{Named}
 use Rattle.tb_edge_file.specs.Refusals.{refused}
 
@@ -18,3 +18,8 @@ named_disk disk named = failed_further (disk named.device) (refused named.refusa
 abbrev pub IsNothingAt : ℕ → List ℕ → Result Bool JournalFault → Type 0
 IsNothingAt at file (Ok false) = drop at file ≡ []
 IsNothingAt at file other = Unit {0}
+
+-- a read returns what it returned, and a crash leaves nothing that it might not have left before
+pub record IsOnlyRead (before after : Disk) : Type 0 where
+  pub seen : after.seen ≡ before.seen
+  pub crash : AddsNone before after

@@ -1,7 +1,7 @@
 //! A file that is compared with what its name leads to, and whose bytes are set aside before they are cut off.
-ghost use Rattle.std.specs.Prelude.{◌≡◌, ◌+◌, ◌-◌, ◌≤◌, ◌<◌, ◌^◌, Bool, true, false, ℕ, List, max, min, drop, length, IfOk, IfErr, OnOk};
+ghost use Rattle.std.specs.Prelude.{◌≡◌, ◌⊎◌, ◌+◌, ◌-◌, ◌≤◌, ◌<◌, ◌^◌, Bool, true, false, ℕ, List, max, min, drop, length, IfOk, IfErr, OnOk};
 ghost use Rattle.tb_file_journal.specs.Device.{Cuts, HasFailed, IsLookedAt, IsOfCall, IsOfSync, Looks, SetsAside, Syncs, Writes};
-ghost use Rattle.tb_edge_file.specs.Places.{IsNothingAt, named_disk};
+ghost use Rattle.tb_edge_file.specs.Places.{IsNothingAt, IsOnlyRead, named_disk};
 
 use crate::refusals::Refusals;
 use std::alloc::Global;
@@ -240,6 +240,8 @@ impl<D: Device + Drop, P: Place + Drop> Device for Named<D, P> {
         ensures names { IfErr result IsOfCall }
         ensures cuts { D.tells → Cuts len result (named_disk D.disk self.old) (named_disk D.disk self.new) }
         ensures aside { (file : List ℕ) → D.holds self.old.device file → OnOk result (SetsAside P.aside len file) }
+        // Whatever it returns: the file was only read, or its bytes were set aside before.
+        ensures first { D.tells → (file : List ℕ) → D.holds self.old.device file → IsOnlyRead (named_disk D.disk self.old) (named_disk D.disk self.new) ⊎ SetsAside P.aside len file }
         ensures led { OnOk result (P.led self.old.place self.old.len self.new.place) }
         ensures there { OnOk result (self.old.gone ≡ false) }
         ensures stays { self.old.gone ≡ true → self.new.gone ≡ true }
