@@ -48,6 +48,7 @@ type survey struct {
 	position  uint64
 	mine      entries.Hash
 	isMine    bool     // mine is known
+	isAll     bool     // each node is waited for
 	isWaiting bool     // for where the log begins
 	left      []string // nodes that did not answer yet
 	at        int      // the one of them that is asked now
@@ -115,7 +116,7 @@ func (n *nodes) searchOn() {
 	default:
 		n.search = nil
 		// an entry that was not read may be missing here
-		n.test(n.taken.Position, func() { n.failBy(it) })
+		n.testAt(n.taken.Position, true, func() { n.failBy(it) })
 	}
 }
 
@@ -207,9 +208,13 @@ func (n *nodes) settle(item Item, why *doubt, then func()) {
 	})
 }
 
-// test ends the replica if more nodes have another log up to a position than have this one's.
-func (n *nodes) test(position uint64, then func()) {
-	it := &survey{position: position, found: map[entries.Hash]int{}, then: then, again: never}
+// test ends the replica if more nodes have another log up to a position than have this one's, of the most
+// that answer.
+func (n *nodes) test(position uint64, then func()) { n.testAt(position, false, then) }
+
+// testAt is test, of all nodes that answer within a while if isAll.
+func (n *nodes) testAt(position uint64, isAll bool, then func()) {
+	it := &survey{position: position, isAll: isAll, found: map[entries.Hash]int{}, then: then, again: never}
 	it.left = append(it.left, n.settings.Nodes...)
 	it.until = n.now.Running + latest
 	if n.comparator.agreed.position <= position {
@@ -267,7 +272,7 @@ func (n *nodes) surveyOn() {
 	case it.at < missing:
 		it.numbers = map[entries.Writer]uint64{}
 		n.askNode(it.left[it.at], it.base.place)
-	case 2*missing >= len(n.settings.Nodes) && n.now.Running <= it.until:
+	case (it.isAll && missing > 0 || 2*missing >= len(n.settings.Nodes)) && n.now.Running <= it.until:
 		it.again = n.now.Running + nodePause
 	default:
 		n.survey = nil

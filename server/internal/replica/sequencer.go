@@ -185,7 +185,7 @@ func (e *Appended) apply(c *Core) {
 // wasPassedOver is that an own entry is before what was read: the node that is read from has lost it, or
 // the engine has lost what it acknowledged.
 func (s *sequencer) wasPassedOver(number uint64, place int64) {
-	s.nodes.test(s.taken.Position, func() {
+	s.nodes.testAt(s.taken.Position, true, func() {
 		if s.sent[number] != nil {
 			s.checkPlace(place)
 		}

@@ -233,7 +233,7 @@ func (m *machine) operate(status int) {
 	if name := nameOf(status); name == replica.Damaged || name == replica.Trimmed || name == replica.Rotten {
 		var best *machine
 		for _, it := range m.machines {
-			if it != m && !it.isDamaged() && (best == nil || it.synced > best.synced) {
+			if it != m && !it.isDamaged() && m.rotten[it] == 0 && (best == nil || it.synced > best.synced) {
 				best = it
 			}
 		}
