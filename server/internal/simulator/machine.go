@@ -100,6 +100,10 @@ func (m *machine) start() {
 		m.end(24, "Damaged: a record that was synced is not what was written")
 		return
 	}
+	if m.bug == CutsTheCopyShort && m.synced < len(m.disk) {
+		taken.Position--
+	}
+	m.synced = len(m.disk)
 	var writer entries.Writer
 	m.drawn.Read(writer[:])
 	m.tell("%s starts with %d entries, as writer %.4s", m.name, taken.Position, writer)
@@ -132,10 +136,6 @@ func (m *machine) scan() (*replica.Taken, bool) {
 		}
 		taken.Count(it.place, &entry)
 	}
-	if m.bug == CutsTheCopyShort && m.synced < len(m.disk) {
-		taken.Position--
-	}
-	m.synced = len(m.disk)
 	return taken, true
 }
 

@@ -70,6 +70,11 @@ func find(t *testing.T, bug replica.Bug, options Options) {
 		t.Fatalf("seed %d fails once and not again", found)
 	}
 	t.Logf("seed %d: %.150s", found, wrong[0])
+	replica.Planted = replica.NoBug
+	if wrong := Run(found, Options{}); len(wrong) > 0 {
+		t.Fatalf("seed %d fails without it: %s", found, wrong[0])
+	}
+	replica.Planted = bug
 	if *stories {
 		t.Log(Explain(found, options))
 	}

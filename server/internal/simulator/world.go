@@ -164,10 +164,19 @@ func (w *world) run() {
 	}
 }
 
-// isLostEverywhere reports whether each machine had read its log at a node that had lost an entry: then no
-// peer's copy is right.
+// isLostEverywhere reports whether no machine has the log's beginning: all that have the entry that a node
+// lost are gone, so no peer's copy is right.
 func (w *world) isLostEverywhere() bool {
-	return w.injected[nodeLoses] && len(w.rotten) == len(w.machines)
+	if !w.injected[nodeLoses] || len(w.rotten) == 0 {
+		return false
+	}
+	logs := w.history().logs
+	for _, it := range w.machines {
+		if taken, ok := it.scan(); ok && int(taken.Position) < len(logs) && taken.Digest == logs[taken.Position] {
+			return false
+		}
+	}
+	return true
 }
 
 func (w *world) until(end int64) {
