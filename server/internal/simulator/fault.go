@@ -189,6 +189,11 @@ func (w *world) drawPlan() plan {
 			size: w.between(0, 1000), coin: w.drawn.Intn(2) == 0,
 		})
 	}
+	for at := range p.faults {
+		if p.faults[at].kind == nodeLoses && !w.options.HasLosses {
+			p.faults[at].kind = nodeRots
+		}
+	}
 	sort.SliceStable(p.faults, func(a, b int) bool { return p.faults[a].at < p.faults[b].at })
 	return p
 }

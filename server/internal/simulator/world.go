@@ -31,6 +31,7 @@ const (
 // Options are those of a run.
 type Options struct {
 	Bug       Bug
+	HasLosses bool                        // nodes may lose entries too, not only change them
 	NewServer func(clientsMax int) Server // of the model's, if there is none
 }
 

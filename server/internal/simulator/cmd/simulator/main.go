@@ -1,6 +1,6 @@
 // Command simulator runs replicas over seeds, in virtual time.
 //
-//	simulator [-first SEED] [-seeds N] [-jobs N] [-stop]
+//	simulator [-first SEED] [-seeds N] [-jobs N] [-stop] [-losses]
 //
 // Each seed that fails is shortened, and its run printed as a story. The last line is
 // 'N passed, M failed in S s'.
@@ -21,14 +21,16 @@ func main() {
 	seeds := flag.Int64("seeds", 1000, "how many seeds are run")
 	jobs := flag.Int("jobs", runtime.NumCPU(), "how many are run at a time")
 	stop := flag.Bool("stop", false, "end at the first that fails")
+	losses := flag.Bool("losses", false, "nodes may lose entries too")
 	flag.Parse()
+	options := simulator.Options{HasLosses: *losses}
 	if *jobs < 1 || *seeds < 1 || flag.NArg() > 0 {
 		flag.Usage()
 		os.Exit(2)
 	}
 	began := time.Now()
-	failed := simulator.RunMany(*first, *seeds, *jobs, simulator.Options{}, func(seed int64) bool {
-		fmt.Println(simulator.Explain(seed, simulator.Options{}))
+	failed := simulator.RunMany(*first, *seeds, *jobs, options, func(seed int64) bool {
+		fmt.Println(simulator.Explain(seed, options))
 		return *stop
 	})
 	fmt.Printf("%d passed, %d failed in %.0f s\n", *seeds-failed, failed, time.Since(began).Seconds())
