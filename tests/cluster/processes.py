@@ -19,6 +19,9 @@ CLIENT = f"{TOP}/clients/python/src"
 HOST = f"{TOP}/apps/host"
 ENVIRONMENT = {**os.environ, "PYTHONPATH": f"{HOST}/src:{CLIENT}"}
 PYTHON = "/usr/bin/python3"  # Debian's, which sees its packages
+# The replica in Python, or the program of TB_REPLICA. A wrong one is in Python in any case.
+IN_PYTHON = [PYTHON, "-B", f"{HOST}/tb-replica"]
+REPLICA = [os.environ["TB_REPLICA"]] if "TB_REPLICA" in os.environ else IN_PYTHON
 QUOTA = 8 << 30  # bytes that etcd takes at most, as docs/use/CLUSTER.md sets it
 # The server with its replies in a file: those of its last start. A status above 128 is that of a
 # signal. If rates count and no reply is compared, the server runs as it is.
@@ -179,7 +182,8 @@ class Machines:
     def replica_words(self, at, words, more=()):
         given = ["--log", self.log(at), "--copy", self.copy(at), "--name", f"r{at}", *more]
         given += ["--tcp", f"127.0.0.1:{self.tcp[at]}", "--connections", "200"]
-        return [PYTHON, "-B", *words, *given, "--", *self.command(at)]
+        program = REPLICA if [PYTHON, "-B", *words] == IN_PYTHON else [PYTHON, "-B", *words]
+        return [*program, *given, "--", *self.command(at)]
 
     def start(self):
         self.start_engine()
@@ -197,7 +201,7 @@ class Machines:
     def part(self, *words, seconds=60):
         """Runs a part of tb-replica, as status. Returns its status, and what it printed."""
         ran = subprocess.run(
-            [PYTHON, "-B", f"{HOST}/tb-replica", *words],
+            [*REPLICA, *words],
             capture_output=True,
             text=True,
             timeout=seconds,
