@@ -168,12 +168,7 @@ func trim(ctx context.Context, g *given, log agreed.Log, out *output) error {
 	if len(replicas) == 0 {
 		return report.End(1, "no replica is listed, and nothing is trimmed")
 	}
-	least := replicas[0]
-	for _, it := range replicas {
-		if it.position < least.position {
-			least = it
-		}
-	}
+	least := leastOf(replicas)
 	position, place, err := log.Trimmed(ctx)
 	if err != nil {
 		return err
@@ -198,6 +193,17 @@ func trim(ctx context.Context, g *given, log agreed.Log, out *output) error {
 		out.tell("%s", it)
 	}
 	return err
+}
+
+// leastOf is the replica that has least on its disk.
+func leastOf(replicas []*replica) *replica {
+	least := replicas[0]
+	for _, it := range replicas {
+		if it.position < least.position {
+			least = it
+		}
+	}
+	return least
 }
 
 // isTrimmed reports whether no entry up to a place is left, and the engine takes more.

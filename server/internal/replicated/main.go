@@ -70,29 +70,30 @@ func parse(arguments []string) (*options, []string, error) {
 	return o, append(rest, arguments...), nil
 }
 
+// text sets a text that is not empty.
+func text(to *string) func(string) error {
+	return func(value string) error {
+		if *to = value; value == "" {
+			return errors.New("it is empty")
+		}
+		return nil
+	}
+}
+
+func seconds(to *time.Duration) func(string) error {
+	return func(value string) error {
+		number, err := strconv.ParseFloat(value, 64)
+		if err != nil || !(number >= 0 && number <= 1e9) {
+			return fmt.Errorf("%s is no number of seconds", report.Quoted(value))
+		}
+		*to = time.Duration(number * float64(time.Second))
+		return nil
+	}
+}
+
+// option is how an option is set, or nil if it is none of these.
 func (o *options) option(name string) func(string) error {
-	text := func(to *string) func(string) error {
-		return func(value string) error {
-			if *to = value; value == "" {
-				return errors.New("it is empty")
-			}
-			return nil
-		}
-	}
-	seconds := func(to *time.Duration) func(string) error {
-		return func(value string) error {
-			number, err := strconv.ParseFloat(value, 64)
-			*to = time.Duration(number * float64(time.Second))
-			return err
-		}
-	}
 	switch name {
-	case "--log":
-		return func(value string) error {
-			o.url = value
-			_, err := agreed.Parse(value)
-			return err
-		}
 	case "--log-ca":
 		return text(&o.access.Authority)
 	case "--log-certificate":
@@ -111,21 +112,37 @@ func (o *options) option(name string) func(string) error {
 		return seconds(&o.patience)
 	case "--ahead":
 		return seconds(&o.ahead)
+	case "--log":
+		return o.setLog
 	case "--standbys":
-		return func(value string) (err error) {
-			o.access.Standbys, err = strconv.Atoi(value)
-			return err
-		}
+		return o.setStandbys
 	case "--distrust":
-		return func(value string) error {
-			var writer entries.Writer
-			if data, err := hex.DecodeString(value); err != nil || copy(writer[:], data) != len(writer) {
-				return fmt.Errorf("%s is no writer: 32 digits, as `status` has them", report.Quoted(value))
-			}
-			o.distrusted = append(o.distrusted, writer)
-			return nil
-		}
+		return o.setDistrust
 	}
+	return nil
+}
+
+func (o *options) setLog(value string) error {
+	o.url = value
+	_, err := agreed.Parse(value)
+	return err
+}
+
+func (o *options) setStandbys(value string) error {
+	number, err := strconv.ParseUint(value, 10, 16)
+	if err != nil {
+		return fmt.Errorf("%s is no number from 0 to 65535", report.Quoted(value))
+	}
+	o.access.Standbys = int(number)
+	return nil
+}
+
+func (o *options) setDistrust(value string) error {
+	var writer entries.Writer
+	if data, err := hex.DecodeString(value); err != nil || len(data) != len(writer) || copy(writer[:], data) == 0 {
+		return fmt.Errorf("%s is no writer: 32 digits, as `status` has them", report.Quoted(value))
+	}
+	o.distrusted = append(o.distrusted, writer)
 	return nil
 }
 

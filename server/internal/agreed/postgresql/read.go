@@ -38,8 +38,6 @@ func (l *Log) Read(ctx context.Context, after agreed.Place, take func(agreed.Ite
 	defer l.appended.End()
 	r := &reader{Log: l, take: take, place: after, said: map[string]string{}}
 	defer r.leave()
-	timer := time.NewTimer(latest)
-	defer timer.Stop()
 	for {
 		moved := l.isMoved()
 		err := r.step(ctx)
@@ -55,25 +53,27 @@ func (l *Log) Read(ctx context.Context, after agreed.Place, take func(agreed.Ite
 				return err
 			}
 		}
-		timer.Reset(latest)
-		select {
-		case <-ctx.Done():
-			return ctx.Err()
-		case <-l.closed:
-			return agreed.Failed(agreed.ErrNoLog, "the log is closed")
-		case <-moved:
-			r.leave()
-		case <-l.appended.Came():
-		case <-timer.C:
-			continue
-		}
-		if !timer.Stop() {
-			select {
-			case <-timer.C:
-			default:
-			}
+		if err := r.wait(ctx, moved); err != nil {
+			return err
 		}
 	}
+}
+
+// wait waits until there may be more to read.
+func (r *reader) wait(ctx context.Context, moved <-chan struct{}) error {
+	timer := time.NewTimer(latest)
+	defer timer.Stop()
+	select {
+	case <-ctx.Done():
+		return ctx.Err()
+	case <-r.closed:
+		return agreed.Failed(agreed.ErrNoLog, "the log is closed")
+	case <-moved:
+		r.leave()
+	case <-r.appended.Came():
+	case <-timer.C:
+	}
+	return nil
 }
 
 func (l *Log) isMoved() <-chan struct{} {
