@@ -155,6 +155,11 @@ func Main(arguments []string) int {
 	if err == nil {
 		c, err = config.Parse(rest)
 	}
+	if err == nil {
+		if _, other := entries.HeadOf(c.Command); other != nil {
+			err = wrong("%v", other)
+		}
+	}
 	var usage *config.Usage
 	var page *config.Page
 	switch {
@@ -179,7 +184,7 @@ func Main(arguments []string) int {
 func run(o *options, c *config.Config, lines *report.Log, signals <-chan os.Signal) error {
 	head, err := entries.HeadOf(c.Command)
 	if err != nil {
-		return wrong("%v", err)
+		return err
 	}
 	log, err := agreed.Open(o.url, o.access, lines)
 	if err != nil {
