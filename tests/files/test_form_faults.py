@@ -122,10 +122,9 @@ def test_a_start_and_a_commit(tbd, shim, tmp_path, kind, call, why, fault):
         assert REPLIES.startswith(told[1]) or AGAIN.startswith(told[1])
         status, out, said = failing.ran(call, 0, 0)
         assert status == 0 and out in ((AGAIN,) if told[1] else (REPLIES, AGAIN)), (number, out)
-        assert said in NEWS or re.fullmatch(CUT.format("[0-9]+", "(8|25|191)"), said), (
-            number,
-            said,
-        )
+        # With nothing before the bytes that are cut off, a ledger is made.
+        cut = CUT.format("[0-9]+", "(25|191)"), NEWS[1] + CUT.format("[0-9]+", "8")
+        assert said in NEWS or any(re.fullmatch(it, said) for it in cut), (number, said)
         assert (tmp_path / "ledger").read_bytes() == kinds.LEDGER
         count = number
     # Over the ledger itself nothing is written: what is sent was answered before.
