@@ -91,7 +91,10 @@ func (c *conn) enter() string {
 	if why := c.l.access.Load().Test(c.peer, c.uid); why != "" {
 		return why
 	}
-	return c.l.join(c)
+	if why := c.l.join(c); why != "" {
+		return why
+	}
+	return *c.l.why.Load() // Stop may have looked at the open connections before
 }
 
 // serve serves a connection that was taken in, until it is closed: at once if there is a reason for that.
