@@ -40,7 +40,9 @@ def test(program: Path) -> None:
 
 def linked(tree: Path) -> list[Linked]:
     """The packages whose parts are in the programs: Go's runtime and library, and others."""
-    folders = run([tree / "server/build", "list", "-deps", "-f", DIRECTORIES]).split()
+    packages = " ".join(f"telovamish.org/server/cmd/{it}" for it in NAMES)
+    words = ["env", f"PACKAGES={packages}", tree / "server/build", "list", "-deps"]
+    folders = run([*words, "-f", DIRECTORIES]).split()
     others = {it for it in folders if it.startswith("/usr/share/gocode/")}
     others.add(str(Path(run(["go", "env", "GOROOT"]).strip(), "bin").resolve()))
     owners = {run(["dpkg-query", "-S", it]).split(":")[0] for it in others}

@@ -51,7 +51,8 @@ def node(clone: Clone, text: str) -> None:
     modules.mkdir(exist_ok=True)
     if not (modules / "tb-client").exists():
         (modules / "tb-client").symlink_to(ROOT / "clients/node")
-    (clone.folder / "block.mjs").write_text(text.replace(PORT, SOCKET))
+    there = text.replace(PORT, SOCKET).replace(FILE, f"connect({SOCKET})")
+    (clone.folder / "block.mjs").write_text(there)
     clone.run("node block.mjs")
 
 
@@ -101,8 +102,10 @@ RUNS: dict[str, Callable[[Clone, str], None]] = {
     "clients/go/README.md: package main": go,
     "clients/java/README.md: import java.math.BigInteger;": java,
     "clients/java/README.md: try (Client client": java,
+    "clients/node/README.md: import { connect, open }": node,
     "clients/node/README.md: import { createClient }": node,
     "clients/node/README.md: import { existsSync }": node,
+    "clients/python/README.md: import array": python,
     "clients/python/README.md: import tb_client as tb": python,
     "docs/use/CLIENTS.md: import tb_client as tb": python,
     "docs/use/TELOVAMISH.md: at=10 client=7 register;": statements,
@@ -110,7 +113,7 @@ RUNS: dict[str, Callable[[Clone, str], None]] = {
 }
 # what moves no money in a ledger that stays, and why
 OTHERS = {
-    "clients/go/README.md: client, err := tb.NewClient": "its transfers are the caller's",
+    "clients/go/README.md: client, err := tb.Connect": "its transfers are the caller's",
     "clients/python/README.md: from tb_client import Account": "a ledger in memory",
     "clients/python/README.md: from tb_client import CreateTransferResult": "sends again",
     "clients/conformance/README.md: ": "a scenario of the kit",

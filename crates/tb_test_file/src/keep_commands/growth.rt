@@ -194,7 +194,7 @@ fn a_dump_has_one_moment(rt: HostRuntime) {
 fn what_was_committed_meanwhile_is_behind(rt: HostRuntime) {
     let alloc = rt.alloc();
     let text =
-        "records 1\nentries 0\nprofile 1\nclients_max 2\nlast time 0\nbytes after the records 75, not committed yet or torn\n";
+        "records 1\nentries 0\nprofile 1\nclients_max 2\nlast time 0\nlast date none\nbytes after the records 75, not committed yet or torn\nwhole: every entry was replayed\n";
     let found = checked(&rt, alloc);
     expect_given(&rt, found, text.as_bytes());
 }
