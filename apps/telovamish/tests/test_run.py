@@ -354,7 +354,7 @@ def test_json_lists_the_operations(tbs):
         (b"LOOKUP_ACCOUNTS id=1;", "line 1, column 1: unknown operation 'LOOKUP_ACCOUNTS'; did you mean lookup_accounts?\n"),
         (b"register client=1;", "line 1, column 10: 'client' comes before register, or ';' is missing before it\n"),
         (b"lookup_accounts id=1 client=1;", "line 1, column 22: ';' is missing before 'client'\n"),
-        (b"session=5 register;", "line 1, column 13: a register has no session and no request\n"),
+        (b"session=5 register;", "line 1, column 11: a register has no session and no request\n"),
     ],
 )  # fmt: skip
 def test_a_fault_of_a_clumsy_text(tbs, text, said):
