@@ -1,14 +1,15 @@
 """What people type at a terminal, and what they see."""
 from __future__ import annotations
 
+import contextlib
 import os
 import signal
 import stat
 import subprocess
-import time
 
 import pytest
-from terminals import SECONDS, Terminal
+from conftest import COMMAND
+from terminals import Terminal
 
 ACCOUNTS = "create_accounts id=1 ledger=700 code=10, id=2 ledger=700 code=10;"
 
@@ -105,16 +106,21 @@ def test_a_signal_ends_it(state, tbs, number):
     assert terminal.ended() == 128 + number
 
 
-def test_it_stops_and_goes_on(terminal):
-    terminal.type("lookup_accounts id=1\x1a")
-    deadline = time.monotonic() + SECONDS
-    while (
-        " T " not in open(f"/proc/{terminal.child.pid}/stat").read() and time.monotonic() < deadline
-    ):
-        time.sleep(0.05)
-    os.kill(terminal.child.pid, signal.SIGCONT)
-    terminal.type(";\r")
-    terminal.wait("1 of 1 not found")
+def test_it_stops_and_goes_on(state, tbs):
+    """Under a shell: without one to continue it, Ctrl-Z stops nothing."""
+    words = ("--norc", "--noprofile", "-i")
+    shell = Terminal(*words, state=state, env={"PS1": "shell: "}, program="/bin/bash")
+    with contextlib.closing(shell):
+        shell.wait("shell: ")
+        shell.enter(str(COMMAND), "> ")
+        shell.type("lookup_accounts id=1")
+        shell.wait("id=1")
+        shell.type("\x1a")
+        shell.wait("Stopped")
+        shell.wait("shell: ")
+        shell.enter("fg", "lookup_accounts id=1")
+        shell.type(";\r")
+        shell.wait("1 of 1 not found")
 
 
 def test_a_server_that_ends_is_reported(terminal):
