@@ -127,7 +127,8 @@ func parseAddress(text string) (Address, error) {
 		host = host[1 : len(host)-1]
 	}
 	number, err := strconv.Atoi(port)
-	if err != nil || !isDigits(port) || text == "" || strings.Contains(host, ":") && !isBracketed {
+	isHost := !strings.ContainsAny(host, "[]") && (isBracketed || !strings.Contains(host, ":"))
+	if err != nil || !isDigits(port) || text == "" || !isHost {
 		return Address{}, invalid("addresses", "has %.60q: write a port, HOST, HOST:PORT, or a path with a slash", text)
 	}
 	if host == "" {
