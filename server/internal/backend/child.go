@@ -188,11 +188,12 @@ func (c *Child) live() (int, string, error) {
 	if err != nil {
 		return 0, "", err
 	}
+	name := c.words[0] // before settle, which makes other words
 	said := goes(func() string {
 		return tail(p.stderr, func(line string) bool { return c.isNews(p, pipe, line) })
 	})
 	c.begin(p, pipe)
-	read := goes(func() error { return c.readReplies(p) })
+	read := goes(func() error { return c.readReplies(p, name) })
 	select {
 	case <-read.done:
 	case <-p.exited:
@@ -236,14 +237,14 @@ func within(it <-chan struct{}, wait time.Duration) bool {
 
 // readReplies reads what the process writes, until there is no more. One that writes what is no reply
 // is killed.
-func (c *Child) readReplies(p *process) error {
+func (c *Child) readReplies(p *process, name string) error {
 	if c.queue.readReplies(p.stdout) {
 		return nil
 	}
 	if err := p.kill(); err != nil {
 		return err
 	}
-	return report.End(1, "%s wrote what is no reply to a request that it was given", c.words[0])
+	return report.End(1, "%s wrote what is no reply to a request that it was given", name)
 }
 
 // begin has pairs written to a process. One that keeps no ledger takes requests at once.
