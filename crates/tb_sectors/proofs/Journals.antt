@@ -5,8 +5,9 @@ use Rattle.std.proofs.lemmas.List.{append-nil}
 use Rattle.std.proofs.Math.Seq.{take-length}
 use Rattle.std.proofs.Math.ListN.{drop_of_length-le}
 use Rattle.std.proofs.lemmas.Bool.Decides.{nat_tests}
+use Rattle.tb_sectors.specs.Checksum.{bit_on, byte_on}
 use Rattle.tb_sectors.specs.Sectors.{IsMixed, sector}
-use Rattle.tb_sectors.specs.Stamped.{Stamped, blank, Taken, nothing_taken, with_sector, Batch, batch_bytes, grown, further, goes_on, further_sectors, batch_sectors, new_after, after_last, with_batch, after_batches, all_bytes, sector_at, stamped, sectors_from, file_sectors}
+use Rattle.tb_sectors.specs.Stamped.{Stamped, blank, Taken, nothing_taken, with_sector, Batch, batch_bytes, grown, further, goes_on, further_sectors, batch_sectors, new_after, after_last, with_batch, after_batches, all_bytes, sector_at, is_intact, stamped, sectors_from, file_sectors}
 use Rattle.tb_sectors.specs.StampedLaws.{IsAnyMix, CrashLeavesAllOrNone, CommittedIsRead, FileIsRead, HasSectors, FileIsAllOrNone}
 use Rattle.tb_sectors.proofs.Mixes.{IsNext, IsAtRest, sector_bytes, at_rest_reads, batch_or_none, same_reads}
 
@@ -19,29 +20,29 @@ completes t s ends =
     at_most : (a b : ℕ) → a ≤ b → nat_le a b ≡ true
     at_most a b le = grind (arith, nat_tests)
 
-further_at_rest : (t : Taken) (n : ℕ) (pieces : List (List ℕ)) → t.number ≡ n → 0 < n → (goes_on pieces ≡ false → t.whole ≡ t.all) → IsAtRest t (further_sectors n pieces)
-further_at_rest t n [] same pos whole = whole refl
-further_at_rest t n (p ∷ []) same pos whole =
-    (record { stamped = pos; number = omega (arith, same) }, completes t (further n p false) refl)
-further_at_rest t n (p ∷ q ∷ more) same pos whole =
-    (record { stamped = pos; number = omega (arith, same) }, further_at_rest (with_sector t (further n p true)) n (q ∷ more) refl pos (λ e. absurd (false_is_not_true e)))
+further_at_rest : (t : Taken) (n : ℕ) (pieces : List (List ℕ)) → t.closed ≡ false → t.number ≡ n → 0 < n → (goes_on pieces ≡ false → t.whole ≡ t.all) → IsAtRest t (further_sectors n pieces)
+further_at_rest t n [] ready same pos whole = whole refl
+further_at_rest t n (p ∷ []) ready same pos whole =
+    (record { stamped = pos; number = omega (arith, same); ready = ready; stays = refl }, completes t (further n p false) refl)
+further_at_rest t n (p ∷ q ∷ more) ready same pos whole =
+    (record { stamped = pos; number = omega (arith, same); ready = ready; stays = refl }, further_at_rest (with_sector t (further n p true)) n (q ∷ more) refl refl pos (λ e. absurd (false_is_not_true e)))
   where
     false_is_not_true : true ≡ false → ⊥
     false_is_not_true e = cc
 
-batch_at_rest : (t : Taken) (o : Stamped) (first : List ℕ) (more : List (List ℕ)) → o.number ≡ t.number + o.begun → IsAtRest t (batch_sectors o first more)
-batch_at_rest t o first [] is = (record { stamped = omega arith; number = omega (arith, is) }, completes t (grown o first false) refl)
-batch_at_rest t o first (q ∷ more) is = (
-  record { stamped = omega arith; number = omega (arith, is) },
-  further_at_rest (with_sector t (grown o first true)) (o.number + 1) (q ∷ more) refl (omega arith) (λ e. absurd (false_is_not_true e)),
+batch_at_rest : (t : Taken) (o : Stamped) (first : List ℕ) (more : List (List ℕ)) → t.closed ≡ false → o.number ≡ t.number + o.begun → IsAtRest t (batch_sectors o first more)
+batch_at_rest t o first [] ready is = (record { stamped = omega arith; number = omega (arith, is); ready = ready; stays = refl }, completes t (grown o first false) refl)
+batch_at_rest t o first (q ∷ more) ready is = (
+  record { stamped = omega arith; number = omega (arith, is); ready = ready; stays = refl },
+  further_at_rest (with_sector t (grown o first true)) (o.number + 1) (q ∷ more) refl refl (omega arith) (λ e. absurd (false_is_not_true e)),
 )
   where
     false_is_not_true : true ≡ false → ⊥
     false_is_not_true e = cc
 
 last_at_rest : (t : Taken) (s : Stamped) (shares : Bool) (first : List ℕ) (more : List (List ℕ)) → IsNext t s → IsAtRest t (after_last s (record { shares = shares; first = first; more = more }))
-last_at_rest t s true first more next = batch_at_rest t s first more next.number
-last_at_rest t s false first more next = (next, batch_at_rest (with_sector t s) (new_after s.number) first more (omega arith))
+last_at_rest t s true first more next = batch_at_rest t s first more next.ready next.number
+last_at_rest t s false first more next = (next, batch_at_rest (with_sector t s) (new_after s.number) first more next.stays (omega arith))
 
 pub with_batch_at_rest : (t : Taken) (sectors : List Stamped) (batch : Batch) → IsAtRest t sectors → IsAtRest t (with_batch sectors batch)
 with_batch_at_rest t [] batch rests = rests
@@ -49,7 +50,7 @@ with_batch_at_rest t (s ∷ []) batch (next, rests) = last_at_rest t s batch.sha
 with_batch_at_rest t (s ∷ r ∷ more) batch (next, rests) = (next, with_batch_at_rest (with_sector t s) (r ∷ more) batch rests)
 
 pub batches_at_rest : (first : List ℕ) (batches : List Batch) → IsAtRest nothing_taken (after_batches first batches)
-batches_at_rest first [] = (record { stamped = omega arith; number = refl }, completes nothing_taken (grown (new_after 0) first false) refl)
+batches_at_rest first [] = (record { stamped = omega arith; number = refl; ready = refl; stays = refl }, completes nothing_taken (grown (new_after 0) first false) refl)
 batches_at_rest first (newest ∷ earlier) = with_batch_at_rest nothing_taken (after_batches first earlier) newest (batches_at_rest first earlier)
 
 -- its bytes
@@ -68,10 +69,10 @@ last_bytes s false first more =
     ∙ ap (λ (l : List ℕ). l ++ (first ++ flat_map (λ (bytes : List ℕ). bytes) more)) (sym (append-nil s.bytes))
 
 -- a journal has a sector
-record IsSome (sectors : List Stamped) : Type 0 where
-  first : Stamped
-  rest : List Stamped
-  is : sectors ≡ first ∷ rest
+pub record IsSome (sectors : List Stamped) : Type 0 where
+  pub first : Stamped
+  pub rest : List Stamped
+  pub is : sectors ≡ first ∷ rest
 
 with_batch_bytes : (s : Stamped) (rest : List Stamped) (batch : Batch) → sector_bytes (with_batch (s ∷ rest) batch) ≡ sector_bytes (s ∷ rest) ++ batch_bytes batch
 with_batch_bytes s [] batch = last_bytes s batch.shares batch.first batch.more
@@ -86,7 +87,7 @@ with_is_some : (s : Stamped) (rest : List Stamped) (batch : Batch) → IsSome (w
 with_is_some s [] batch = last_is_some s batch.shares batch.first batch.more
 with_is_some s (r ∷ more) batch = record { first = _; rest = _; is = refl }
 
-batches_are_some : (first : List ℕ) (batches : List Batch) → IsSome (after_batches first batches)
+pub batches_are_some : (first : List ℕ) (batches : List Batch) → IsSome (after_batches first batches)
 batches_are_some first [] = record { first = _; rest = _; is = refl }
 batches_are_some first (newest ∷ earlier) =
     let before = batches_are_some first earlier in
@@ -114,6 +115,7 @@ crash_leaves_all_or_none first batches batch left mixed =
 -- files
 
 stamped_zeros : stamped (replicate 512 0) ≡ blank
+unfolding is_intact bit_on byte_on
 stamped_zeros = refl
 
 past_the_end : (k : ℕ) (file : List ℕ) → length file ≤ 512 * k → sector k file ≡ replicate 512 0

@@ -5,8 +5,10 @@ use Rattle.std.proofs.lemmas.List.{append-nil, take-append-drop, take_min}
 use Rattle.std.proofs.lemmas.Bool.{cases_lt}
 use Rattle.std.proofs.lemmas.Bool.Decides.{nat_tests}
 use Rattle.std.proofs.Math.ListN.{drop_of_length-le}
+use Rattle.std.specs.Int.{w32, to_le_bytes}
+use Rattle.tb_sectors.specs.Checksum.{remainder}
 use Rattle.tb_sectors.specs.Stamped.{Stamped, blank, grown, further, goes_on, further_sectors}
-use Rattle.tb_sectors.specs.Encoding.{stamp_bytes, raw, raws, pieces, pieces_of, open_sector, cut_batch, further_raws, cleared_bytes, whole_sector}
+use Rattle.tb_sectors.specs.Encoding.{number_bytes, sector_bytes_of, raw, raws, pieces, pieces_of, open_sector, cut_batch, further_raws, cleared_bytes, whole_sector}
 
 -- any number that is large enough gives the same pieces
 enough : (m n : ℕ) (bytes : List ℕ) → length bytes ≤ m → length bytes ≤ n → pieces m bytes ≡ pieces n bytes
@@ -60,20 +62,29 @@ one_more number bytes more some is =
 
 -- the code's steps
 
-pub sector_built : (o kept bytes first second third fourth : List ℕ) (number begun used ends : ℕ)
-    → used ≡ length kept + length bytes → first ≡ o ++ stamp_bytes number begun used ends → second ≡ first ++ kept → third ≡ second ++ bytes
-    → fourth ≡ third ++ replicate (492 - used) 0 → fourth ≡ o ++ raw (record { number = number; begun = begun; ends = ends; bytes = kept ++ bytes })
+pub sector_built : (o kept bytes numbers end zeros first second third fourth fifth : List ℕ) (number begun used ends sum : ℕ)
+    → used ≡ length kept + length bytes → numbers ≡ number_bytes number begun used ends → zeros ≡ take (492 - used) (replicate 492 0)
+    → sum ≡ remainder (numbers ++ ((kept ++ bytes) ++ zeros)) 0 → end ≡ 0 ∷ 0 ∷ to_le_bytes w32 sum
+    → first ≡ o ++ numbers → second ≡ first ++ end → third ≡ second ++ kept → fourth ≡ third ++ bytes → fifth ≡ fourth ++ zeros
+    → fifth ≡ o ++ raw (record { number = number; begun = begun; ends = ends; bytes = kept ++ bytes; closed = false })
 unfolding raw
-sector_built o kept bytes first second third fourth number begun used ends is p q r s =
+sector_built o kept bytes numbers end zeros first second third fourth fifth number begun used ends sum is named blank summed ended p q r s t =
     let e : used ≡ length (kept ++ bytes) = is ∙ sym (length-append kept bytes) in
-    let stamp = stamp_bytes number begun used ends in
-    let zeros = replicate (492 - used) 0 in
-    s ∙ ap (λ (l : List ℕ). l ++ zeros) (r ∙ ap (λ (l : List ℕ). l ++ bytes) (q ∙ ap (λ (l : List ℕ). l ++ kept) p))
-    ∙ regroup o stamp kept bytes zeros
-    ∙ ap (λ (u : ℕ). o ++ (stamp_bytes number begun u ends ++ ((kept ++ bytes) ++ replicate (492 - u) 0))) e
+    let z : zeros ≡ replicate (492 - length (kept ++ bytes)) 0 = blank ∙ shorter (492 - used) 492 (omega arith) ∙ ap (λ (u : ℕ). replicate (492 - u) 0) e in
+    let n : numbers ≡ number_bytes number begun (length (kept ++ bytes)) ends = named ∙ ap (λ (u : ℕ). number_bytes number begun u ends) e in
+    t ∙ ap (λ (l : List ℕ). l ++ zeros) (s ∙ ap (λ (l : List ℕ). l ++ bytes) (r ∙ ap (λ (l : List ℕ). l ++ kept) (q ∙ ap (λ (l : List ℕ). l ++ end) p)))
+    ∙ regroup o numbers end kept bytes zeros
+    ∙ ap (λ (l : List ℕ). o ++ ((numbers ++ l) ++ ((kept ++ bytes) ++ zeros))) (ended ∙ ap (λ (m : ℕ). 0 ∷ 0 ∷ to_le_bytes w32 m) summed)
+    ∙ ap (λ (l : List ℕ). o ++ sector_bytes_of numbers false ((kept ++ bytes) ++ l)) z
+    ∙ ap (λ (l : List ℕ). o ++ sector_bytes_of l false ((kept ++ bytes) ++ replicate (492 - length (kept ++ bytes)) 0)) n
   where
-    regroup : (a b c d e : List ℕ) → (((a ++ b) ++ c) ++ d) ++ e ≡ a ++ (b ++ ((c ++ d) ++ e))
-    regroup a b c d e = simp append_assoc
+    regroup : (a b c d e f : List ℕ) → ((((a ++ b) ++ c) ++ d) ++ e) ++ f ≡ a ++ ((b ++ c) ++ ((d ++ e) ++ f))
+    regroup a b c d e f = simp append_assoc
+
+    shorter : (n m : ℕ) → n ≤ m → take n (replicate m 0) ≡ replicate {A = ℕ} n 0
+    shorter zero m le = refl
+    shorter (suc n) zero le = absurd (omega arith)
+    shorter (suc n) (suc m) le = ap (λ (l : List ℕ). 0 ∷ l) (shorter n m (omega arith))
 
 goes_on_is : (bytes : List ℕ) (none : Bool) → none ≡ (length bytes == 0) → goes_on (pieces_of bytes) ≡ not none
 goes_on_is [] none is = sym (ap not is)
@@ -106,15 +117,15 @@ further_step out out2 target rest piece more number k last some is p m l o befor
 
 pub batch_built : (out out1 out2 kept bytes first more : List ℕ) (number begun ends k : ℕ) (last : Bool) → k ≡ min (492 - length kept) (length bytes)
     → first ≡ take k bytes → more ≡ drop k bytes → last ≡ (length more == 0) → ends ≡ (if last then length kept + length first else length kept)
-    → out1 ≡ out ++ raw (record { number = number + 1; begun = begun + 1; ends = ends; bytes = kept ++ first }) → out2 ≡ out1 ++ further_raws (number + 1) more
+    → out1 ≡ out ++ raw (record { number = number + 1; begun = begun + 1; ends = ends; bytes = kept ++ first; closed = false }) → out2 ≡ out1 ++ further_raws (number + 1) more
     → out2 ≡ out ++ raws (cut_batch (open_sector number begun kept) bytes)
 batch_built out out1 out2 kept bytes first more number begun ends k last is f m l e o p =
     let n = 492 - length kept in
     let front : first ≡ take n bytes = f ∙ take_up_to k n bytes is in
     let behind : more ≡ drop n bytes = m ∙ drop_up_to k n bytes is in
     let on : goes_on (pieces_of (drop n bytes)) ≡ not last = ap (λ (x : List ℕ). goes_on (pieces_of x)) (sym behind) ∙ goes_on_is more last l in
-    let grows : record { number = number + 1; begun = begun + 1; ends = ends; bytes = kept ++ first } ≡ grown (open_sector number begun kept) (take n bytes) (goes_on (pieces_of (drop n bytes)))
-    = ap (λ (x : ℕ). record { number = number + 1; begun = begun + 1; ends = x; bytes = kept ++ first }) (e ∙ which last kept first)
+    let grows : record { number = number + 1; begun = begun + 1; ends = ends; bytes = kept ++ first; closed = false } ≡ grown (open_sector number begun kept) (take n bytes) (goes_on (pieces_of (drop n bytes)))
+    = ap (λ (x : ℕ). record { number = number + 1; begun = begun + 1; ends = x; bytes = kept ++ first; closed = false }) (e ∙ which last kept first)
     ∙ ap (λ (x : List ℕ). grown (open_sector number begun kept) x (not last)) front
     ∙ ap (λ (b : Bool). grown (open_sector number begun kept) (take n bytes) b) (sym on) in
     p ∙ ap (λ (x : List ℕ). x ++ further_raws (number + 1) more) (o ∙ ap (λ (s : Stamped). out ++ raw s) grows)
@@ -140,10 +151,10 @@ one_blank out before after n is more =
     ∙ ap (λ (k : ℕ). out ++ raws (replicate k blank)) (let e : suc n ≡ n + 1 = omega arith in e)
 
 pub cleared_built : (out first second kept : List ℕ) (number begun ends torn : ℕ) → ends ≡ length kept
-    → first ≡ out ++ raw (record { number = number; begun = begun; ends = ends; bytes = kept ++ [] }) → second ≡ first ++ raws (replicate torn blank)
+    → first ≡ out ++ raw (record { number = number; begun = begun; ends = ends; bytes = kept ++ []; closed = false }) → second ≡ first ++ raws (replicate torn blank)
     → second ≡ out ++ cleared_bytes (whole_sector number begun kept) torn
 cleared_built out first second kept number begun ends torn e p q =
     q ∙ ap (λ (l : List ℕ). l ++ raws (replicate torn blank))
-    (p ∙ ap (λ (n : ℕ). out ++ raw (record { number = number; begun = begun; ends = n; bytes = kept ++ [] })) e
-    ∙ ap (λ (l : List ℕ). out ++ raw (record { number = number; begun = begun; ends = length kept; bytes = l })) (append-nil kept))
+    (p ∙ ap (λ (n : ℕ). out ++ raw (record { number = number; begun = begun; ends = n; bytes = kept ++ []; closed = false })) e
+    ∙ ap (λ (l : List ℕ). out ++ raw (record { number = number; begun = begun; ends = length kept; bytes = l; closed = false })) (append-nil kept))
     ∙ append_assoc out (raw (whole_sector number begun kept)) (raws (replicate torn blank))

@@ -1,6 +1,6 @@
 -- The versions of a sector since the last sync.
-use Rattle.std.proofs.Common.{◌≡◌, ◌⊎◌, inl, inr, ⊎_elim, ℕ, ap, List, [], ◌∷◌, ◌∙◌}
-use Rattle.tb_sectors.specs.Sectors.{sector, LeftAfter, IsAVersion, EachSectorIsAVersion}
+use Rattle.std.proofs.Common.{◌≡◌, inl, inr, ⊎_elim, ℕ, ap, List, [], ◌∷◌, ◌∙◌}
+use Rattle.tb_sectors.specs.Sectors.{sector, IsAVersion, EachSectorIsAVersion}
 
 -- a sector that is as in another file has the versions that it has there
 as_there : (k : ℕ) (synced : List ℕ) (writes : List (List ℕ)) (d left : List ℕ) → sector k left ≡ sector k d → IsAVersion k synced writes d → IsAVersion k synced writes left

@@ -1,15 +1,19 @@
 -- The bytes of sectors, and how a batch is cut into them.
-use Rattle.std.specs.Prelude.{ℕ, ◌+◌, ◌-◌, ◌*◌, ◌<◌, ◌≤◌, ◌^◌, zero, suc, Bool, if◌then◌else◌, List, [], ◌∷◌, ◌++◌, length, take, drop, flat_map, replicate}
+use Rattle.std.specs.Prelude.{ℕ, ◌+◌, ◌-◌, ◌*◌, ◌<◌, ◌≤◌, ◌^◌, false, zero, suc, Bool, if◌then◌else◌, List, [], ◌∷◌, ◌++◌, length, take, drop, flat_map, replicate}
 use Rattle.std.specs.Int.{w16, w64, to_le_bytes}
-use Rattle.tb_sectors.specs.Stamped.{Stamped, blank, Batch, batch_sectors, further_sectors, new_after}
+use Rattle.tb_sectors.specs.Stamped.{Stamped, blank, sum_bytes, Batch, batch_sectors, further_sectors, new_after}
 
--- a sector's stamp: number, batches begun, bytes used, where the last batch ends, and six zeros
-unfoldable pub stamp_bytes : ℕ → ℕ → ℕ → ℕ → List ℕ
-stamp_bytes number begun used ends = to_le_bytes w64 number ++ (to_le_bytes w16 begun ++ (to_le_bytes w16 used ++ (to_le_bytes w16 ends ++ replicate 6 0)))
+-- the numbers of a sector's stamp: number, batches begun, bytes used, and where the last batch ends
+unfoldable pub number_bytes : ℕ → ℕ → ℕ → ℕ → List ℕ
+number_bytes number begun used ends = to_le_bytes w64 number ++ (to_le_bytes w16 begun ++ (to_le_bytes w16 used ++ to_le_bytes w16 ends))
+
+-- a sector with these numbers and bytes of the stream: between them the latch, and the checksum of both
+abbrev pub sector_bytes_of : List ℕ → Bool → List ℕ → List ℕ
+sector_bytes_of numbers closed bytes = (numbers ++ ((if closed then 90 else 0) ∷ (if closed then 195 else 0) ∷ sum_bytes (numbers ++ bytes))) ++ bytes
 
 -- the 512 bytes of a sector: its stamp, its bytes, and zeros
 unfoldable pub raw : Stamped → List ℕ
-raw s = stamp_bytes s.number s.begun (length s.bytes) s.ends ++ (s.bytes ++ replicate (492 - length s.bytes) 0)
+raw s = sector_bytes_of (number_bytes s.number s.begun (length s.bytes) s.ends) s.closed (s.bytes ++ replicate (492 - length s.bytes) 0)
 
 abbrev pub raws : List Stamped → List ℕ
 raws sectors = flat_map raw sectors
@@ -32,11 +36,11 @@ pieces_of bytes = pieces (length bytes) bytes
 
 -- a sector with these bytes, of which a batch has not been added yet
 abbrev pub open_sector : ℕ → ℕ → List ℕ → Stamped
-open_sector number begun kept = record { number = number; begun = begun; ends = 0; bytes = kept }
+open_sector number begun kept = record { number = number; begun = begun; ends = 0; bytes = kept; closed = false }
 
 -- a sector with these bytes, all of them of whole batches
 abbrev pub whole_sector : ℕ → ℕ → List ℕ → Stamped
-whole_sector number begun bytes = record { number = number; begun = begun; ends = length bytes; bytes = bytes }
+whole_sector number begun bytes = record { number = number; begun = begun; ends = length bytes; bytes = bytes; closed = false }
 
 -- the sectors of a batch with these bytes that begins in a sector with so many batches and these bytes: as many as fit there, and the others after it
 abbrev pub cut_batch : Stamped → List ℕ → List Stamped

@@ -1,8 +1,10 @@
+pub mod Checksum
 pub mod Sectors
 pub mod Calls
 pub mod Memory
 pub mod Stamped
 pub mod StampedLaws
+pub mod Latches
 pub mod Encoding
 pub mod Reading
 pub mod Steps

@@ -1,15 +1,10 @@
 -- What a reader does with a sector.
-use Rattle.std.specs.Prelude.{◌≡◌, ℕ, Bool, true, false, List, take, drop, Option, Some, None}
-use Rattle.std.specs.Int.{w16, from_le_bytes}
+use Rattle.std.specs.Prelude.{◌≡◌, ℕ, Bool, true, false, not, ◌&&◌, Option, Some, None}
 use Rattle.tb_sectors.specs.Stamped.{Stamped, Taken, follows, with_sector, Verdict, Ends, Damaged}
 
--- how many of its bytes are used, as a sector says
-abbrev pub used_bytes : List ℕ → ℕ
-used_bytes sector = from_le_bytes w16 (take 2 (drop 10 sector))
-
--- a sector that follows is taken, and another one is not
+-- a sector that follows is taken, if no latch is closed before it, and another one is not
 pub record TakesSector (next : Bool) (s : Stamped) (before after : Taken) : Type 0 where
-  pub follows : next ≡ follows before s
+  pub follows : next ≡ (not before.closed && follows before s)
   pub taken : next ≡ true → after ≡ with_sector before s
   pub other : next ≡ false → after ≡ before
 

@@ -1,6 +1,7 @@
 -- The stamped format: what the sectors of a file represent.
 use Rattle.std.specs.Prelude.{◌≡◌, ℕ, ◌+◌, ◌/◌, ◌==◌, ◌&&◌, ◌||◌, nat_le, nat_lt, zero, suc, Bool, true, false, if◌then◌else◌, List, [], ◌∷◌, ◌++◌, length, take, drop, flat_map, codes, Option, Some, None, refl}
-use Rattle.std.specs.Int.{w16, w64, from_le_bytes}
+use Rattle.std.specs.Int.{w16, w32, w64, from_le_bytes, to_le_bytes}
+use Rattle.tb_sectors.specs.Checksum.{remainder}
 use Rattle.tb_sectors.specs.Sectors.{sector}
 
 -- a sector: the number of the batch that wrote it last, never 0; how many batches begin in it; after how many of its bytes the last batch that ends in
@@ -10,20 +11,28 @@ pub record Stamped : Type 0 where
   pub begun : ℕ
   pub ends : ℕ
   pub bytes : List ℕ
+  pub closed : Bool  -- its latch is closed: nothing after it counts, whatever is there
 
 -- a sector that no batch has written
 abbrev pub blank : Stamped
-blank = record { number = 0; begun = 0; ends = 0; bytes = [] }
+blank = record { number = 0; begun = 0; ends = 0; bytes = []; closed = false }
 
--- what a reader has taken from the beginning on: how many sectors, the number of the last one, the bytes of the batches that are whole, and all bytes
+-- a sector whose bytes are damaged, as its checksum shows. It follows no other and counts as one in which a batch begins, so it is damage wherever it is:
+-- a crash leaves each sector old or new, and both have their checksum
+abbrev pub rotten : Stamped
+rotten = record { number = 0; begun = 1; ends = 0; bytes = []; closed = false }
+
+-- what a reader has taken from the beginning on: how many sectors, the number of the last one, the bytes of the batches that are whole, all bytes, and
+-- whether the latch of the last one is closed
 pub record Taken : Type 0 where
   pub count : ℕ
   pub number : ℕ
   pub whole : List ℕ
   pub all : List ℕ
+  pub closed : Bool
 
 abbrev pub nothing_taken : Taken
-nothing_taken = record { count = 0; number = 0; whole = []; all = [] }
+nothing_taken = record { count = 0; number = 0; whole = []; all = []; closed = false }
 
 -- a sector follows those that were taken: it has a number, and the sector before it has the last number before those of the batches that begin in it.
 -- So a sector that an earlier batch wrote, or that has no stamp, does not pass for what a later batch wrote there
@@ -37,6 +46,7 @@ with_sector taken s = record {
   number = s.number;
   whole = if nat_le s.ends (length s.bytes) then taken.all ++ take s.ends s.bytes else taken.whole;
   all = taken.all ++ s.bytes;
+  closed = s.closed;
 }
 
 -- a batch begins in one of these sectors
@@ -49,11 +59,12 @@ pub data Verdict : Type 0 where
   Ends : Taken → Verdict
   Damaged : ℕ → Verdict
 
--- the first sector that does not follow ends the journal. If a batch begins there or after it, the sector is damaged or the one before it: no batch
+-- a closed latch ends the journal, and so does the first sector that does not follow. If a batch begins there or after it, the sector is damaged or the one before it: no batch
 -- begins before the one before it is durable. Otherwise what is there is what a crash left of the last batch
 abbrev pub read_on : Taken → List Stamped → Verdict
 read_on taken [] = Ends taken
-read_on taken (s ∷ rest) = if follows taken s then read_on (with_sector taken s) rest else if begins_in (s ∷ rest) then Damaged taken.count else Ends taken
+read_on taken (s ∷ rest) = if taken.closed then Ends taken else
+    if follows taken s then read_on (with_sector taken s) rest else if begins_in (s ∷ rest) then Damaged taken.count else Ends taken
 
 -- the stream of a journal: the bytes of its whole batches
 abbrev pub stream_of : Verdict → Option (List ℕ)
@@ -82,6 +93,7 @@ grown last bytes more = record {
   begun = last.begun + 1;
   ends = if more then length last.bytes else length (last.bytes ++ bytes);
   bytes = last.bytes ++ bytes;
+  closed = false;
 }
 
 -- a further sector of a batch
@@ -91,6 +103,7 @@ further number bytes more = record {
   begun = 0;
   ends = if more then length bytes + 1 else length bytes;
   bytes = bytes;
+  closed = false;
 }
 
 -- there are more bytes
@@ -108,7 +121,7 @@ batch_sectors last first more = grown last first (goes_on more) ∷ further_sect
 
 -- a new sector after one with this number: it has no bytes yet
 abbrev pub new_after : ℕ → Stamped
-new_after number = record { number = number; begun = 0; ends = 0; bytes = [] }
+new_after number = record { number = number; begun = 0; ends = 0; bytes = []; closed = false }
 
 -- what takes the place of a journal's last sector with one more batch
 abbrev pub after_last : Stamped → Batch → List Stamped
@@ -136,14 +149,32 @@ all_bytes first (newest ∷ earlier) = all_bytes first earlier ++ batch_bytes ne
 
 -- bytes
 
--- what the 512 bytes of a sector are: number, batches begun, bytes used, where the last batch ends, six bytes that have no meaning yet, and its bytes
-abbrev pub stamped : List ℕ → Stamped
-stamped bytes = record {
+-- the four bytes of a checksum: CRC-32C, begun at 0 and not inverted at the end, so that zeros have the checksum 0
+abbrev pub sum_bytes : List ℕ → List ℕ
+sum_bytes bytes = to_le_bytes w32 (remainder bytes 0)
+
+-- two bytes of a latch: these close it, and any others open it
+abbrev pub closes : List ℕ → Bool
+closes (a ∷ b ∷ rest) = a == 90 && b == 195
+closes bytes = false
+
+-- the checksum of a sector is that of its other bytes but for the latch
+unfoldable pub is_intact : List ℕ → Bool
+is_intact bytes = from_le_bytes w32 (take 4 (drop 16 bytes)) == from_le_bytes w32 (sum_bytes (take 14 bytes ++ drop 20 bytes))
+
+-- number, batches begun, bytes used, where the last batch ends, the latch, the checksum, and the bytes of the stream
+abbrev pub decoded : List ℕ → Stamped
+decoded bytes = record {
   number = from_le_bytes w64 (take 8 bytes);
   begun = from_le_bytes w16 (take 2 (drop 8 bytes));
   ends = from_le_bytes w16 (take 2 (drop 12 bytes));
   bytes = take (from_le_bytes w16 (take 2 (drop 10 bytes))) (drop 20 bytes);
+  closed = closes (take 2 (drop 14 bytes));
 }
+
+-- what the 512 bytes of a sector are
+abbrev pub stamped : List ℕ → Stamped
+stamped bytes = if is_intact bytes then decoded bytes else rotten
 
 -- so many sectors of a file from one on
 abbrev pub sectors_from : ℕ → ℕ → List ℕ → List Stamped

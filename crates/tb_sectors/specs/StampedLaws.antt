@@ -1,7 +1,7 @@
 -- What holds of every journal in the stamped format, over a disk whose sectors are old or new.
-use Rattle.std.specs.Prelude.{◌≡◌, ◌≢◌, ◌⊎◌, ℕ, ◌+◌, ◌*◌, ◌<◌, ◌≤◌, ◌^◌, true, Bool, if◌then◌else◌, List, [], ◌∷◌, ◌++◌, length, Some}
+use Rattle.std.specs.Prelude.{◌≡◌, ◌≢◌, ◌⊎◌, ℕ, ◌+◌, ◌*◌, ◌<◌, ◌≤◌, ◌^◌, true, false, Bool, if◌then◌else◌, List, [], ◌∷◌, ◌++◌, length, Some}
 use Rattle.tb_sectors.specs.Sectors.{IsMixed, sector, overwritten}
-use Rattle.tb_sectors.specs.Stamped.{Stamped, blank, nothing_taken, read_on, Damaged, begins_in, Batch, batch_bytes, with_batch, stream, sector_at, after_batches, all_bytes, stamped, file_sectors}
+use Rattle.tb_sectors.specs.Stamped.{Stamped, blank, rotten, nothing_taken, read_on, Damaged, begins_in, Batch, batch_bytes, with_batch, stream, sector_at, after_batches, all_bytes, stamped, file_sectors}
 use Rattle.tb_sectors.specs.Encoding.{raw, FitsSector, batch_of, place_of, written_of, cleared_bytes}
 
 -- each sector of what is left is that of the one or that of the other, in any combination
@@ -32,11 +32,17 @@ FileIsAllOrNone = (first : List ℕ) (batches : List Batch) (batch : Batch) (old
     → HasSectors old (after_batches first batches) → HasSectors new (after_batches first (batch ∷ batches)) → IsMixed old new left
     → (stream (file_sectors left) ≡ Some (all_bytes first batches)) ⊎ (stream (file_sectors left) ≡ Some (all_bytes first (batch ∷ batches)))
 
--- a sector that has not what was written there last, if a batch begins after it, is damage, named at that sector or the next one
+-- a sector that has not what was written there last, if a batch begins after it, is damage, named at that sector or the next one. One with a closed
+-- latch, which only commits with two syncs write, ends the journal instead
 abbrev pub LostWriteIsDamage : Type 0
 LostWriteIsDamage = (first : List ℕ) (batches : List Batch) (before rest : List Stamped) (written lost : Stamped)
-    → after_batches first batches ≡ before ++ written ∷ rest → begins_in rest ≡ true → lost.number ≢ written.number
+    → after_batches first batches ≡ before ++ written ∷ rest → begins_in rest ≡ true → lost.number ≢ written.number → lost.closed ≡ false
     → (read_on nothing_taken (before ++ lost ∷ rest) ≡ Damaged (length before)) ⊎ (read_on nothing_taken (before ++ lost ∷ rest) ≡ Damaged (length before + 1))
+
+-- a sector whose bytes are damaged is named, in any batch, the last one too
+abbrev pub RotIsDamage : Type 0
+RotIsDamage = (first : List ℕ) (batches : List Batch) (before rest : List Stamped) (written : Stamped)
+    → after_batches first batches ≡ before ++ written ∷ rest → read_on nothing_taken (before ++ rotten ∷ rest) ≡ Damaged (length before)
 
 -- the bytes of a sector are read as they were written
 abbrev pub SectorIsReadBack : Type 0

@@ -1,8 +1,11 @@
 //! A batch as the bytes of its sectors.
-ghost use Rattle.std.specs.Prelude.{◌≡◌, ◌≤◌, ◌<◌, ◌+◌, ◌^◌, ◌++◌, ◌-◌, not, length, replicate, if◌then◌else◌, OnOk};
+ghost use Rattle.std.specs.Prelude.{◌≡◌, ◌≤◌, ◌<◌, ◌+◌, ◌^◌, ◌++◌, ◌∷◌, ◌-◌, not, false, length, replicate, if◌then◌else◌, OnOk};
+ghost use Rattle.std.specs.Int.{w32, to_le_bytes};
+ghost use Rattle.tb_sectors.specs.Checksum.{remainder};
 ghost use Rattle.tb_sectors.specs.Stamped.{blank, further};
-ghost use Rattle.tb_sectors.specs.Encoding.{stamp_bytes, raw, raws, further_raws, open_sector, cut_batch, cleared_bytes, whole_sector};
+ghost use Rattle.tb_sectors.specs.Encoding.{number_bytes, raw, raws, further_raws, open_sector, cut_batch, cleared_bytes, whole_sector};
 
+use crate::checksums::remainder_after;
 use std::alloc::AllocError;
 
 /// A sector has so many bytes.
@@ -101,34 +104,46 @@ fn push_sector(
     bytes: &[u8],
 ) -> Result<(), AllocError>
     requires { length kept.now + length bytes.now ≤ 492 }
-    ensures { OnOk result (out.new.items ≡ out.old.items ++ raw (record { number = number; begun = begun; ends = ends; bytes = kept.now ++ bytes.now })) }
+    ensures { OnOk result (out.new.items ≡ out.old.items ++ raw (record { number = number; begun = begun; ends = ends; bytes = kept.now ++ bytes.now; closed = false })) }
 {
     let used = kept.len() + bytes.len();
-    let stamp = stamp_of(number, begun, used as u16, ends);
-    out.extend_from_slice(&stamp)?;
+    let numbers = numbers_of(number, begun, used as u16, ends);
+    let blank = [0; BYTES_IN_A_SECTOR];
+    let (zeros, _) = blank.split_at(BYTES_IN_A_SECTOR - used);
+    let sum = sum_bytes(sum_of(&numbers, kept, bytes, zeros));
+    out.extend_from_slice(&numbers)?;
+    out.extend_from_slice(&sum)?;
     out.extend_from_slice(kept)?;
     out.extend_from_slice(bytes)?;
-    push_zeros(out, BYTES_IN_A_SECTOR - used)?;
+    out.extend_from_slice(zeros)?;
     Ok(())
 }
 
-// The bytes of a stamp.
-#[tactic(auto, unfolding(crate::specs::Encoding::stamp_bytes))]
-fn stamp_of(number: u64, begun: u16, used: u16, ends: u16) -> [u8; 20]
-    ensures { result ≡ stamp_bytes number begun used ends }
+// The numbers of a stamp.
+#[tactic(auto, unfolding(crate::specs::Encoding::number_bytes))]
+fn numbers_of(number: u64, begun: u16, used: u16, ends: u16) -> [u8; 14]
+    ensures { result ≡ number_bytes number begun used ends }
 {
     let [a, b, c, d, e, f, g, h] = number.to_le_bytes();
     let [i, j] = begun.to_le_bytes();
     let [k, l] = used.to_le_bytes();
     let [m, n] = ends.to_le_bytes();
-    [a, b, c, d, e, f, g, h, i, j, k, l, m, n, 0, 0, 0, 0, 0, 0]
+    [a, b, c, d, e, f, g, h, i, j, k, l, m, n]
 }
 
-// Adds zeros.
-fn push_zeros(out: &mut Vec<u8>, count: usize) -> Result<(), AllocError>
-    requires { count ≤ 492 }
-    ensures { OnOk result (out.new.items ≡ out.old.items ++ replicate count 0) }
+// The checksum of a sector, by its parts but for the latch.
+#[tactic(auto, using(crate::proofs::Remainders::remainder_append))]
+fn sum_of(numbers: &[u8], kept: &[u8], bytes: &[u8], zeros: &[u8]) -> u32
+    ensures { result ≡ remainder (numbers.now ++ ((kept.now ++ bytes.now) ++ zeros.now)) 0 }
 {
-    out.resize(out.len() + count, 0)?;
-    Ok(())
+    let sum = remainder_after(remainder_after(0, numbers), kept);
+    remainder_after(remainder_after(sum, bytes), zeros)
+}
+
+// The end of a stamp: an open latch and the checksum.
+fn sum_bytes(sum: u32) -> [u8; 6]
+    ensures { result ≡ 0 ∷ 0 ∷ to_le_bytes w32 sum }
+{
+    let [a, b, c, d] = sum.to_le_bytes();
+    [0, 0, a, b, c, d]
 }

@@ -1,6 +1,7 @@
 //! What holds of a disk whose sectors are old or new, and of every journal in the stamped format.
 ghost use Rattle.tb_sectors.specs.Sectors.{EachSectorIsAVersion};
-ghost use Rattle.tb_sectors.specs.StampedLaws.{CrashLeavesAllOrNone, CommittedIsRead, FileIsRead, FileIsAllOrNone, LostWriteIsDamage, SectorIsReadBack, BatchIsWritten, BatchHasItsBytes, TornIsCleared};
+ghost use Rattle.tb_sectors.specs.Latches.{ClosedIsRead, BehindLatchNothingCounts, LatchIsAllOrNone};
+ghost use Rattle.tb_sectors.specs.StampedLaws.{CrashLeavesAllOrNone, CommittedIsRead, FileIsRead, FileIsAllOrNone, LostWriteIsDamage, RotIsDamage, SectorIsReadBack, BatchIsWritten, BatchHasItsBytes, TornIsCleared};
 
 /// After a crash each sector is as it was synced, or as one of the writes since then made it: any subset of those that were not synced may be lost.
 pub fn each_sector_is_a_version()
@@ -32,6 +33,11 @@ pub fn lost_write_is_damage()
     ensures { LostWriteIsDamage }
 {}
 
+/// A sector whose checksum is not that of its bytes is damage, named by its place, in the last batch too.
+pub fn rot_is_damage()
+    ensures { RotIsDamage }
+{}
+
 /// The bytes of a sector are read as they were written.
 pub fn sector_is_read_back()
     ensures { SectorIsReadBack }
@@ -50,4 +56,19 @@ pub fn batch_has_its_bytes()
 /// What clears a torn end makes the file the journal of the batches that are whole.
 pub fn torn_is_cleared()
     ensures { TornIsCleared }
+{}
+
+/// The batches before a closed latch are read, whatever is after it.
+pub fn closed_is_read()
+    ensures { ClosedIsRead }
+{}
+
+/// A crash amid a write after a closed latch leaves the journal as it was, over a disk of which nothing is assumed.
+pub fn behind_latch_nothing_counts()
+    ensures { BehindLatchNothingCounts }
+{}
+
+/// A crash amid the opening of a latch leaves the batch after it whole or nothing of it, over a disk of which nothing is assumed.
+pub fn latch_is_all_or_none()
+    ensures { LatchIsAllOrNone }
 {}

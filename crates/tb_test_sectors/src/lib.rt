@@ -4,12 +4,18 @@
 //!
 //! - `steps`: what each test wants, and files of a few sectors.
 //! - `mixes`: each combination of old and new sectors that a crash amid a commit may leave.
+//! - `latches`: what is after a closed latch.
+//! - `rot`: each byte of a small file damaged.
 //! - `devices`: a commit and a reserve over a file in memory.
 #![tactic(auto)]
 
 #[cfg(test)]
 mod devices;
 #[cfg(test)]
+mod latches;
+#[cfg(test)]
 mod mixes;
+#[cfg(test)]
+mod rot;
 #[cfg(test)]
 mod steps;

@@ -8,7 +8,7 @@ use tb_sectors::{SectorReader, push_batch, push_cleared};
 const BATCH: [u8; 1400] = [7; 1400];
 
 /// The sectors of a batch.
-fn sectors(
+pub(crate) fn sectors(
     rt: &impl Abort,
     alloc: Global,
     number: u64,
@@ -25,13 +25,19 @@ fn sectors(
 }
 
 /// A file of eight sectors whose first one has the batch `head`.
-fn created(rt: &impl Abort, alloc: Global) -> [u8; 4096] {
+pub(crate) fn created(rt: &impl Abort, alloc: Global) -> [u8; 4096] {
     let head = sectors(rt, alloc, 0, 0, &[], b"head");
     over(rt, &[0; 4096], 0, &head)
 }
 
 /// A file is read to its end, and has this stream.
-fn expect_stream(rt: &impl Abort, alloc: Global, file: &[u8; 4096], first: &[u8], more: &[u8]) {
+pub(crate) fn expect_stream(
+    rt: &impl Abort,
+    alloc: Global,
+    file: &[u8; 4096],
+    first: &[u8],
+    more: &[u8],
+) {
     let mut reader = SectorReader::new(alloc);
     let damaged = sure(rt, reader.read_on(file));
     expect(rt, damaged.is_none());
@@ -118,7 +124,8 @@ fn zeros_are_an_empty_journal(rt: HostRuntime) {
     expect(&rt, reader.count() == 0);
 }
 
-/// The bytes of a sector, byte by byte: number 2, two batches begun, six bytes used, the last batch ends after six.
+/// The bytes of a sector, byte by byte: number 2, two batches begun, six bytes used, the last batch ends after six; and its checksum, which was computed
+/// bit by bit elsewhere.
 #[test]
 fn the_bytes_of_a_sector(rt: HostRuntime) {
     let alloc = rt.alloc();
@@ -128,7 +135,9 @@ fn the_bytes_of_a_sector(rt: HostRuntime) {
     expect_bytes(
         &rt,
         stamp,
-        &[2, 0, 0, 0, 0, 0, 0, 0, 2, 0, 6, 0, 6, 0, 0, 0, 0, 0, 0, 0],
+        &[
+            2, 0, 0, 0, 0, 0, 0, 0, 2, 0, 6, 0, 6, 0, 0, 0, 200, 234, 189, 35,
+        ],
     );
     let (bytes, zeros) = rest.split_at(6);
     expect_bytes(&rt, bytes, b"headab");
