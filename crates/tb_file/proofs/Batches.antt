@@ -1,5 +1,7 @@
 -- How long the batch of some pairs is.
-use Rattle.std.proofs.Common.{arith, ◌≡◌, ℕ, ◌+◌, ◌≤◌, Bool, true, false, cond, List, [], ◌∷◌, ◌++◌, length, map, refl, length-append}
+use Rattle.std.proofs.Common.{arith, ◌≡◌, ◌⊎◌, ℕ, ◌+◌, ◌<◌, ◌≤◌, ◌^◌, leb, Bool, true, false, cond, List, [], ◌∷◌, ◌++◌, length, map, Result, Ok, Err, OnOk, inl, inr, refl, ap, ◌∙◌, length-append}
+use Rattle.std.proofs.lemmas.Bool.Decides.{leb_tells}
+use Rattle.tb_file_journal.specs.declared.faults.JournalFault.{JournalFault}
 use Rattle.tb_records.specs.declared.bodies.Body.{Body}
 use Rattle.tb_records.specs.Messages.{Message, operation, item_count}
 use Rattle.tb_records.proofs.Sizes.{length-le_bytes}
@@ -15,6 +17,7 @@ use Rattle.tb_machine.specs.Histories.{State}
 use Rattle.tb_machine.specs.Recording.{IsRecord}
 use Rattle.tb_machine.specs.Scripts.{Pair, entry_of, is_entered}
 use Rattle.tb_machine.proofs.Lawful.{lawful_numbers}
+use Rattle.tb_file.specs.RecordSteps.{IsBatchWith}
 use Rattle.tb_file.specs.Rounds.{records_from, IsServed, block_bytes_max}
 
 -- a body has 8,190 items at most, of 128 bytes at most
@@ -57,3 +60,16 @@ grows xs ys = omega (arith, length-at_rest (xs ++ ys), length-at_rest xs, blocks
 -- a batch has its latch at least
 pub some_byte : (xs : List (List ℕ)) → 4 ≤ length (at_rest xs)
 some_byte xs = omega (arith, length-at_rest xs)
+
+-- a record after a batch that has space for one more entry; a longer one is alone
+batch_after : (mid new : List (List ℕ)) (bytes : List ℕ) → length (at_rest mid) + block_bytes_max ≤ 2 ^ 22 → (block_bytes_max < length bytes + 11 → mid ≡ []) → new ≡ mid ++ bytes ∷ [] → IsBatchWith bytes new
+batch_after mid new bytes room alone is = by (leb_tells (length bytes + 11) block_bytes_max)
+  where
+    by : ((leb (length bytes + 11) block_bytes_max ≡ true) × (length bytes + 11 ≤ block_bytes_max)) ⊎ ((leb (length bytes + 11) block_bytes_max ≡ false) × (block_bytes_max < length bytes + 11)) → IsBatchWith bytes new
+    by (inl (t, few)) = inl (omega (arith, ap (λ (l : List (List ℕ)). length (at_rest l)) is, grows mid (bytes ∷ []), room, few))
+    by (inr (t, many)) = inr (is ∙ ap (λ (l : List (List ℕ)). l ++ bytes ∷ []) (alone many))
+
+pub batch_with : (result : Result (Unit {0}) JournalFault) (mid new : List (List ℕ)) (bytes : List ℕ) → length (at_rest mid) + block_bytes_max ≤ 2 ^ 22 → (block_bytes_max < length bytes + 11 → mid ≡ []) → OnOk result (new ≡ mid ++ bytes ∷ [])
+    → OnOk result (IsBatchWith bytes new)
+batch_with (Ok done) mid new bytes room alone is = batch_after mid new bytes room alone is
+batch_with (Err fault) mid new bytes room alone is = tt

@@ -254,6 +254,11 @@ module _ {N : Type 0} (disk : N → Disk) (tells : Type 0) where
     puts_append (Err NotEmpty) usable is same long over failed empty synced = λ t. absurd (empty refl)
     puts_append (Err SyncFailed) usable is same long over failed empty synced = λ t. absurd (synced refl)
 
+-- one more record waits
+pub waits_more : {N : Type 0} (before after : Kept N) (bytes : List ℕ) (result : Result (Unit {0}) JournalFault) → OnOk result (after ≡ record before { waiting = before.waiting ++ bytes ∷ [] }) → OnOk result (after.waiting ≡ before.waiting ++ bytes ∷ [])
+waits_more before after bytes (Ok done) is = ap (λ (j : Kept _). j.waiting) is
+waits_more before after bytes (Err fault) is = tt
+
 -- one record
 
 pub record_short : (bytes : List ℕ) (e : Entry) → IsRecord bytes e → length bytes < 2 ^ 24

@@ -1,11 +1,11 @@
 -- Records that are read from a file one after another, and records that are put into a journal. Most of these only contracts of private
 -- functions cite, here and in tb_log_file.
-use Rattle.std.specs.Prelude.{ℕ, Bool, true, ◌≡◌, List, [], ◌++◌, Result, Ok, Err}
+use Rattle.std.specs.Prelude.{ℕ, Bool, true, ◌≡◌, ◌⊎◌, ◌≤◌, ◌^◌, List, [], ◌∷◌, ◌++◌, length, Result, Ok, Err}
 use Rattle.tb_file_journal.specs.declared.faults.JournalFault.{JournalFault}
 use Rattle.tb_file_journal.specs.declared.opening.OpenFault.{OpenFault}
 use Rattle.tb_file_journal.specs.declared.reading.Extent.{Extent}
 use Rattle.tb_file_journal.specs.Device.{Disk, LeavesOnly, FailsNone, IsOnDisk}
-use Rattle.tb_file_journal.specs.Contents.{Records, contents, recorded}
+use Rattle.tb_file_journal.specs.Contents.{Records, at_rest, contents, recorded}
 use Rattle.tb_file_journal.specs.Reading.{extent_of}
 use Rattle.tb_file_journal.specs.Ready.{Kept, IsReady}
 use Rattle.tb_file_journal.specs.Scans.{BeginsWith, HasRead, ScanState, ReadsNextRecord}
@@ -34,6 +34,10 @@ pub record IsNext (result : Result Bool OpenFault) (read : List (List ℕ)) (fil
 -- a file that has some first ones of all these records, and at least these
 abbrev pub IsBetween : List (List ℕ) → List (List ℕ) → List ℕ → Type 0
 IsBetween least all c = (some : List (List ℕ)) × (rest : List (List ℕ)) × (contents c ≡ Records (least ++ some)) × (all ≡ (least ++ some) ++ rest)
+
+-- what waits is a batch that ends with a record: it has at most 4 MiB, or this record alone
+abbrev pub IsBatchWith : List ℕ → List (List ℕ) → Type 0
+IsBatchWith bytes waiting = (length (at_rest waiting) ≤ 2 ^ 22) ⊎ (waiting ≡ bytes ∷ [])
 
 module _ {N : Type 0} (disk : N → Disk) where
   -- the records of a journal: those in its file, and those that wait

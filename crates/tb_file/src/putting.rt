@@ -1,8 +1,8 @@
 //! Records that are put into the journal of a new file, one after another, in batches.
-ghost use Rattle.std.specs.Prelude.{◌≡◌, ◌+◌, ◌<◌, ◌≤◌, ◌^◌, true, [], ◌∷◌, length, OnOk};
+ghost use Rattle.std.specs.Prelude.{◌≡◌, ◌+◌, ◌<◌, ◌≤◌, ◌^◌, true, [], ◌∷◌, ◌++◌, length, OnOk};
 ghost use Rattle.tb_file_journal.specs.Contents.{at_rest};
 ghost use Rattle.tb_file_journal.specs.Ready.{IsReady};
-ghost use Rattle.tb_file.specs.RecordSteps.{Puts};
+ghost use Rattle.tb_file.specs.RecordSteps.{IsBatchWith, Puts};
 ghost use Rattle.tb_file.specs.Rounds.{block_bytes_max};
 
 use crate::rounds::{BATCH_BYTES_MAX, BLOCK_BYTES_MAX};
@@ -43,18 +43,21 @@ fn append_one<N: Device>(journal: &mut Journal<N>, bytes: &[u8]) -> Result<(), J
     requires ready { N.tells → IsReady N.disk journal.old }
     requires short { length bytes.now < 2 ^ 24 }
     requires room { length (at_rest journal.old.waiting) + block_bytes_max ≤ 2 ^ 22 }
-    ensures { Puts N.disk N.tells result (bytes.now ∷ []) journal.old journal.new }
+    ensures puts { Puts N.disk N.tells result (bytes.now ∷ []) journal.old journal.new }
+    ensures waits { OnOk result (journal.new.waiting ≡ journal.old.waiting ++ bytes.now ∷ []) }
 {
     journal.append(bytes)
 }
 
-/// Appends a record for the next commit. What waits is committed first if the batch would become too long.
-#[tactic(auto, using(crate::proofs::Taking::puts_then))]
+/// Appends a record for the next commit. What waits is committed first if the batch would become too long: so what waits then has at most 4 MiB, or
+/// is this record alone.
+#[tactic(auto, using(crate::proofs::Taking::puts_then, crate::proofs::Batches::batch_with))]
 pub fn append_batched<N: Device>(journal: &mut Journal<N>, bytes: &[u8]) -> Result<(), JournalFault>
     requires usable { journal.old.usable ≡ true }
     requires ready { N.tells → IsReady N.disk journal.old }
     requires short { length bytes.now < 2 ^ 24 }
-    ensures { Puts N.disk N.tells result (bytes.now ∷ []) journal.old journal.new }
+    ensures puts { Puts N.disk N.tells result (bytes.now ∷ []) journal.old journal.new }
+    ensures batch { OnOk result (IsBatchWith bytes.now journal.new.waiting) }
 {
     match make_room(journal, bytes.len()) {
         Ok(()) => append_one(journal, bytes),
