@@ -1,7 +1,9 @@
 -- The exit status of each outcome: 0 done, 1 a device or memory failed, 2 the input or the arguments are wrong. And the line that reports a fault.
-use Rattle.std.specs.Prelude.{ℕ, ◌≡◌, ◌⊎◌, ◌++◌, List, Some, None, Result, Ok, Err, codes, map, string_bytes}
-use Rattle.std.specs.declared.alloc.Global.{Global}
-use Rattle.std.specs.declared.string.String.{String}
+use Rattle.std.specs.Prelude.{ℕ, ◌≡◌, ◌⊎◌, ◌++◌, List, Option, Some, None, Result, Ok, Err, codes}
+use Rattle.std.specs.IoError.{error_kind}
+use Rattle.std.specs.declared.io.Error.{Error}
+use Rattle.std.specs.declared.io.ErrorKind.{ErrorKind}
+use Rattle.std.specs.declared.io.ErrorKind.TheVariants.{OutOfMemory}
 use Rattle.tb_records.specs.declared.devices.Sink as sinks
 use Rattle.tb_records.specs.declared.devices.Source as sources
 use Rattle.tb_records.specs.declared.faults.FrameFault.{FrameFault}
@@ -19,7 +21,7 @@ use Rattle.tb_machine.specs.Replays.{ReplayRan}
 use Rattle.tb_edge_commands.specs.declared.arguments.Form.{Form}
 use Rattle.tb_edge_commands.specs.declared.arguments.Form.TheVariants.{Run, Dump, Replay}
 use Rattle.tb_edge_commands.specs.Forms.{form_of}
-use Rattle.tb_edge_commands.specs.Streams.{Change, Streams, new, old}
+use Rattle.tb_edge_commands.specs.Streams.{Change, new, old}
 use Rattle.tb_edge_commands.specs.declared.commands.CommandFault.{CommandFault}
 use Rattle.tb_edge_commands.specs.declared.commands.CommandFault.TheVariants.{Usage, Serving, Replaying}
 
@@ -48,6 +50,14 @@ fault_exit_status (Replaying fault) = dump_exit_status fault
 abbrev pub outcome_exit_status : Result ℕ CommandFault → ℕ
 outcome_exit_status (Ok count) = 0
 outcome_exit_status (Err fault) = fault_exit_status fault
+
+abbrev pub words_fault_of : ErrorKind → CommandFault
+words_fault_of OutOfMemory = Serving NoMemory
+words_fault_of kind = Usage
+
+-- an argument is not UTF-8, or there is no memory for one
+abbrev pub words_fault : Error → CommandFault
+words_fault error = words_fault_of (error_kind error)
 
 -- a fault's name, as its line shows it
 abbrev pub command_fault_name : CommandFault → List ℕ
@@ -86,22 +96,20 @@ abbrev pub PerformsOn : {R W : Type 0} → sources.Ghosts R → sinks.Ghosts W �
 PerformsOn source sink form outcome reader writer =
     Performs form outcome (source.input (old reader)) (source.input (new reader)) (sink.output (old writer)) (sink.output (new writer))
 
--- words that ask for no form: the exit status is 2, and nothing is read or written
-abbrev pub RefusesWords : {R W : Type 0} → List (String Global) → ℕ → Change R → Change W → Type 0
-RefusesWords words exit_status reader writer =
-    form_of (map string_bytes words) ≡ None → (exit_status ≡ 2) × (new reader ≡ old reader) × (new writer ≡ old writer)
+-- what words do: their form, done or not to its end; and of no form nothing, which is their fault
+abbrev pub Does : Option Form → Result ℕ CommandFault → Input → Input → Output → Output → Type 0
+Does None outcome before after start written = outcome ≡ Err Usage
+Does (Some form) outcome before after start written = Performs form outcome before after start written
 
--- words that ask for no form: the line of usage is reported
-abbrev pub PrintsUsage : {E : Type 0} → sinks.Ghosts E → List (String Global) → Change E → Type 0
-PrintsUsage lines words faults = form_of (map string_bytes words) ≡ None → PrintsLine (fault_line Usage) (lines.output (old faults)) (lines.output (new faults))
+-- the same for what a reader gave and a writer took
+abbrev pub DoesOn : {R W : Type 0} → sources.Ghosts R → sinks.Ghosts W → List (List ℕ) → Result ℕ CommandFault → Change R → Change W → Type 0
+DoesOn source sink words outcome reader writer =
+    Does (form_of words) outcome (source.input (old reader)) (source.input (new reader)) (sink.output (old writer)) (sink.output (new writer))
 
--- a form was served, and the exit status and the line are those of the outcome
-pub record Exits (form : Form) (exit_status : ℕ) (before after : Streams) : Type 0 where
-  pub outcome : Result ℕ CommandFault
-  pub performed : Performs form outcome before.source after.source before.sink after.sink
-  pub exit_status_is : exit_status ≡ outcome_exit_status outcome
-  pub line : Prints outcome before.faults after.faults
+-- words of no form: nothing is read or written
+abbrev pub LeavesUntouched : {R W : Type 0} → List (List ℕ) → R → R → W → W → Type 0
+LeavesUntouched words before after start written = form_of words ≡ None → (after ≡ before) × (written ≡ start)
 
--- the form that words ask for was served, if they ask for one
-abbrev pub ServesWords : List (List ℕ) → ℕ → Streams → Streams → Type 0
-ServesWords words exit_status before after = (form : Form) → form_of words ≡ Some form → Exits form exit_status before after
+-- the exit status and the line are those of an outcome
+abbrev pub Reports : Result ℕ CommandFault → ℕ → Output → Output → Type 0
+Reports outcome exit_status before after = (exit_status ≡ outcome_exit_status outcome) × Prints outcome before after

@@ -1,3 +1,4 @@
 pub mod Forms
 pub mod Streams
 pub mod ExitStatuses
+pub mod Hosts

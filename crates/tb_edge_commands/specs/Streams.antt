@@ -24,7 +24,3 @@ pub record Streams : Type 0 where
 module _ {R W E : Type 0} (source : sources.Ghosts R) (sink : sinks.Ghosts W) (lines : sinks.Ghosts E) where
   abbrev pub streams : R → W → E → Streams
   streams reader writer faults = record { source = source.input reader; sink = sink.output writer; faults = lines.output faults }
-
-  -- a relation of them, before a call and after it
-  abbrev pub OnStreams : (Streams → Streams → Type 0) → Change R → Change W → Change E → Type 0
-  OnStreams Does reader writer faults = Does (streams (old reader) (old writer) (old faults)) (streams (new reader) (new writer) (new faults))

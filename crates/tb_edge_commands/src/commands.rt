@@ -1,17 +1,12 @@
 //! The forms `run`, `dump` and `replay`, over any reader and writer, and the exit status of each outcome.
 ghost use Rattle.std.specs.Prelude.{◌≡◌, ◌<◌, map, string_bytes};
-ghost use Rattle.tb_edge_commands.specs.ExitStatuses.{fault_exit_status, command_fault_name, fault_line, PrintsLine, PrintsUsage, PerformsOn, RefusesWords, ServesWords};
-ghost use Rattle.tb_edge_commands.specs.Streams.{OnStreams};
+ghost use Rattle.tb_edge_commands.specs.ExitStatuses.{fault_exit_status, command_fault_name, fault_line, PrintsLine, Reports, PerformsOn, DoesOn, LeavesUntouched};
 
 use crate::arguments::{Form, read_form};
-use crate::lines::{LINE_BYTES, line_of, put_line};
-use arrayvec::ArrayVec;
+use crate::lines::{line_of, put_line};
 use std::alloc::Global;
-use std::env;
-use std::io::{self, BufReader, BufWriter, Read, Write};
-use std::rt::Env;
 use tb_machine::{RunFault, dump, replay, run};
-use tb_records::{Buffered, Counting, DumpFault, FrameFault, Sink, Source};
+use tb_records::{DumpFault, FrameFault, Sink, Source};
 
 /// Why the program ends with an exit status other than 0; shown only by its name.
 #[derive(Clone, Copy, Debug, PartialEq, Eq)]
@@ -96,88 +91,40 @@ fn perform<R: Source, W: Sink>(
     Ok(count)
 }
 
-/// Does what the words ask for, and returns the exit status: 0 if it is done, and then nothing goes to `faults`; otherwise
-/// that of the fault, whose line goes there. Arguments that are not one of the program's forms are found before any input is
-/// read.
-pub fn command<R: Source, W: Sink, E: Sink>(
+/// Does what the words ask for, from a reader to a writer, and returns how many replies or entries that makes. Words of no
+/// form are found before any input is read.
+pub(crate) fn command<R: Source, W: Sink>(
     alloc: Global,
     words: &[String],
     reader: &mut R,
     writer: &mut W,
-    faults: &mut E,
-) -> u8
-    ensures usage { RefusesWords words.now result reader writer }
-    ensures printed { PrintsUsage E.Sink words.now faults }
-    ensures quiet { result ≡ 0 → faults.new ≡ faults.old }
-    ensures served { OnStreams R.Source W.Sink E.Sink (ServesWords (map string_bytes words.now) result) reader writer faults }
+) -> Result<u64, CommandFault>
+    ensures does { DoesOn R.Source W.Sink (map string_bytes words.now) result reader writer }
+    ensures untouched { LeavesUntouched (map string_bytes words.now) reader.old reader.new writer.old writer.new }
 {
     let Some(form) = read_form(words) else {
-        print_fault(CommandFault::Usage, faults);
-        return 2;
+        return Err(CommandFault::Usage);
     };
-    match perform(alloc, form, reader, writer) {
-        Ok(_) => 0,
-        Err(fault) => {
-            print_fault(fault, faults);
-            fault.exit_status()
-        }
-    }
-}
-
-/// The bytes that a program buffers of its input, and of its output.
-const BUFFER_BYTES: usize = 65536;
-
-/// The words after the program's name.
-pub fn words<R: Env + AllocGlobal>(rt: &R) -> io::Result<Vec<String>> {
-    let mut words = Vec::new(rt.alloc());
-    for word in env::args(rt)?.skip(1) {
-        words.push(word)?;
-    }
-    Ok(words)
-}
-
-/// Serves the command that the words are, between an input and an output, both buffered, and returns the exit status.
-/// Replies are held back only while more requests are buffered.
-pub fn serve<R: Read + Drop, W: Write + Drop, E: Sink>(
-    alloc: Global,
-    words: &[String],
-    input: R,
-    output: W,
-    faults: &mut E,
-) -> u8 {
-    let input = BufReader::with_capacity(alloc, BUFFER_BYTES, input);
-    let output = BufWriter::with_capacity(alloc, BUFFER_BYTES, output);
-    let (Ok(input), Ok(output)) = (input, output) else {
-        return refuse(CommandFault::Serving(RunFault::NoMemory), faults);
-    };
-    let mut reader = Buffered::new(input);
-    let mut writer = Counting::new(output);
-    let mut line = Counting::new(ArrayVec::<u8, LINE_BYTES>::new());
-    let exit_status = command(alloc, words, &mut reader, &mut writer, &mut line);
-    // Replies that stay in the buffer are lost: that fault comes before any other.
-    if writer.into_inner().flush().is_err() {
-        return refuse(
-            CommandFault::Serving(RunFault::Frame(FrameFault::Device)),
-            faults,
-        );
-    }
-    put_line(line.into_inner().as_slice(), faults);
-    exit_status
-}
-
-/// The fault if the words are not available: a word is not text, or there is no memory for them.
-pub fn fault_of(error: &io::Error) -> CommandFault {
-    match error.kind() {
-        io::ErrorKind::OutOfMemory => CommandFault::Serving(RunFault::NoMemory),
-        _ => CommandFault::Usage,
-    }
+    perform(alloc, form, reader, writer)
 }
 
 /// Prints the fault, and returns its exit status.
 pub fn refuse<E: Sink>(fault: CommandFault, faults: &mut E) -> u8
     ensures value { result ≡ fault_exit_status fault }
+    ensures failing { 0 < result }
     ensures printed { PrintsLine (fault_line fault) (E.output faults.old) (E.output faults.new) }
 {
     print_fault(fault, faults);
     fault.exit_status()
+}
+
+/// Returns the exit status of an outcome, and prints the line of a fault.
+pub(crate) fn report<E: Sink>(outcome: Result<u64, CommandFault>, faults: &mut E) -> u8
+    ensures quiet { result ≡ 0 → faults.new ≡ faults.old }
+    ensures reported { Reports outcome result (E.output faults.old) (E.output faults.new) }
+{
+    match outcome {
+        Ok(_) => 0,
+        Err(fault) => refuse(fault, faults),
+    }
 }
