@@ -15,7 +15,8 @@ use Rattle.tb_caller.proofs.Lists.{each_among}
 use Rattle.tb_caller_laws.specs.PortCalls.{OffersSent}
 use Rattle.tb_caller_laws.proofs.Offered.{none_invented, in_service}
 use Rattle.tb_edge_storm.specs.Calls.{sent_in_session, accounts_call, transfer_call, HasCalled, IsStormClient, IsPlayed}
-use Rattle.tb_edge_storm.specs.private.Playing.{HasRun, IsClientLeft, AreLeft, number_at, call_at, count_at}
+use Rattle.tb_edge_storm.specs.Served.{IsClientLeft, AreLeft, IsServed, number_at, call_at, count_at}
+use Rattle.tb_edge_storm.specs.private.Playing.{HasRun}
 use Rattle.tb_edge_storm.proofs.Sessions.{are_of_one}
 
 all_each : {X : Type 0} (P Q : X → Type 0) (xs : List X) → ((x : X) → P x → Q x) → Each P xs → All Q xs
@@ -122,3 +123,6 @@ played o n transfers finish few run legal left =
           (λ e is. is_client n few e.request.client is.port is.made is.client)
           (all_are_of o finish (n + 1) (number_at n) (call_at n) (count_at n transfers) left.sent left.each (apart_at n few) legal grows);
     }
+
+pub served_by : (o : Opening) (n transfers : ℕ) (finish : Finish) → HasRun (n + 1) [] finish → AreLeft o finish n transfers → IsServed o n transfers finish.publisher.history
+served_by o n transfers finish run left = record { finish = finish; history_is = refl; left = left; grows = run left.sent (λ p lt. (left.each p lt).offered) }

@@ -21,9 +21,10 @@ use Rattle.tb_edge_storm.specs.declared.playing.Clients.{Clients}
 use Rattle.tb_edge_storm.specs.declared.faults.StormFault.{StormFault}
 use Rattle.tb_edge_storm.specs.declared.faults.StormFault.TheVariants as storm
 use Rattle.tb_edge_storm.specs.Calls.{sent_in_session, accounts_call, transfer_call}
+use Rattle.tb_edge_storm.specs.Served.{IsClientLeft, AreLeft}
 use Rattle.tb_edge_storm.specs.private.Outcomes.{first_reported, fared}
 use Rattle.tb_edge_storm.specs.private.Clients.{port_of, offered_by, IsNewClient, Stands, Plays, IsConcluded}
-use Rattle.tb_edge_storm.specs.private.Playing.{new_port, IsNewOn, AreNew, AreReady, HasMade, HaveMade, MakeTransfers, IsClosed, AreClosed, AreOfService, HaveNoFault, AreServedBy, IsLearnt, IsClientLeft, AreLeft}
+use Rattle.tb_edge_storm.specs.private.Playing.{new_port, IsNewOn, AreNew, AreReady, HasMade, HaveMade, MakeTransfers, IsClosed, AreClosed, AreOfService, HaveNoFault, AreServedBy, IsLearnt}
 use Rattle.tb_edge_storm.proofs.Steps.{closed_on, seen_on}
 
 -- the last of ports

@@ -35,5 +35,16 @@ totaled o clients transfers counted summed history totals legal p q same commits
 
 pub are_totals : (o : Opening) (clients transfers : ℕ) (totals : Totals) → o.profile ≡ profile.One → o.clients_max ≡ CLIENTS_MAX
     → TotaledIn o clients transfers totals → AreTotals clients transfers totals
-are_totals o clients transfers totals first most t =
-    (o, t.history, first, most, t.whole.legal, t.played, t.whole.commits, t.enough, t.whole.found, t.whole.credited)
+are_totals o clients transfers totals first most t = record {
+  opening = o;
+  profile_is = first;
+  clients_max_is = most;
+  history = t.history;
+  legal = t.whole.legal;
+  served = t.served;
+  played = t.played;
+  commits = t.whole.commits;
+  enough = t.enough;
+  found = t.whole.found;
+  credited = t.whole.credited;
+}

@@ -1,4 +1,5 @@
 pub mod Calls
+pub mod Served
 pub mod Totals
 pub mod Storms
 pub mod private

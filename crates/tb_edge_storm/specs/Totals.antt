@@ -8,6 +8,7 @@ use Rattle.tb_machine.specs.declared.entries.Entry.{Entry}
 use Rattle.tb_published.specs.Openings.{Opening, LegalIn, after_in}
 use Rattle.tb_edge_storm.specs.declared.totals.Totals.{Totals}
 use Rattle.tb_edge_storm.specs.Calls.{IsPlayed}
+use Rattle.tb_edge_storm.specs.Served.{IsServed}
 
 -- these ids, and those of a client's first k transfers
 abbrev pub with_ids_of : List ℕ → ℕ → ℕ → List ℕ
@@ -24,11 +25,18 @@ abbrev pub first_credits : List Account → ℕ
 first_credits [] = 0
 first_credits (account ∷ accounts) = account.credits_posted
 
--- Totals of the history of a storm, which is legal by profile 1 and open to the largest number of clients. They are the number of its entries, how
--- many of the storm's transfers are found after it, and what account 1000 was credited with. The history holds each call of each client once, in the
--- entry that gave the reply which the client took, and nothing else; so it has an entry for each reply.
-abbrev pub AreTotals : ℕ → ℕ → Totals → Type 0
-AreTotals clients transfers totals = (o : Opening) × (h : List Entry) × (o.profile ≡ profile.One) × (o.clients_max ≡ CLIENTS_MAX) × LegalIn o h
-    × IsPlayed o clients transfers h
-    × (totals.commits ≡ length h) × (clients * (transfers + 1) + 2 ≤ totals.commits) × (totals.transfers ≡ length (found_transfers (after_in o h).books (ids_of clients transfers)))
-    × (totals.credited ≡ first_credits (found_accounts (after_in o h).books (1000 ∷ [])))
+-- Totals of the history that the server of a storm made, in an opening by profile 1 for the largest number of clients. They are the number of its
+-- entries, how many of the storm's transfers are found after it, and what account 1000 was credited with. The history holds each call of each client
+-- once, in the entry that gave the reply which the client took, and nothing else; so it has an entry for each reply.
+pub record AreTotals (clients transfers : ℕ) (totals : Totals) : Type 0 where
+  pub opening : Opening
+  pub profile_is : opening.profile ≡ profile.One
+  pub clients_max_is : opening.clients_max ≡ CLIENTS_MAX
+  pub history : List Entry
+  pub legal : LegalIn opening history
+  pub served : IsServed opening clients transfers history
+  pub played : IsPlayed opening clients transfers history
+  pub commits : totals.commits ≡ length history
+  pub enough : clients * (transfers + 1) + 2 ≤ totals.commits
+  pub found : totals.transfers ≡ length (found_transfers (after_in opening history).books (ids_of clients transfers))
+  pub credited : totals.credited ≡ first_credits (found_accounts (after_in opening history).books (1000 ∷ []))

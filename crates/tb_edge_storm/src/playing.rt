@@ -4,7 +4,8 @@ ghost use Rattle.tb_service.specs.Names.{Name};
 ghost use Rattle.tb_service.specs.Ports.{ArePortsOf};
 ghost use Rattle.tb_edge_storm.specs.Calls.{accounts_call};
 ghost use Rattle.tb_edge_storm.specs.private.Clients.{IsConcluded, Plays, port_of};
-ghost use Rattle.tb_edge_storm.specs.private.Playing.{AreClosed, AreLeft, AreNew, AreOfService, AreReady, AreServedBy, HaveMade, HaveNoFault, IsNewOn, MakeTransfers};
+ghost use Rattle.tb_edge_storm.specs.Served.{AreLeft};
+ghost use Rattle.tb_edge_storm.specs.private.Playing.{AreClosed, AreNew, AreOfService, AreReady, AreServedBy, HaveMade, HaveNoFault, IsNewOn, MakeTransfers};
 
 use crate::clients::Client;
 use crate::faults::StormFault;

@@ -5,6 +5,7 @@ use Rattle.tb_machine.specs.declared.entries.Entry.{Entry}
 use Rattle.tb_published.specs.Openings.{Opening, LegalIn, after_in}
 use Rattle.tb_edge_storm.specs.declared.totals.Totals.{Totals}
 use Rattle.tb_edge_storm.specs.Calls.{IsPlayed}
+use Rattle.tb_edge_storm.specs.Served.{IsServed}
 use Rattle.tb_edge_storm.specs.Totals.{ids_of, first_credits}
 
 -- how many transfers with these ids there are after a history
@@ -35,4 +36,5 @@ pub record TotaledIn (o : Opening) (clients transfers : ℕ) (totals : Totals) :
   pub history : List Entry
   pub whole : Totaled o clients transfers history totals
   pub enough : replies_of clients transfers ≤ totals.commits
+  pub served : IsServed o clients transfers history
   pub played : IsPlayed o clients transfers history

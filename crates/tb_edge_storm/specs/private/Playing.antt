@@ -1,25 +1,21 @@
 -- All clients of a storm, and what a server that has finished took of them.
-use Rattle.std.specs.Prelude.{ℕ, ◌≡◌, ◌+◌, ◌-◌, ◌<◌, ◌≤◌, List, [], ◌∷◌, ◌++◌, length, map, slice_index_or, IsTrue, IfSome, Some, None, ◌==◌, if◌then◌else◌}
+use Rattle.std.specs.Prelude.{ℕ, ◌≡◌, ◌+◌, ◌-◌, ◌<◌, ◌≤◌, List, [], ◌∷◌, ◌++◌, length, slice_index_or, IfSome, Some, None}
 use mathlib.Core.List.{IsPrefix}
 use Rattle.tb_records.specs.declared.bodies.Body.{Body}
-use Rattle.tb_records.specs.Messages.{Message, Answer}
-use Rattle.tb_records.specs.Ordered.{Each}
+use Rattle.tb_records.specs.Messages.{Message}
 use Rattle.tb_machine.specs.declared.entries.Entry.{Entry}
-use Rattle.tb_machine.specs.Histories.{is_lawful}
 use Rattle.tb_published.specs.Openings.{Opening}
 use Rattle.tb_service.specs.Names.{Name}
 use Rattle.tb_service.specs.Ports.{Offers}
 use Rattle.tb_service.specs.Places.{places_from}
 use Rattle.tb_service.specs.Finished.{Finish, IsOffered}
 use Rattle.tb_service.specs.OfferedLaws.{GrowsByOffers}
-use Rattle.tb_caller.specs.Endpoints.{IsAmong}
-use Rattle.tb_caller.specs.Calls.{IsTaken}
-use Rattle.tb_caller_laws.specs.SeatCalls.{IsFromSeat}
 use Rattle.tb_edge_storm.specs.declared.clients.Client.{Client}
 use Rattle.tb_edge_storm.specs.declared.playing.Clients.{Clients}
 use Rattle.tb_edge_storm.specs.declared.totals.Totals.{Totals}
-use Rattle.tb_edge_storm.specs.Calls.{sent_in_session, accounts_call, transfer_call}
+use Rattle.tb_edge_storm.specs.Calls.{accounts_call, transfer_call}
 use Rattle.tb_edge_storm.specs.private.Found.{replies_of, Totaled}
+use Rattle.tb_edge_storm.specs.Served.{AreLeft}
 use Rattle.tb_edge_storm.specs.private.Clients.{port_of, IsNewClient, Repeats, Stands, Plays, IsConcluded}
 
 -- a port that sent nothing
@@ -92,33 +88,6 @@ module _ {J : Type 0} where
 abbrev pub HasRun : ℕ → List Entry → Finish → Type 0
 HasRun count before finish = (offered : ℕ → List Message) → ((p : ℕ) → p < count → IsOffered (offered p) finish.taken (places_from p 1 finish.owners) finish.ended)
     → GrowsByOffers count offered before finish.publisher.history
-
--- What is left of a client whose port the server took in: all its calls returned a reply that was given after a prefix of the history, and its port
--- sent nothing else.
-pub record IsClientLeft (o : Opening) (finish : Finish) (port id : ℕ) (call : ℕ → Body) (count : ℕ) (sent : List Message) : Type 0 where
-  pub session : ℕ
-  pub returned : List (Message × Answer)
-  pub all : map (λ p. p.0) returned ≡ sent_in_session id session call count
-  pub lawful : Each (λ (r : Message). IsTrue (is_lawful r)) (sent_in_session id session call count)
-  pub taken : Each (IsTaken (sent_in_session id session call count)) returned
-  pub given : Each (λ (p : Message × Answer). IsFromSeat o finish.publisher.history p.1) returned
-  pub own : Each (λ (r : Message). IsAmong r (sent_in_session id session call count)) sent
-  pub offered : IsOffered sent finish.taken (places_from port 1 finish.owners) finish.ended
-
--- the number, the calls and their count of the client on a port: the last one is client 100's
-abbrev pub number_at : ℕ → ℕ → ℕ
-number_at count port = if port == count then 100 else count - port
-
-abbrev pub call_at : ℕ → ℕ → ℕ → Body
-call_at count port = if port == count then accounts_call count else transfer_call (count - port)
-
-abbrev pub count_at : ℕ → ℕ → ℕ → ℕ
-count_at count transfers port = if port == count then 1 else transfers
-
--- the same for all clients, by their ports
-pub record AreLeft (o : Opening) (finish : Finish) (count transfers : ℕ) : Type 0 where
-  pub sent : ℕ → List Message
-  pub each : (p : ℕ) → p < count + 1 → IsClientLeft o finish p (number_at count p) (call_at count p) (count_at count transfers p) (sent p)
 
 -- the totals are of the history of a server that has finished, which has an entry for each reply, or more; and its ports were those of the clients
 pub record EndsWell (o : Opening) (count transfers : ℕ) (finish : Finish) (totals : Totals) : Type 0 where

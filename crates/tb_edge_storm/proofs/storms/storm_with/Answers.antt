@@ -3,7 +3,7 @@ use Rattle.tb_machine.specs.declared.entries.Entry.{Entry}
 use Rattle.tb_service.specs.Names.{Name}
 use Rattle.tb_edge_storm.specs.private.Playing.{HasRun, HaveMade}
 use Rattle.tb_edge_storm.proofs.Steps.{if_ok}
-use Rattle.tb_edge_storm.proofs.Played.{played}
+use Rattle.tb_edge_storm.proofs.Played.{played, served_by}
 use Rattle.tb_edge_storm.proofs.storms.storm_with.Goals as goal
 
 pub settle-told-requires : goal.settle-told-requires
@@ -22,6 +22,7 @@ returns g c =
       history = finish.publisher.history;
       whole = e.whole;
       enough = e.enough;
+      served = served_by g.J.Naming.opening c.args.scale.clients c.args.scale.transfers finish fresh e.left;
       played = played g.J.Naming.opening c.args.scale.clients c.args.scale.transfers finish c.args.scale.few fresh e.whole.legal e.left;
     })
     c.settle-told.ensures.well
