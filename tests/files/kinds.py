@@ -6,7 +6,7 @@ import subprocess
 
 from frames import dump_entry, dump_head, ids, pair, reply
 from tb_client import Operation
-from tb_host.checksums import crc32c
+from checksums import crc32c
 
 SECONDS = 60  # that one run may take
 MAGIC, OPENED, CLOSED = b"TBJRNL02", b"\xff" * 4, b"\x5a\xc3\x96\x69"

@@ -13,6 +13,8 @@
               die N K        the Nth write takes K bytes, and the process is killed
               sync N E       the Nth sync fails with E, and does nothing
               read N E       the Nth read of the file fails with errno E
+              name N E       the Nth link or removal of a name fails with errno E; the process is
+                             killed before it where E is 0
               few K          each read of the file gives K bytes at most
               out L          standard output takes L bytes: what does not fit fails with ENOSPC
               full L         no write makes the file longer than L bytes: what does not fit fails
@@ -43,7 +45,7 @@
 #include <time.h>
 #include <unistd.h>
 
-static long calls, syncs, reads, out, first, second, third;
+static long calls, syncs, reads, names, out, first, second, third;
 static char fault[16];
 static const char *mutant = "";
 static int failing, log_fd = -1, ready;
@@ -226,6 +228,21 @@ int ftruncate64(int fd, off_t len) {
 int ftruncate(int fd, off_t len) { return ftruncate64(fd, len); }
 int fsync(int fd) { return sync_file(fd, SYS_fsync); }
 int fdatasync(int fd) { return sync_file(fd, SYS_fdatasync); }
+
+/* whether this call on a name fails */
+static int name_fails(void) {
+    begin();
+    if (!is("name") || ++names != first) return 0;
+    if (!second) kill(getpid(), SIGKILL);
+    errno = second;
+    return 1;
+}
+int link(const char *name, const char *other) {
+    return name_fails() ? -1 : syscall(SYS_linkat, AT_FDCWD, name, AT_FDCWD, other, 0);
+}
+int unlink(const char *name) {
+    return name_fails() ? -1 : syscall(SYS_unlinkat, AT_FDCWD, name, 0);
+}
 
 static ssize_t write_out(const void *bytes, size_t len) {
     begin();

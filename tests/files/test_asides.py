@@ -16,7 +16,7 @@ from pathlib import Path
 
 import pytest
 from tb_client import Operation, request_frame
-from tb_host.checksums import crc32c
+from checksums import crc32c
 
 from .calls import Call, calls_of, environment
 

@@ -136,16 +136,15 @@ def test_a_request_that_is_refused(tbd, tmp_path, given, name):
 
 @pytest.mark.parametrize("form", ["salvage", "backup"])
 def test_a_new_file_that_is_not_whole(tbd, shim, tmp_path, form):
-    """The line says what the next try needs, and after that it is made."""
+    """The line says what the next try needs, and after that it is made of the same part."""
     kinds.made(tmp_path, "a ledger")
-    env = environment(shim, "new", fault="full 90")
+    env = environment(shim, "new.part", fault="full 90")
     told = ran(tbd, tmp_path, [form, "ledger", "new"], env=env)
     line = (
-        "tbd: Full: new: the disk is full, or the file has its greatest length; remove it, free"
-        " space, and start again\n"
+        "tbd: Full: new.part: the disk is full, or the file has its greatest length; remove it,"
+        " free space, and start again\n"
     )
     assert told == (8, b"", line)
-    assert ran(tbd, tmp_path, [form, "ledger", "new"])[0] == 2
-    (tmp_path / "new").unlink()
+    assert not (tmp_path / "new").exists() and (tmp_path / "new.part").exists()
     assert ran(tbd, tmp_path, [form, "ledger", "new"])[0] == 0
     assert (tmp_path / "new").read_bytes() == LEDGER

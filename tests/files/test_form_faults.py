@@ -25,22 +25,21 @@ SYNC = (
     9,
     "tbd: SyncFailed: {}: restart the machine or copy the file before the next start\n",
 )
-# The same of a new file, which is there then, so that the next try would be refused.
+# The same of a new file, of which the part is there then. The next try begins it again.
 NEW = {
     FAILED: (
         1,
-        "tbd: Device: {}: a read or write failed; remove it, look at the disk, and start again\n",
+        "tbd: Device: {}.part: a read or write failed; look at the disk, and start again\n",
     ),
     FULL: (
         8,
-        "tbd: Full: {}: the disk is full, or the file has its greatest length; remove it, free"
+        "tbd: Full: {}.part: the disk is full, or the file has its greatest length; remove it, free"
         " space, and start again\n",
     ),
-    SYNC: (
-        9,
-        "tbd: SyncFailed: {}: it may be lost; remove it, look at the disk, and start again\n",
-    ),
+    SYNC: (9, "tbd: SyncFailed: {}.part: it may be lost; look at the disk, and start again\n"),
 }
+# The last sync is that of the folder, after which the new file has its name.
+NAMED = 9, "tbd: SyncFailed: {}: its name may be lost; look at the disk, and copy the file again\n"
 # The call that fails and with what, and how that is told.
 FAULTS = [
     ("read", errno.EIO, FAILED),
@@ -171,10 +170,12 @@ def test_a_copy_whose_file_fails(tbd, shim, tmp_path, form, call, why, fault):
     failing = Failing(tbd, shim, tmp_path, f"{form} ledger new")
     count = 0
     for number, told in failing.turns("a ledger", call, why):
-        assert is_told(told, fault, "ledger") or is_told(told, NEW[fault], "new"), (number, told)
+        made = is_told(told, NAMED, "new")
+        assert made or is_told(told, fault, "ledger") or is_told(told, NEW[fault], "new"), told
         assert told[1] == b"" and (tmp_path / "ledger").read_bytes() == kinds.LEDGER
+        assert (tmp_path / "new").exists() == made, number
         count = number
-    assert count
+    assert count and made == (call == "sync")
 
 
 # What a new file has if a call on it fails: nothing, a journal's first bytes, a ledger without
@@ -190,12 +191,13 @@ def is_stage(data):
 @pytest.mark.parametrize("call, why, fault", FAULTS[1:3])
 @pytest.mark.parametrize("form", ["salvage", "backup"])
 def test_a_copy_whose_new_file_fails(tbd, shim, tmp_path, form, call, why, fault):
-    failing = Failing(tbd, shim, tmp_path, f"{form} ledger new", "new")
+    failing = Failing(tbd, shim, tmp_path, f"{form} ledger new", "new.part")
     seen = []
     for number, told in failing.turns("a ledger", call, why):
         assert is_told(told, NEW[fault], "new") and told[1] == b"", (number, told)
-        data = (tmp_path / "new").read_bytes()
-        assert is_stage(data), (number, data)
+        data = (tmp_path / "new.part").read_bytes()
+        assert is_stage(data) and not (tmp_path / "new").exists(), (number, data)
         seen.append(next(n for n, it in reversed(list(enumerate(STAGES))) if data.startswith(it)))
     assert seen == sorted(seen) and {0, 1, 2} <= set(seen)
     assert (tmp_path / "new").read_bytes() == kinds.LEDGER
+    assert not (tmp_path / "new.part").exists()

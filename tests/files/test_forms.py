@@ -380,6 +380,7 @@ def test_an_output_that_fails(tbd, shim, tmp_path, words, kind, room, whole, sai
     assert whole.startswith(out) and len(out) <= room
     if words.endswith("new"):
         assert (tmp_path / "new").read_bytes() == kinds.LEDGER
+        assert not (tmp_path / "new.part").exists()
 
 
 @pytest.mark.parametrize("words", ["run ledger 2", "dump ledger", "check ledger", "--version"])
@@ -473,7 +474,7 @@ def test_what_is_whole_is_copied(tbd, tmp_path, form, kind, printed, said, end):
     assert path.read_bytes() == FILES[kind]
 
 
-# Copies that are refused: the exit status, the line, and how much of the ledger the new file has.
+# Copies that are refused: the exit status, the line, and how much of the ledger the part has.
 UNCOPIED = [
     ("salvage", "a text", *A_TEXT, None),
     ("backup", "a text", *A_TEXT, None),
@@ -504,8 +505,9 @@ UNCOPIED = [
 def test_a_file_is_not_copied(tbd, tmp_path, form, kind, status, said, end):
     kinds.made(tmp_path, kind)
     assert kinds.ran(tbd, tmp_path, [form, "ledger", "new"]) == (status, b"", said)
-    new = tmp_path / "new"
-    assert (new.read_bytes() if new.exists() else None) == (end and kinds.up_to(end))
+    part = tmp_path / "new.part"
+    assert (part.read_bytes() if part.exists() else None) == (end and kinds.up_to(end))
+    assert not (tmp_path / "new").exists()
 
 
 @pytest.mark.parametrize("form", ["salvage", "backup"])

@@ -199,6 +199,24 @@ def test_a_look_that_fails_is_no_file_that_is_gone(tbd, tmp_path, first):
     assert done.stderr.decode().startswith("tbd: Device: " if failed else "")
 
 
+@pytest.mark.parametrize("first", [1, 2, 4, 8, 16])
+def test_a_follower_whose_look_fails_is_told_of_the_device(tbd, tmp_path, first):
+    """strace has each look fail with EIO from one on: those of the opening, and those of a pause,
+    before which all was written."""
+    path = tmp_path / "ledger"
+    script = pair(1, 0, 0, Operation.register)
+    subprocess.run([tbd, "run", path, "64"], input=script, capture_output=True, check=True)
+    whole = subprocess.run([tbd, "dump", path], capture_output=True, check=True).stdout
+    looks = "statx,newfstatat"
+    inject = ["-e", f"trace={looks}", "-e", f"inject={looks}:error=EIO:when={first}+"]
+    words = ["strace", "-f", "-qq", "-P", path, *inject, "-o", tmp_path / "calls"]
+    done = subprocess.run(
+        [*words, tbd, "dump", path, "--follow"], capture_output=True, check=False, timeout=SECONDS
+    )
+    assert done.returncode == 1 and done.stderr.decode().startswith("tbd: Device: ")
+    assert done.stdout in ([whole] if first == 16 else [b"", whole])
+
+
 def test_another_name_does_no_harm(tbd, tmp_path):
     """A hard link more, and a start through a symbolic link."""
     os.symlink("ledger", tmp_path / "link")

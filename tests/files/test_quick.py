@@ -11,7 +11,7 @@ import struct
 
 import pytest
 from tb_client import Account, Operation, request_frame
-from tb_host.checksums import crc32c
+from checksums import crc32c
 
 from ..conftest import ran
 

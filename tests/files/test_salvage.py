@@ -9,7 +9,7 @@ from dataclasses import dataclass
 from pathlib import Path
 
 import pytest
-from .test_damage import CHECKSUM, LATCH, LENGTH, MAGIC, serve
+from .batches import CHECKSUM, LATCH, LENGTH, MAGIC, serve
 
 CLOSED = bytes([90, 195, 150, 105])  # a closed latch
 FIXED = LATCH + LENGTH + CHECKSUM

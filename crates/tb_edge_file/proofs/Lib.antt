@@ -11,4 +11,5 @@ pub mod Passing
 pub mod PrintedText
 pub mod ReadAfter
 pub mod Rounds
+pub mod Waitings
 pub mod WholeFiles

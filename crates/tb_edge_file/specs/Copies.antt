@@ -20,17 +20,18 @@ use Rattle.tb_file.specs.Recovering.{HasStartCause}
 use Rattle.tb_machine.specs.Histories.{State}
 use Rattle.tb_file.specs.Salvaging.{IsHistoryTaken, IsNewKeeper, IsUnsalvaged, MayBeSalvaged, HasNewCause, salvaged_device, why_old, why_new}
 use Rattle.tb_edge_file.specs.declared.copies.Copied.{Copied}
+use Rattle.tb_edge_file.specs.declared.rescues.Finished.{Finished}
 use Rattle.tb_edge_file.specs.declared.rescues.Rescued.{Rescued}
 use Rattle.tb_edge_file.specs.declared.faults.Damage.{Damage}
 use Rattle.tb_edge_file.specs.declared.faults.Damage.TheVariants.{Block}
 use Rattle.tb_edge_file.specs.declared.faults.KeepCommandFault.{KeepCommandFault}
 use Rattle.tb_edge_file.specs.declared.faults.Loss.{Loss}
-use Rattle.tb_edge_file.specs.declared.faults.KeepCommandFault.TheVariants.{Damaged, Lost, Opening, Making, NotAJournal}
+use Rattle.tb_edge_file.specs.declared.faults.KeepCommandFault.TheVariants.{Damaged, Lost, Opening, Making, Naming, NotAJournal}
 use Rattle.tb_edge_file.specs.declared.mending.Mended.{Mended}
 use Rattle.tb_edge_file.specs.Ends.{FileOutput, KnownFiles, KnownReading, OpenerOutput, opener_output, reading_of}
 use Rattle.tb_edge_file.specs.Mending.{mended_device, mended_reading}
 use Rattle.tb_edge_file.specs.Naming.{Names}
-use Rattle.tb_edge_file.specs.Outcomes.{FileOutcome, PrintsWhole, PrintsText, IsMeasured, IsRefused, Opens}
+use Rattle.tb_edge_file.specs.Outcomes.{FileOutcome, PrintsWhole, PrintsText, IsMeasured, Opens}
 use Rattle.tb_edge_file.specs.ExitStatuses.{damage_text, disk_fault, new_fault, started_fault}
 use Rattle.tb_edge_file.specs.Summaries.{line_before, behind_text}
 
@@ -123,11 +124,15 @@ abbrev pub refused_by : {F : Type 0} → Bool → Option F → Option F
 refused_by true stop = stop
 refused_by false stop = None
 
+-- a new file with what was copied of a whole file
+abbrev pub all_copied : {N : Type 0} → Copied → N → Finished N
+all_copied c device = record { device = device; rescued = record { copied = c; more = 0; first = 0 } }
+
 module _ {E : Type 0} (its : devices.Ghosts E) where
-  -- what was copied was printed; or it is reported what is damaged, and nothing was printed
-  abbrev pub EndsCopy : Option StartFault → Copied → FileOutcome → FileOutput E → FileOutput E → Type 0
-  EndsCopy None c outcome before after = PrintsText (copied_text c) outcome before.sink after.sink × (after.file ≡ before.file)
-  EndsCopy (Some fault) c outcome before after = IsRefused its fault outcome before.file after.file × (after.sink ≡ before.sink)
+  -- the new file has what was copied; or the file is refused, and it is reported what is damaged
+  abbrev pub EndsCopy : {N : Type 0} → Option StartFault → Copied → N → Result (Finished N) KeepCommandFault → E → E → Type 0
+  EndsCopy None c device finished from after = (finished ≡ Ok (all_copied c device)) × (after ≡ from)
+  EndsCopy (Some fault) c device finished from after = (named : KeepCommandFault) × (finished ≡ Err named) × Names its (started_fault fault) named from after
 
   -- a fault of the file, with what is known of it; or one of the new file
   abbrev pub NamesCopy : SalvageFault → KeepCommandFault → E → E → Type 0
@@ -151,11 +156,11 @@ module _ {E : Type 0} (its : KnownReading E) {D : Type 0} (new_file : devices.Gh
     pub untouched : its.device.tells → IsDiskUntouched (its.device.disk from) (its.device.disk after)
     pub cause_old : its.device.tells → HasStartCause (why_old result) (its.device.disk from) (its.device.disk after)
 
-  -- a file of so many bytes was read on after its damage, also after its closed latch: the new one goes on with each next entry that is there,
-  -- and what was copied was printed; or why it is not read or written further
-  pub record Rescues (len : ℕ) (salvaged : Salvaged D) (outcome : FileOutcome) (before after : FileOutput E) : Type 0 where
+  -- a file of so many bytes was read on after its damage, also after its closed latch: the new one goes on with each next entry that is there; or
+  -- why it is not read or written further
+  pub record Rescues (len : ℕ) (salvaged : Salvaged D) (finished : Result (Finished D) KeepCommandFault) (before after : E) : Type 0 where
     pub looked : E
-    pub looks : (file : List ℕ) → its.whole before.file file → its.whole looked file
+    pub looks : (file : List ℕ) → its.whole before file → its.whole looked file
     pub all : (file : List ℕ) → its.device.holds looked file → its.whole looked file
     pub between : E
     pub result : Result ReadOn SalvageFault
@@ -164,35 +169,35 @@ module _ {E : Type 0} (its : KnownReading E) {D : Type 0} (new_file : devices.Gh
     pub any_moment : new_file.tells → (h : History) → Keeps new_file.disk h salvaged.keeper
         → LeavesLonger h (new_file.disk salvaged.keeper.journal.device) (new_file.disk keeper.journal.device)
     pub ends : MatchResult result
-        (λ it. Reports (rescued_of (copied_of len salvaged) keeper.state it) outcome before.sink after.sink × (after.file ≡ between))
-        (λ fault. (named : KeepCommandFault) × (outcome ≡ Err named) × NamesCopy its.device fault named between after.file × (after.sink ≡ before.sink))
+        (λ it. (finished ≡ Ok (record { device = keeper.journal.device; rescued = rescued_of (copied_of len salvaged) keeper.state it })) × (after ≡ between))
+        (λ fault. (named : KeepCommandFault) × (finished ≡ Err named) × NamesCopy its.device fault named between after)
 
   -- a copy of a file that is to be whole ends there, and any other is read on
-  abbrev pub EndsOrReadsOn : Bool → ℕ → Salvaged D → FileOutcome → FileOutput E → FileOutput E → Type 0
-  EndsOrReadsOn true len salvaged outcome before after = EndsCopy its.device (refused_by true salvaged.stop) (copied_of len salvaged) outcome before after
-  EndsOrReadsOn false len salvaged outcome before after = Rescues len salvaged outcome before after
+  abbrev pub EndsOrReadsOn : Bool → ℕ → Salvaged D → Result (Finished D) KeepCommandFault → E → E → Type 0
+  EndsOrReadsOn true len salvaged finished before after =
+      EndsCopy its.device (refused_by true salvaged.stop) (copied_of len salvaged) salvaged.keeper.journal.device finished before after
+  EndsOrReadsOn false len salvaged finished before after = Rescues len salvaged finished before after
 
-  -- the new file keeps what was copied, which was printed, or the file is refused; or why there is no new file, or one not to its end
-  abbrev pub CopiesBy : Result (Salvaged D) (NotSalvaged D) → ℕ → Bool → FileOutcome → E → FileOutput E → FileOutput E → Type 0
-  CopiesBy (Ok salvaged) len whole outcome from before after =
-      IsCopy new_file (its.device.holds from) len salvaged (copied_of len salvaged) × EndsOrReadsOn whole len salvaged outcome before after
-  CopiesBy (Err failed) len whole outcome from before after =
-      (named : KeepCommandFault) × (outcome ≡ Err named) × NamesCopy its.device failed.fault named before.file after.file × (after.sink ≡ before.sink)
+  -- the new file keeps what was copied, or the file is refused; or why there is no new file, or one not to its end
+  abbrev pub CopiesBy : Result (Salvaged D) (NotSalvaged D) → ℕ → Bool → Result (Finished D) KeepCommandFault → E → E → E → Type 0
+  CopiesBy (Ok salvaged) len whole finished from before after =
+      IsCopy new_file (its.device.holds from) len salvaged (copied_of len salvaged) × EndsOrReadsOn whole len salvaged finished before after
+  CopiesBy (Err failed) len whole finished from before after =
+      (named : KeepCommandFault) × (finished ≡ Err named) × NamesCopy its.device failed.fault named before after
 
   -- a file of so many bytes was copied
-  pub record CopiesLong (len : ℕ) (whole : Bool) (outcome : FileOutcome) (into : D) (before after : FileOutput E) : Type 0 where
+  pub record CopiesLong (len : ℕ) (whole : Bool) (finished : Result (Finished D) KeepCommandFault) (into : D) (before after : E) : Type 0 where
     pub result : Result (Salvaged D) (NotSalvaged D)
     pub between : E
-    pub copying : IsCopying result into before.file between
-    pub copies : CopiesBy result len whole outcome before.file (record before { file = between }) after
+    pub copying : IsCopying result into before between
+    pub copies : CopiesBy result len whole finished before between after
 
   -- a file's length was asked for, and then it was copied
-  pub record CopiesFile (whole : Bool) (outcome : FileOutcome) (into : D) (before after : FileOutput E) : Type 0 where
+  pub record CopiesFile (whole : Bool) (finished : Result (Finished D) KeepCommandFault) (into : D) (before after : E) : Type 0 where
     pub len : Result ℕ JournalFault
     pub between : E
-    pub asked : IsMeasured its.device its.whole len before.file between
-    pub copies : MatchResult len (λ n. CopiesLong n whole outcome into (record before { file = between }) after)
-        (λ fault. (outcome ≡ Err (disk_fault fault)) × (after ≡ record before { file = between }))
+    pub asked : IsMeasured its.device its.whole len before between
+    pub copies : MatchResult len (λ n. CopiesLong n whole finished into between after) (λ fault. (finished ≡ Err (disk_fault fault)) × (after ≡ between))
 
 -- a file that need not be whole, and is no journal by its first bytes, is read as one
 abbrev pub is_mended : Bool → KeepCommandFault → Bool
@@ -214,11 +219,28 @@ NotesMended (Err (Lost loss)) outcome start written = (printed : FileOutcome) ×
 NotesMended (Err fault) outcome start written = (outcome ≡ Err fault) × (written ≡ start)
 
 module _ {O D E : Type 0} (its : KnownFiles O D E) (new : List ℕ) where
-  -- the new file of a name was made, and a file was copied into it; or it was not, and nothing was read
+  -- a new file with all that was copied got its name, and only then that was printed; or it did not get it, and nothing was
+  abbrev pub NamesCopied : Finished D → FileOutcome → OpenerOutput O → OpenerOutput O → Type 0
+  NamesCopied finished outcome first last =
+      Opens Naming (its.opener.names_new first.opener finished.device new) last.opener outcome (last.sink ≡ first.sink)
+      (λ done. Reports finished.rescued outcome first.sink last.sink)
+
+  -- the same, unless a file was not copied to its end: then no name was given, and nothing was printed
+  abbrev pub FinishesCopy : Result (Finished D) KeepCommandFault → FileOutcome → OpenerOutput O → OpenerOutput O → Type 0
+  FinishesCopy (Ok finished) outcome first last = NamesCopied finished outcome first last
+  FinishesCopy (Err fault) outcome first last = (outcome ≡ Err fault) × (last.opener ≡ first.opener) × (last.sink ≡ first.sink)
+
+  -- a file was copied into one that was made for a name, which it then got
+  pub record CopiesInto {F : Type 0} (reading : KnownReading F) (into : D) (whole : Bool) (outcome : FileOutcome) (from after : F) (first last : OpenerOutput O) : Type 0 where
+    pub finished : Result (Finished D) KeepCommandFault
+    pub copies : CopiesFile reading its.file whole finished into from after
+    pub finishes : FinishesCopy finished outcome first last
+
+  -- a new file was made for a name, and a file was copied into it; or it was not, and nothing was read
   abbrev pub MakesCopy : {F : Type 0} → KnownReading F → O → O → Bool → FileOutcome → FileOutput F → FileOutput F → Type 0
   MakesCopy reading before left whole outcome first last =
-      Opens Making (its.opener.makes_new before new) left outcome (last ≡ first)
-      (λ into. CopiesFile reading its.file whole outcome into first last)
+      (made : O) × Opens Making (its.opener.makes_new before new) made outcome ((left ≡ made) × (last ≡ first))
+      (λ into. CopiesInto reading into whole outcome first.file last.file (opener_output made first.sink) (opener_output left last.sink))
 
   -- a file was read whole, with the first bytes of a journal in place of its own; if it begins as a ledger's then, it was copied so
   pub record CopiesMended (refused : KeepCommandFault) (outcome : FileOutcome) (from : E) (first last : OpenerOutput O) : Type 0 where

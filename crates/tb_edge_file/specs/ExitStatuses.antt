@@ -43,7 +43,7 @@ use Rattle.tb_edge_file.specs.declared.faults.KeepCommandFault.{KeepCommandFault
 use Rattle.tb_edge_file.specs.Asides.{uncopied_text}
 use Rattle.tb_edge_file.specs.declared.asides.Reason.{Reason}
 use Rattle.tb_edge_file.specs.declared.asides.Reason.TheVariants as reasons
-use Rattle.tb_edge_file.specs.declared.faults.KeepCommandFault.TheVariants.{Usage, Device, Opening, Making, NoMemory, Request, Item, NotAJournal, NoHead, Damaged, Lost, OtherRules, Full, SyncFailed, Gone, NotCopied}
+use Rattle.tb_edge_file.specs.declared.faults.KeepCommandFault.TheVariants.{Usage, Device, Opening, Making, Naming, NoMemory, Request, Item, NotAJournal, NoHead, Damaged, Lost, OtherRules, Full, SyncFailed, Gone, NotCopied}
 use Rattle.tb_edge_file.specs.declared.faults.Failed.{Failed}
 use Rattle.tb_edge_file.specs.declared.faults.Failed.TheVariants.{Input, Output as OutputSide, File, New}
 use Rattle.tb_edge_file.specs.declared.faults.Loss.{Loss}
@@ -147,6 +147,7 @@ reason_fault (reasons.NotCopied why) = NotCopied why
 -- the path that a fault is printed with
 abbrev pub fault_path : KeepCommandFault → List ℕ → List ℕ → List ℕ
 fault_path (Making fault) file new = new
+fault_path (Naming fault) file new = new
 fault_path (Device New) file new = new
 fault_path fault file new = file
 
@@ -184,12 +185,20 @@ opening_exit_status opening.Empty = 5
 opening_exit_status opening.Full = 8
 opening_exit_status fault = 1
 
+-- the same if a new file did not get its name
+abbrev pub naming_exit_status : OpeningFault → ℕ
+naming_exit_status opening.SyncFailed = 9
+naming_exit_status opening.Exists = 2
+naming_exit_status opening.Full = 8
+naming_exit_status fault = 1
+
 -- 1: a device or memory failed. 2: the arguments are wrong, or what was read is no request. From 4 on: why the file is not served
 abbrev pub file_exit_status : KeepCommandFault → ℕ
 file_exit_status (Device which) = 1
 file_exit_status NoMemory = 1
 file_exit_status (Opening fault) = opening_exit_status fault
 file_exit_status (Making fault) = opening_exit_status fault
+file_exit_status (Naming fault) = naming_exit_status fault
 file_exit_status Usage = 2
 file_exit_status (Request fault) = 2
 file_exit_status (Item fault) = 2
@@ -283,19 +292,29 @@ opening_text opening.Unread path = named (codes "Device: ") path (codes ": a rea
 opening_text opening.Full path = full_text path
 opening_text opening.Empty path = codes "NotAJournal: " ++ (printable path ++ codes " is empty; without --existing tbd run makes a ledger in it")
 
--- why a new file was not made, or not to its end: it then has a prefix of what was to be in it
+-- why a new file was not made, or not to its end: NEW.part then has a prefix of what was to be in it
 abbrev pub making_text : OpeningFault → List ℕ → List ℕ
-making_text opening.SyncFailed path = named (codes "SyncFailed: ") path (codes ": it may be lost; remove it, look at the disk, and start again")
-making_text opening.Unread path = named (codes "Device: ") path (codes ": a read or write failed; remove it, look at the disk, and start again")
-making_text opening.Full path = named (codes "Full: ") path (codes ": the disk is full, or the file has its greatest length; remove it, free space, and start again")
+making_text opening.SyncFailed path = named (codes "SyncFailed: ") path (codes ".part: it may be lost; look at the disk, and start again")
+making_text opening.Unread path = named (codes "Device: ") path (codes ".part: a read or write failed; look at the disk, and start again")
+making_text opening.Full path = named (codes "Full: ") path (codes ".part: the disk is full, or the file has its greatest length; remove it, free space, and start again")
+making_text opening.Locked path = named (codes "Locked: ") path (codes ".part is open in another program; end that one first")
+making_text opening.NotAFile path = named (codes "Device: ") path (codes ".part is no regular file; move it elsewhere, or give another name")
 making_text fault path = opening_text fault path
+
+-- why a new file, NEW.part, did not get its name; or it did, and a crash may take that
+abbrev pub naming_text : OpeningFault → List ℕ → List ℕ
+naming_text opening.SyncFailed path = named (codes "SyncFailed: ") path (codes ": its name may be lost; look at the disk, and copy the file again")
+naming_text opening.Exists path = named (codes "Usage: ") path (codes ".part has all that was copied, and its name was taken meanwhile; give it another")
+naming_text opening.Full path = named (codes "Full: ") path (codes ".part has all that was copied, and there is no space for its name; free space, and rename it")
+naming_text opening.Missing path = named (codes "Device: ") path (codes ".part was moved while it was written; copy the file again")
+naming_text fault path = named (codes "Device: ") path (codes ".part has all that was copied, but did not get its name; rename it")
 
 -- what failed
 abbrev pub failed_text : Failed → List ℕ → List ℕ
 failed_text Input path = codes "Device: standard input"
 failed_text OutputSide path = codes "Device: standard output"
 failed_text File path = named (codes "Device: ") path (codes ": a read or write failed; look at the disk, and start again")
-failed_text New path = named (codes "Device: ") path (codes ": a read or write failed; remove it, look at the disk, and start again")
+failed_text New path = named (codes "Device: ") path (codes ".part: a read or write failed; look at the disk, and start again")
 
 -- a file that is no ledger, and what it is; only the fault's name if it was not looked at
 abbrev pub kind_text : FileKind → List ℕ → List ℕ
@@ -342,6 +361,7 @@ fault_text Usage path = codes "Usage: a word is not UTF-8"
 fault_text (Device which) path = failed_text which path
 fault_text (Opening fault) path = opening_text fault path
 fault_text (Making fault) path = making_text fault path
+fault_text (Naming fault) path = naming_text fault path
 fault_text NoMemory path = codes "NoMemory"
 fault_text (Request fault) path = run_fault_name fault ++ codes ": the next request on standard input is refused; those before it were answered"
 fault_text (Item fault) path = item_text fault
@@ -494,9 +514,14 @@ unfolding printable chars lib.Utf8.encode
 line_of_a_name = refl
 
 pub line_of_a_new_file_that_is_not_whole :
-    file_fault_line (Making opening.Full) (codes "new") ≡ codes "tbd: Full: new: the disk is full, or the file has its greatest length; remove it, free space, and start again\n"
+    file_fault_line (Making opening.Full) (codes "new") ≡ codes "tbd: Full: new.part: the disk is full, or the file has its greatest length; remove it, free space, and start again\n"
 unfolding printable chars lib.Utf8.encode
 line_of_a_new_file_that_is_not_whole = refl
+
+pub line_of_a_name_that_is_taken :
+    file_fault_line (Naming opening.Exists) (codes "new") ≡ codes "tbd: Usage: new.part has all that was copied, and its name was taken meanwhile; give it another\n"
+unfolding printable chars lib.Utf8.encode
+line_of_a_name_that_is_taken = refl
 
 pub line_of_a_request :
     file_fault_line (Request (run.Frame frame.Short)) [] ≡ codes "tbd: Short: the next request on standard input is refused; those before it were answered\n"

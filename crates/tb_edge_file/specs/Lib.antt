@@ -22,4 +22,5 @@ pub mod Outlets
 pub mod Printable
 pub mod ExitStatuses
 pub mod Summaries
+pub mod Waiting
 pub mod private

@@ -1,6 +1,8 @@
 -- The names of files, what the system's calls do to them, and what a crash may leave.
-use Rattle.std.specs.Prelude.{◌≡◌, ◌≢◌, ℕ, Bool, true, false, List, [], ◌++◌, length, Option, None, Some, Result, IfOk, OnOk, OnErr}
+use Rattle.std.specs.Prelude.{◌≡◌, ◌≢◌, ℕ, Bool, true, false, List, [], ◌++◌, length, Option, None, Some, Result, IfOk, IfErr, OnOk, OnErr}
+use Rattle.std.specs.IoError.{error_kind}
 use Rattle.std.specs.declared.io.Error.{Error}
+use Rattle.std.specs.declared.io.ErrorKind.TheVariants as kinds
 use Rattle.tb_file_journal.specs.Device.{Only}
 use Rattle.tb_edge_file.specs.declared.file_systems.Found.{Found}
 
@@ -49,9 +51,10 @@ pub record IsRegular (name : List ℕ) (len : ℕ) (names : Names) : Type 0 wher
   pub link : names.is_link name ≡ false
   pub len_is : len ≡ length (names.bytes file)
 
--- whether a name is that of a regular file, and of how many bytes
+-- whether a name is that of a regular file, and of how many bytes; or that nothing has it
 pub record Finds (name : List ℕ) (result : Result Found Error) (before after : Names) : Type 0 where
   pub found : IfOk result (λ found. found.is_file ≡ true → IsRegular name found.len before)
+  pub missing : IfErr result (λ error. error_kind error ≡ kinds.NotFound → before.leads name ≡ None)
   pub same : IsUntouched before after
 
 -- the file that a name leads to was opened

@@ -30,6 +30,7 @@ use Rattle.tb_edge_file.specs.Live.{IsWholeLength, MeasuresWhole}
 use Rattle.tb_edge_file.specs.Following.{WritesPart, HasPartCause}
 use Rattle.tb_edge_file.specs.Naming.{Names, NamesAsked}
 use Rattle.tb_edge_file.specs.Summaries.{ReadsQuick, ReadsWhole, summary_of, summary_text}
+use Rattle.tb_edge_file.specs.Waiting.{EndsIf, Followed, ended_by, written_by}
 
 -- done, or not to its end
 abbrev pub FileOutcome : Type 0
@@ -80,26 +81,24 @@ module _ {D : Type 0} (its : devices.Ghosts D) where
     pub whole : IsReadWhole found before.file between
     pub dumps : DumpsFound found outcome (record before { file = between }) after
 
-  -- a part of a dump of a file of these rules was written, with what was committed while more was waited for, or as much of it as the outcome
-  -- says. It is done only once nobody waits for more
-  pub record IsFollowed (Ended : Type 0) (from : Option ℕ) (follows : Bool) (outcome : FileOutcome) (rules : Rules) (before after : FileOutput D) : Type 0 where
+  -- a part of a dump of a file of these rules was written, with what was committed while more was waited for, or as much of it as the outcome says
+  pub record IsFollowed (from : Option ℕ) (follows : Bool) (outcome : FileOutcome) (rules : Rules) (before after : FileOutput D) : Type 0 where
     pub writes : OfFile before.file (λ file. WritesPart (its.holds after.file) outcome follows from rules file before.sink after.sink)
-    pub ends : follows ≡ true → OnOk outcome Ended
     pub cause : its.tells → HasPartCause outcome (its.disk before.file) (its.disk after.file)
 
   -- a file was read to its end before a byte of a part of its dump was written: the entries above a commit number, or all. One that is no
   -- history is refused, and nothing was written
-  pub record DumpsFollowing (Ended : Type 0) (from : Option ℕ) (follows : Bool) (outcome : FileOutcome) (before after : FileOutput D) : Type 0 where
+  pub record DumpsFollowing (from : Option ℕ) (follows : Bool) (outcome : FileOutcome) (before after : FileOutput D) : Type 0 where
     pub found : Result Found StartFault
     pub between : D
     pub whole : IsReadWhole found before.file between
-    pub writes : MatchResult found (λ it. IsFollowed Ended from follows outcome it.rules (record before { file = between }) after)
+    pub writes : MatchResult found (λ it. IsFollowed from follows outcome it.rules (record before { file = between }) after)
         (λ fault. IsRefused fault outcome between after.file × (after.sink ≡ before.sink))
 
   -- a dump, or a part of one
-  abbrev pub DumpsPart : Type 0 → Option ℕ → Bool → FileOutcome → FileOutput D → FileOutput D → Type 0
-  DumpsPart Ended None false outcome before after = DumpsFile outcome before after
-  DumpsPart Ended from follows outcome before after = DumpsFollowing Ended from follows outcome before after
+  abbrev pub DumpsPart : Option ℕ → Bool → FileOutcome → FileOutput D → FileOutput D → Type 0
+  DumpsPart None false outcome before after = DumpsFile outcome before after
+  DumpsPart from follows outcome before after = DumpsFollowing from follows outcome before after
 
   -- a device was read to the end of its file, only by the numbers and times of its entries, or it is reported why not; the file is as it was
   pub record IsReadQuick (found : Result Found StartFault) (device after : D) : Type 0 where
@@ -248,18 +247,20 @@ pub record RunsOver {O D E : Type 0} (its : KnownFiles O D E) (before left : O) 
   pub outcome_is : outcome ≡ named_by (λ fault. fault) reason served
   pub runs : ServesOpened its.file (made_by its file.existing before file.path) left served file notes.progress (record first { faults = noted }) last
 
--- the outcome of a dump: if it is known why nobody waits for more, that is the fault
-abbrev pub ended_by : Option Reason → FileOutcome → FileOutcome
-ended_by (Some reason) outcome = Err (reason_fault reason)
-ended_by None outcome = outcome
-
 module _ {O D E : Type 0} (its : KnownFiles O D E) (name : List ℕ) (before left : O) where
-  -- a dump of the device of a name, and its outcome: if what opened it knows why it is not followed any more, that is the fault
+  -- a dump of a device that was opened, with what was committed as long as more was waited for. Only if a wait found that the device is not to be
+  -- followed any more, the reason is the fault
+  pub record DumpsOpened (from : Option ℕ) (follows : Bool) (outcome : FileOutcome) (opened : O) (device : E) (start written : Output) : Type 0 where
+    pub after : E
+    pub followed : Followed
+    pub outcome_is : outcome ≡ ended_by followed
+    pub ends : EndsIf (λ at. its.opener.pauses at name) follows followed opened left
+    pub dumps : DumpsPart its.reading from follows (written_by followed) (record { file = device; sink = start }) (record { file = after; sink = written })
+
   abbrev pub DumpsOver : Option ℕ → Bool → FileOutcome → Output → Output → Type 0
   DumpsOver from follows outcome start written =
-      Opens Opening (its.opener.opens before name) left outcome (written ≡ start)
-      (λ device. (after : E) × (dumped : FileOutcome) × (reason : Option Reason) × its.opener.reasons left reason × (outcome ≡ ended_by reason dumped)
-      × DumpsPart its.reading (its.opener.ended left) from follows dumped (record { file = device; sink = start }) (record { file = after; sink = written }))
+      (opened : O) × Opens Opening (its.opener.opens before name) opened outcome ((written ≡ start) × (left ≡ opened))
+      (λ device. DumpsOpened from follows outcome opened device start written)
 
   abbrev pub ChecksOver : Bool → FileOutcome → Output → Output → Type 0
   ChecksOver quick outcome start written =

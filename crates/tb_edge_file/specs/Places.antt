@@ -14,6 +14,10 @@ failed_further disk further lost = record disk { failures = λ fault. disk.failu
 abbrev pub named_disk : {D P : Type 0} → (D → Disk) → Named D P → Disk
 named_disk disk named = failed_further (disk named.device) (refused named.refusals) named.lost
 
+-- what its name leads to
+abbrev pub place_of : {D P : Type 0} → Named D P → P
+place_of named = named.place
+
 -- if this is returned, there is nothing in the file from this offset on
 abbrev pub IsNothingAt : ℕ → List ℕ → Result Bool JournalFault → Type 0
 IsNothingAt at file (Ok false) = drop at file ≡ []

@@ -2,7 +2,8 @@
 ghost use Rattle.std.specs.Prelude.{◌≡◌, true, IfOk};
 ghost use Rattle.tb_edge_file.specs.Ends.{made_by};
 ghost use Rattle.tb_edge_file.specs.private.Stages.{DumpsAsked, RunsOpened};
-ghost use Rattle.tb_edge_file.specs.Outcomes.{ChecksOver, DumpsOver, PrintsWhole, RunsOn, ended_by, named_by};
+ghost use Rattle.tb_edge_file.specs.Outcomes.{ChecksOver, DumpsOver, PrintsWhole, RunsOn, named_by};
+ghost use Rattle.tb_edge_file.specs.Waiting.{EndsIf, ended_by, written_by};
 
 use crate::asides::Reason;
 use crate::ends::{Ends, Files, Pipes};
@@ -73,32 +74,35 @@ pub(crate) fn run_over<O: Opener, R: Source, W: Outlet, E: Sink>(
     named_by(reason, served)
 }
 
-/// Writes a dump of a device, or the part of one that was asked for.
+/// Writes a dump of a device, or the part of one that was asked for. Returns why the device is not followed any more, if that is so.
 fn dump_part<O: Opener, W: Outlet>(
     alloc: Global,
-    opener: &O,
+    opener: &mut O,
+    name: &str,
     device: &mut O::Reading,
     writer: &mut W,
     part: Part,
-) -> Result<(), KeepCommandFault>
-    ensures { DumpsAsked O.Reading.Device W.Sink (O.ended opener.now) part result device writer }
+) -> Result<Option<Reason>, KeepCommandFault>
+    ensures dumps { DumpsAsked O.Reading.Device W.Sink part (written_by result) device writer }
+    ensures ends { EndsIf (λ from. O.pauses from name.now) part.follows result opener.old opener.new }
 {
     match (part.after, part.follows) {
-        (None, false) => dump(alloc, device, writer),
-        _ => follow(alloc, opener, device, writer, part),
+        (None, false) => match dump(alloc, device, writer) {
+            Ok(()) => Ok(None),
+            Err(fault) => Err(fault),
+        },
+        _ => follow(alloc, opener, name, device, writer, part),
     }
 }
 
-/// The outcome of a dump. If it is known why nobody waits for more, that is the fault.
-fn ended_by(
-    reason: Option<Reason>,
-    dumped: Result<(), KeepCommandFault>,
-) -> Result<(), KeepCommandFault>
-    ensures { result ≡ ended_by reason dumped }
+/// The outcome of a dump. If the device is not followed any more, the reason is the fault.
+fn ended_by(dumped: Result<Option<Reason>, KeepCommandFault>) -> Result<(), KeepCommandFault>
+    ensures { result ≡ ended_by dumped }
 {
-    match reason {
-        Some(reason) => Err(reason_fault(reason)),
-        None => dumped,
+    match dumped {
+        Ok(None) => Ok(()),
+        Ok(Some(reason)) => Err(reason_fault(reason)),
+        Err(fault) => Err(fault),
     }
 }
 
@@ -118,10 +122,9 @@ pub fn dump_over<O: Opener, W: Outlet>(
     match opened {
         Ok(device) => {
             let mut device = device;
-            let dumped = dump_part(alloc, opener, &mut device, writer, part);
+            let dumped = dump_part(alloc, opener, name, &mut device, writer, part);
             drop(device);
-            let ended = opener.reason();
-            ended_by(ended, dumped)
+            ended_by(dumped)
         }
         Err(fault) => Err(KeepCommandFault::Opening(fault)),
     }

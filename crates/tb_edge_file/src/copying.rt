@@ -1,10 +1,10 @@
 //! A file copied into a new one: what can be read of it, or all of it if it is whole.
 ghost use Rattle.std.specs.Prelude.{◌≡◌, true};
-ghost use Rattle.tb_edge_file.specs.Copies.{copied_of, is_mended, mended_line, or_lost, copied_text, rescued_text, refused_by, Reports, NamesCopy, Rescues, EndsOrReadsOn, CopiesLong, CopiesFile, CopiesOver};
+ghost use Rattle.tb_edge_file.specs.Copies.{copied_of, is_mended, mended_line, or_lost, rescued_text, refused_by, EndsCopy, Reports, NamesCopy, Rescues, EndsOrReadsOn, CopiesLong, CopiesFile, CopiesOver};
 ghost use Rattle.tb_file.specs.Keeping.{IsUsable, IsFresh};
 ghost use Rattle.tb_edge_file.specs.Outcomes.{PrintsWhole, PrintsText};
-ghost use Rattle.tb_edge_file.specs.Ends.{OnDevice, known_reading};
-ghost use Rattle.tb_edge_file.specs.private.Stages.{CopiesHeadedOn, CopiesMendedOn, EndsSalvage, MakesCopyOn, NotesMendedOn};
+ghost use Rattle.tb_edge_file.specs.Ends.{known_reading};
+ghost use Rattle.tb_edge_file.specs.private.Stages.{CopiesHeadedOn, CopiesIntoOn, CopiesMendedOn, MakesCopyOn, NamesCopiedOn, NotesMendedOn};
 
 use crate::copies::{Copied, damage_of, salvage_outcome};
 use crate::ends::Files;
@@ -13,7 +13,7 @@ use crate::live::Live;
 use crate::mending::Mended;
 use crate::naming::named;
 use crate::openers::Opener;
-use crate::rescues::{Rescued, rescued_of};
+use crate::rescues::{Finished, Rescued, rescued_of};
 use std::alloc::Global;
 use std::format;
 use tb_file::{NotSalvaged, SalvageFault, Salvaged, StartFault, read_on, read_rules, salvage};
@@ -36,19 +36,6 @@ fn copied_of<N: Device>(salvaged: &Salvaged<N>, len: usize) -> Copied
     }
 }
 
-/// Writes what was copied.
-fn report<W: Sink>(alloc: Global, copied: Copied, writer: &mut W) -> Result<(), KeepCommandFault>
-    ensures { PrintsText (copied_text copied) result (W.output writer.old) (W.output writer.new) }
-{
-    match format!(in alloc; "{copied}") {
-        Ok(text) => match put_all(writer, text.as_bytes()) {
-            Ok(()) => Ok(()),
-            Err(_) => Err(KeepCommandFault::Device(Failed::Output)),
-        },
-        Err(_) => Err(KeepCommandFault::NoMemory),
-    }
-}
-
 /// Why a copy that ended so is refused: None if the file need not be whole.
 fn refused_by(whole: bool, stop: Option<StartFault>) -> Option<StartFault>
     ensures { result ≡ refused_by whole stop }
@@ -56,23 +43,32 @@ fn refused_by(whole: bool, stop: Option<StartFault>) -> Option<StartFault>
     if whole { stop } else { None }
 }
 
-/// Writes what was copied of a file of this many bytes; or refuses a damaged one if it was to be whole.
-fn end_copy<D: Device, N: Device + Drop, W: Sink>(
+/// The new file of what was copied of a file of this many bytes; or a damaged one is refused if it was to be whole.
+fn end_copy<D: Device, N: Device + Drop>(
     alloc: Global,
     from: &mut D,
     salvaged: Salvaged<N>,
     len: usize,
     whole: bool,
-    writer: &mut W,
-) -> Result<(), KeepCommandFault>
-    ensures { OnDevice W.Sink (EndsSalvage D.Device len whole salvaged result) from writer }
+) -> Result<Finished<N>, KeepCommandFault>
+    ensures { EndsCopy D.Device (refused_by whole salvaged.stop) (copied_of len salvaged) salvaged.keeper.journal.device result from.old from.new }
 {
     let copied = copied_of(&salvaged, len);
     let stop = salvaged.stop;
-    drop(salvaged);
+    let device = salvaged.keeper.into_device();
     match refused_by(whole, stop) {
-        Some(fault) => Err(named(alloc, from, fault)),
-        None => report(alloc, copied, writer),
+        Some(fault) => {
+            drop(device);
+            Err(named(alloc, from, fault))
+        }
+        None => Ok(Finished {
+            device,
+            rescued: Rescued {
+                copied,
+                more: 0,
+                first: 0,
+            },
+        }),
     }
 }
 
@@ -99,7 +95,7 @@ fn uncopied<D: Device, N: Device + Drop>(
     named_copy(alloc, from, fault)
 }
 
-/// Writes what was copied of a file that was also read on after its damage.
+/// Writes what was copied of a file, and read on after its damage.
 fn report_rescued<W: Sink>(
     alloc: Global,
     rescued: Rescued,
@@ -116,7 +112,7 @@ fn report_rescued<W: Sink>(
     }
 }
 
-/// Writes what was copied of a file that was also read on, and ends with what is lost of it.
+/// Writes what was copied of a file, and ends with what is lost of it.
 fn end_rescue<W: Sink>(
     alloc: Global,
     rescued: Rescued,
@@ -128,17 +124,16 @@ fn end_rescue<W: Sink>(
     salvage_outcome(rescued.copied, reported)
 }
 
-/// Reads a file of this many bytes on after what was copied of it, and writes what was copied.
-fn rescue<D: Live, N: Device + Drop, W: Sink>(
+/// Reads a file of this many bytes on after what was copied of it.
+fn rescue<D: Live, N: Device + Drop>(
     alloc: Global,
     from: &mut D,
     len: usize,
     salvaged: Salvaged<N>,
-    writer: &mut W,
-) -> Result<(), KeepCommandFault>
+) -> Result<Finished<N>, KeepCommandFault>
     requires usable { IsUsable salvaged.keeper }
     requires fresh { N.tells → IsFresh N.disk salvaged.keeper }
-    ensures { OnDevice W.Sink (Rescues (known_reading D.Device D.whole) N.Device len salvaged result) from writer }
+    ensures { Rescues (known_reading D.Device D.whole) N.Device len salvaged result from.old from.new }
 {
     let copied = copied_of(&salvaged, len);
     let end = salvaged.end as usize;
@@ -147,8 +142,8 @@ fn rescue<D: Live, N: Device + Drop, W: Sink>(
     match read_on(alloc, &mut keeper, from, end) {
         Ok(on) => {
             let rescued = rescued_of(copied, &keeper, on);
-            drop(keeper);
-            end_rescue(alloc, rescued, writer)
+            let device = keeper.into_device();
+            Ok(Finished { device, rescued })
         }
         Err(fault) => {
             drop(keeper);
@@ -158,60 +153,93 @@ fn rescue<D: Live, N: Device + Drop, W: Sink>(
 }
 
 /// Ends the copy of a file that is to be whole, and reads any other on.
-fn end_by<D: Live, N: Device + Drop, W: Sink>(
+fn end_by<D: Live, N: Device + Drop>(
     alloc: Global,
     from: &mut D,
     len: usize,
     salvaged: Salvaged<N>,
     whole: bool,
-    writer: &mut W,
-) -> Result<(), KeepCommandFault>
+) -> Result<Finished<N>, KeepCommandFault>
     requires usable { IsUsable salvaged.keeper }
     requires fresh { N.tells → IsFresh N.disk salvaged.keeper }
-    ensures { OnDevice W.Sink (EndsOrReadsOn (known_reading D.Device D.whole) N.Device whole len salvaged result) from writer }
+    ensures { EndsOrReadsOn (known_reading D.Device D.whole) N.Device whole len salvaged result from.old from.new }
 {
     if whole {
-        return end_copy(alloc, from, salvaged, len, true, writer);
+        return end_copy(alloc, from, salvaged, len, true);
     }
-    rescue(alloc, from, len, salvaged, writer)
+    rescue(alloc, from, len, salvaged)
 }
 
 /// Copies a file of this many bytes into a new one.
-fn copy_long<D: Live, N: Device + Drop, W: Sink>(
+fn copy_long<D: Live, N: Device + Drop>(
     alloc: Global,
     from: &mut D,
     len: usize,
     into: N,
     whole: bool,
-    writer: &mut W,
-) -> Result<(), KeepCommandFault>
+) -> Result<Finished<N>, KeepCommandFault>
     requires { N.tells → (N.disk into).sound ≡ true }
-    ensures { OnDevice W.Sink (CopiesLong (known_reading D.Device D.whole) N.Device len whole result into) from writer }
+    ensures { CopiesLong (known_reading D.Device D.whole) N.Device len whole result into from.old from.new }
 {
     match salvage(alloc, from, into) {
-        Ok(salvaged) => end_by(alloc, from, len, salvaged, whole, writer),
+        Ok(salvaged) => end_by(alloc, from, len, salvaged, whole),
         Err(failed) => Err(uncopied(alloc, from, failed)),
     }
 }
 
-/// Copies a file into a new one, up to its first damage and then each next entry that is after it, and writes what was copied. A damaged file
-/// that is to be whole is refused: the new one then has what is before the damage.
-pub(crate) fn copy<D: Live, N: Device + Drop, W: Sink>(
+/// Copies a file into a new one, up to its first damage and then each next entry that is after it. A damaged file that is to be whole is refused:
+/// the new one then has what is before the damage.
+pub(crate) fn copy<D: Live, N: Device + Drop>(
     alloc: Global,
     from: &mut D,
     into: N,
     whole: bool,
-    writer: &mut W,
-) -> Result<(), KeepCommandFault>
+) -> Result<Finished<N>, KeepCommandFault>
     requires { N.tells → (N.disk into).sound ≡ true }
-    ensures { OnDevice W.Sink (CopiesFile (known_reading D.Device D.whole) N.Device whole result into) from writer }
+    ensures { CopiesFile (known_reading D.Device D.whole) N.Device whole result into from.old from.new }
 {
     match from.file_len() {
-        Ok(len) => copy_long(alloc, from, len, into, whole, writer),
+        Ok(len) => copy_long(alloc, from, len, into, whole),
         Err(fault) => {
             drop(into);
             Err(disk_fault(fault))
         }
+    }
+}
+
+/// Gives a new file with all that was copied its name, and writes what was copied.
+fn name_copied<O: Opener, W: Sink>(
+    alloc: Global,
+    opener: &mut O,
+    finished: Finished<O::File>,
+    new: &str,
+    writer: &mut W,
+) -> Result<(), KeepCommandFault>
+    ensures { NamesCopiedOn ⟦<O as Files>⟧.its W.Sink new.now finished result opener writer }
+{
+    let Finished { device, rescued } = finished;
+    match opener.name_new(device, new) {
+        Ok(()) => end_rescue(alloc, rescued, writer),
+        Err(fault) => Err(KeepCommandFault::Naming(fault)),
+    }
+}
+
+/// Copies a file into one that was made for a name, which it then gets.
+fn copy_into<O: Opener, D: Live, W: Sink>(
+    alloc: Global,
+    opener: &mut O,
+    into: O::File,
+    new: &str,
+    from: &mut D,
+    whole: bool,
+    writer: &mut W,
+) -> Result<(), KeepCommandFault>
+    requires { O.File.tells → (O.File.disk into).sound ≡ true }
+    ensures { CopiesIntoOn ⟦<O as Files>⟧.its (known_reading D.Device D.whole) W.Sink new.now into whole result opener from writer }
+{
+    match copy(alloc, from, into, whole) {
+        Ok(finished) => name_copied(alloc, opener, finished, new, writer),
+        Err(fault) => Err(fault),
     }
 }
 
@@ -228,7 +256,7 @@ fn copy_made<O: Opener, D: Live, W: Sink>(
 {
     let made = opener.make_new(new);
     match made {
-        Ok(into) => copy(alloc, from, into, whole, writer),
+        Ok(into) => copy_into(alloc, opener, into, new, from, whole, writer),
         Err(fault) => Err(KeepCommandFault::Making(fault)),
     }
 }

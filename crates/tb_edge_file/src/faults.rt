@@ -1,6 +1,6 @@
 //! Why a command ends with an exit status other than 0.
 ghost use Rattle.std.specs.Prelude.{◌≡◌, ◌<◌};
-ghost use Rattle.tb_edge_file.specs.ExitStatuses.{is_of_head, fault_path, file_exit_status, opening_exit_status, new_fault, numbers_of, opened_fault, read_fault, reason_fault, refused_fault, disk_fault, dumped_fault, started_fault, kept_fault, item_fault, words_fault};
+ghost use Rattle.tb_edge_file.specs.ExitStatuses.{is_of_head, fault_path, file_exit_status, opening_exit_status, naming_exit_status, new_fault, numbers_of, opened_fault, read_fault, reason_fault, refused_fault, disk_fault, dumped_fault, started_fault, kept_fault, item_fault, words_fault};
 
 use crate::asides::{Reason, Uncopied};
 use crate::kinds::FileKind;
@@ -100,6 +100,8 @@ pub enum KeepCommandFault {
     Opening(OpeningFault),
     /// The new file was not made.
     Making(OpeningFault),
+    /// The new file has all that was copied, but did not get its name.
+    Naming(OpeningFault),
     /// There is no memory.
     NoMemory,
     /// What was read is no request, or no time is left for it.
@@ -273,6 +275,19 @@ impl OpeningFault {
             _ => 1,
         }
     }
+
+    /// The exit status if a new file did not get its name.
+    pub(crate) fn naming_status(self) -> u8
+        ensures failing { 0 < result }
+        ensures value { result ≡ naming_exit_status self }
+    {
+        match self {
+            Self::SyncFailed => 9,
+            Self::Exists => 2,
+            Self::Full => 8,
+            _ => 1,
+        }
+    }
 }
 
 impl KeepCommandFault {
@@ -281,7 +296,9 @@ impl KeepCommandFault {
         ensures { result.now ≡ fault_path self file.now new.now }
     {
         match self {
-            KeepCommandFault::Making(_) | KeepCommandFault::Device(Failed::New) => new,
+            KeepCommandFault::Making(_)
+            | KeepCommandFault::Naming(_)
+            | KeepCommandFault::Device(Failed::New) => new,
             _ => file,
         }
     }
@@ -294,6 +311,7 @@ impl KeepCommandFault {
         match self {
             KeepCommandFault::Opening(fault) | KeepCommandFault::Making(fault) =>
                 fault.exit_status(),
+            KeepCommandFault::Naming(fault) => fault.naming_status(),
             KeepCommandFault::SyncFailed => 9,
             KeepCommandFault::Usage | KeepCommandFault::Request(_) | KeepCommandFault::Item(_) => 2,
             KeepCommandFault::Device(_) | KeepCommandFault::NoMemory => 1,

@@ -1,15 +1,17 @@
 //! The entries of a file above a commit number, written as the file grows.
-ghost use Rattle.std.specs.Prelude.{◌≡◌, true, ℕ, List, IfOk, OnOk};
+ghost use Rattle.std.specs.Prelude.{◌≡◌, ℕ, List, IfOk};
 ghost use Rattle.tb_edge_file.specs.Following.{floor_of, start_of};
 ghost use Rattle.tb_edge_file.specs.Live.{LooksOnOk};
 ghost use Rattle.tb_edge_file.specs.Outcomes.{PrintsWhole};
 ghost use Rattle.tb_edge_file.specs.private.Stages.{FollowsAsked, HasHeldCause, HasRestCause, HasRoundCause, HasWholeCause, SendsMore, SendsOn, SendsRest, SendsUnread, WritesHeld, WritesUnread};
+ghost use Rattle.tb_edge_file.specs.Waiting.{EndsIf, EndsWaiting, written_by};
 
+use crate::asides::Reason;
 use crate::faults::{Failed, KeepCommandFault, disk_fault, dumped_fault, opened_fault};
 use crate::files::read_whole;
 use crate::live::Live;
 use crate::naming::named;
-use crate::openers::Opener;
+use crate::openers::{Opener, Waited};
 use crate::outlets::Outlet;
 use std::alloc::Global;
 use tb_file::{Rules, write_entries};
@@ -68,25 +70,27 @@ fn send_more<D: Live, W: Outlet>(
     }
 }
 
-/// As long as more entries are waited for, writes those that were committed meanwhile.
+/// As long as more entries are waited for, writes those that were committed meanwhile. Returns why the file is not followed any more, if that is so.
 fn send_on<O: Opener, W: Outlet>(
-    opener: &O,
+    opener: &mut O,
+    name: &str,
     scan: &mut Scan,
     device: &mut O::Reading,
     writer: &mut W,
     after: u64,
-) -> Result<(), KeepCommandFault>
-    ensures sends { SendsOn O.Reading.holds W.Sink result after scan device writer }
-    ensures ends { OnOk result (O.ended opener.now) }
-    ensures cause { HasRestCause O.Reading.Device result scan device }
+) -> Result<Option<Reason>, KeepCommandFault>
+    ensures sends { SendsOn O.Reading.holds W.Sink (written_by result) after scan device writer }
+    ensures ends { EndsWaiting (λ from. O.pauses from name.now) result opener.old opener.new }
+    ensures cause { HasRestCause O.Reading.Device (written_by result) scan device }
 {
     for _ in 0..u64::MAX {
-        if !opener.pause() {
-            return Ok(());
-        }
-        match send_more(scan, device, writer, after) {
-            Ok(()) => {}
-            Err(fault) => return Err(fault),
+        match opener.pause(name) {
+            Waited::More => match send_more(scan, device, writer, after) {
+                Ok(()) => {}
+                Err(fault) => return Err(fault),
+            },
+            Waited::Enough => return Ok(None),
+            Waited::Parted(reason) => return Ok(Some(reason)),
         }
     }
     // No machine comes to the end of so many rounds.
@@ -95,23 +99,24 @@ fn send_on<O: Opener, W: Outlet>(
 
 /// Writes the entries of a file of which nothing was read, and, if more are waited for, those that are committed meanwhile.
 fn send_entries<O: Opener, W: Outlet>(
-    opener: &O,
+    opener: &mut O,
+    name: &str,
     scan: &mut Scan,
     device: &mut O::Reading,
     writer: &mut W,
     after: u64,
     follows: bool,
-) -> Result<(), KeepCommandFault>
-    ensures sends { SendsUnread O.Reading.holds W.Sink result follows after scan device writer }
-    ensures ends { follows ≡ true → OnOk result (O.ended opener.now) }
-    ensures cause { HasWholeCause O.Reading.Device result scan device }
+) -> Result<Option<Reason>, KeepCommandFault>
+    ensures sends { SendsUnread O.Reading.holds W.Sink (written_by result) follows after scan device writer }
+    ensures ends { EndsIf (λ from. O.pauses from name.now) follows result opener.old opener.new }
+    ensures cause { HasWholeCause O.Reading.Device (written_by result) scan device }
 {
     match send_round(scan, device, writer, after) {
         Ok(()) => {
             if follows {
-                send_on(opener, scan, device, writer, after)
+                send_on(opener, name, scan, device, writer, after)
             } else {
-                Ok(())
+                Ok(None)
             }
         }
         Err(fault) => Err(fault),
@@ -148,21 +153,22 @@ fn floor_of(after: Option<u64>) -> u64
 
 /// Writes the part of a file's history that was asked for, of a file of these rules of which nothing was read.
 fn send_part<O: Opener, W: Outlet>(
-    opener: &O,
+    opener: &mut O,
+    name: &str,
     scan: &mut Scan,
     device: &mut O::Reading,
     rules: Rules,
     writer: &mut W,
     part: Part,
-) -> Result<(), KeepCommandFault>
-    ensures writes { WritesUnread O.Reading.holds W.Sink result part rules scan device writer }
-    ensures ends { part.follows ≡ true → OnOk result (O.ended opener.now) }
-    ensures cause { HasWholeCause O.Reading.Device result scan device }
+) -> Result<Option<Reason>, KeepCommandFault>
+    ensures writes { WritesUnread O.Reading.holds W.Sink (written_by result) part rules scan device writer }
+    ensures ends { EndsIf (λ from. O.pauses from name.now) part.follows result opener.old opener.new }
+    ensures cause { HasWholeCause O.Reading.Device (written_by result) scan device }
 {
     match send_start(writer, rules, part.after) {
         Ok(()) => {
             let after = floor_of(part.after);
-            send_entries(opener, scan, device, writer, after, part.follows)
+            send_entries(opener, name, scan, device, writer, after, part.follows)
         }
         Err(fault) => Err(fault),
     }
@@ -171,20 +177,21 @@ fn send_part<O: Opener, W: Outlet>(
 /// Writes the part of a file's history that was asked for, of a file of these rules.
 fn part_found<O: Opener, W: Outlet>(
     alloc: Global,
-    opener: &O,
+    opener: &mut O,
+    name: &str,
     device: &mut O::Reading,
     rules: Rules,
     writer: &mut W,
     part: Part,
-) -> Result<(), KeepCommandFault>
-    ensures writes { WritesHeld O.Reading.holds W.Sink result part rules device writer }
-    ensures ends { part.follows ≡ true → OnOk result (O.ended opener.now) }
-    ensures cause { HasHeldCause O.Reading.Device result device }
+) -> Result<Option<Reason>, KeepCommandFault>
+    ensures writes { WritesHeld O.Reading.holds W.Sink (written_by result) part rules device writer }
+    ensures ends { EndsIf (λ from. O.pauses from name.now) part.follows result opener.old opener.new }
+    ensures cause { HasHeldCause O.Reading.Device (written_by result) device }
 {
     match Scan::start(alloc, device) {
         Ok(scan) => {
             let mut scan = scan;
-            let sent = send_part(opener, &mut scan, device, rules, writer, part);
+            let sent = send_part(opener, name, &mut scan, device, rules, writer, part);
             drop(scan);
             sent
         }
@@ -193,18 +200,20 @@ fn part_found<O: Opener, W: Outlet>(
 }
 
 /// Writes the part of a file's history that was asked for: once, or as long as more is waited for. All of the file is read before anything is
-/// written.
+/// written. Returns why the file is not followed any more, if that is so.
 pub(crate) fn follow<O: Opener, W: Outlet>(
     alloc: Global,
-    opener: &O,
+    opener: &mut O,
+    name: &str,
     device: &mut O::Reading,
     writer: &mut W,
     part: Part,
-) -> Result<(), KeepCommandFault>
-    ensures { FollowsAsked O.Reading.Device W.Sink (O.ended opener.now) part result device writer }
+) -> Result<Option<Reason>, KeepCommandFault>
+    ensures dumps { FollowsAsked O.Reading.Device W.Sink part (written_by result) device writer }
+    ensures ends { EndsIf (λ from. O.pauses from name.now) part.follows result opener.old opener.new }
 {
     match read_whole(alloc, device) {
-        Ok(found) => part_found(alloc, opener, device, found.rules, writer, part),
+        Ok(found) => part_found(alloc, opener, name, device, found.rules, writer, part),
         Err(fault) => Err(named(alloc, device, fault)),
     }
 }

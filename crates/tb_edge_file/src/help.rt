@@ -38,10 +38,12 @@ macro_rules! page {
 "
   salvage FILE NEW                copies what is whole before the first damage into NEW, and what
                                   can be read after it, and prints what is lost and where; status 6
-                                  if bytes are lost. NEW must not exist"
+                                  if bytes are lost. NEW must not exist. It is NEW.part until all
+                                  of it is on the disk; the next salvage or backup to NEW begins
+                                  that again"
 "
   backup FILE NEW                 copies a whole FILE into NEW, which must not exist; status 6 if
-                                  FILE is damaged"
+                                  FILE is damaged. It is NEW.part until all of it is on the disk"
 "
 
 CLIENTS_MAX is 1 to 64, PROFILE 1 or 2; a file keeps those that it was made with. FILE is no

@@ -27,7 +27,7 @@
 //! - `naming`: what there is to say of a file that is refused.
 //! - `files`: `dump` and `check`, a file read without a write.
 //! - `copies`: what is reported of a file that was copied.
-//! - `rescues`: what is reported of a file that was read on after its damage.
+//! - `rescues`: what is reported of a file that was copied and read on after its damage, and its new file.
 //! - `copying`: `salvage` and `backup`, a file copied into a new one.
 //! - `following`: the entries of a file above a commit number, as it grows.
 //! - `keeping`: `run`, a ledger over a file served.
@@ -88,10 +88,10 @@ pub use kinds::FileKind;
 pub use lines::{print_named, refuse, refuse_words};
 pub use live::Live;
 pub use mending::Mended;
-pub use openers::{Opener, OpeningFault, opening_fault, unread_fault};
+pub use openers::{Opener, OpeningFault, Waited, opening_fault, unread_fault};
 pub use outlets::{Outgoing, Outlet};
 pub use places::{Named, Place};
 pub use reports::Reported;
-pub use rescues::Rescued;
+pub use rescues::{Finished, Rescued};
 pub use steady::Steady;
 pub use summaries::Summary;

@@ -1,6 +1,6 @@
 //! The lines of standard error.
 ghost use Rattle.std.specs.Prelude.{◌≡◌, ◌++◌, Some, [], codes, map, string_bytes, take};
-ghost use Rattle.tb_edge_file.specs.ExitStatuses.{file_exit_status, harm_text, unread_text, next_of, damaged_text, opening_text, making_text, failed_text, kind_text, numbers_text, both_text, mismatch_text, fault_text, item_text, lost_text, file_fault_line, reading_line, shown_words, said_text, wrong_line, usage_lines, counted_text, line_of, named, numbered, read_line, rules_text, said_with, PassesOn, Says, PrintsMade, PrintsCut, PrintsReading, PrintsReady, PrintsFrames};
+ghost use Rattle.tb_edge_file.specs.ExitStatuses.{file_exit_status, harm_text, unread_text, next_of, damaged_text, opening_text, making_text, naming_text, failed_text, kind_text, numbers_text, both_text, mismatch_text, fault_text, item_text, lost_text, file_fault_line, reading_line, shown_words, said_text, wrong_line, usage_lines, counted_text, line_of, named, numbered, read_line, rules_text, said_with, PassesOn, Says, PrintsMade, PrintsCut, PrintsReading, PrintsReady, PrintsFrames};
 ghost use Rattle.tb_edge_file.specs.Asides.{uncopied_text};
 ghost use Rattle.tb_edge_file.specs.Printable.{printable};
 ghost use Rattle.tb_edge_file.specs.private.Changes.{PutsText};
@@ -233,15 +233,21 @@ fn put_opening<E: Sink>(faults: &mut E, fault: OpeningFault, path: &str) -> Resu
     }
 }
 
-/// What to do if a sync of a new file failed.
-const NEW_SYNC: &str = ": it may be lost; remove it, look at the disk, and start again";
+/// What to do if a sync of a new file failed, after its path without `.part`.
+const NEW_SYNC: &str = ".part: it may be lost; look at the disk, and start again";
 
 /// The same if a read or a write of it failed.
-const NEW_DISK: &str = ": a read or write failed; remove it, look at the disk, and start again";
+const NEW_DISK: &str = ".part: a read or write failed; look at the disk, and start again";
 
 /// The same if there is no space for it.
 const NEW_FULL: &str =
-    ": the disk is full, or the file has its greatest length; remove it, free space, and start again";
+    ".part: the disk is full, or the file has its greatest length; remove it, free space, and start again";
+
+/// The same if another program writes it.
+const NEW_LOCKED: &str = ".part is open in another program; end that one first";
+
+/// The same if something else has its name.
+const NEW_NOT_A_FILE: &str = ".part is no regular file; move it elsewhere, or give another name";
 
 /// Writes why a new file of this path was not made, or not to its end.
 fn put_making<E: Sink>(faults: &mut E, fault: OpeningFault, path: &str) -> Result<(), FrameFault>
@@ -251,7 +257,39 @@ fn put_making<E: Sink>(faults: &mut E, fault: OpeningFault, path: &str) -> Resul
         OpeningFault::SyncFailed => put_named(faults, "SyncFailed: ", path, NEW_SYNC),
         OpeningFault::Unread => put_named(faults, "Device: ", path, NEW_DISK),
         OpeningFault::Full => put_named(faults, "Full: ", path, NEW_FULL),
+        OpeningFault::Locked => put_named(faults, "Locked: ", path, NEW_LOCKED),
+        OpeningFault::NotAFile => put_named(faults, "Device: ", path, NEW_NOT_A_FILE),
         fault => put_opening(faults, fault, path),
+    }
+}
+
+/// What to do if a new file has its name, and a sync of that failed.
+const NAME_SYNC: &str = ": its name may be lost; look at the disk, and copy the file again";
+
+/// The same if another file has the name by now.
+const NAME_EXISTS: &str =
+    ".part has all that was copied, and its name was taken meanwhile; give it another";
+
+/// The same if there is no space for the name.
+const NAME_FULL: &str =
+    ".part has all that was copied, and there is no space for its name; free space, and rename it";
+
+/// The same if the new file is not where it was made.
+const NAME_MOVED: &str = ".part was moved while it was written; copy the file again";
+
+/// The same if another call failed.
+const NAME_FAILED: &str = ".part has all that was copied, but did not get its name; rename it";
+
+/// Writes why a new file did not get this path as its name.
+fn put_naming<E: Sink>(faults: &mut E, fault: OpeningFault, path: &str) -> Result<(), FrameFault>
+    ensures { PutsText E.Sink result (naming_text fault path.now) faults }
+{
+    match fault {
+        OpeningFault::SyncFailed => put_named(faults, "SyncFailed: ", path, NAME_SYNC),
+        OpeningFault::Exists => put_named(faults, "Usage: ", path, NAME_EXISTS),
+        OpeningFault::Full => put_named(faults, "Full: ", path, NAME_FULL),
+        OpeningFault::Missing => put_named(faults, "Device: ", path, NAME_MOVED),
+        _ => put_named(faults, "Device: ", path, NAME_FAILED),
     }
 }
 
@@ -541,6 +579,7 @@ fn put_fault<E: Sink>(faults: &mut E, fault: KeepCommandFault, path: &str) -> Re
         KeepCommandFault::Device(which) => put_failed(faults, which, path),
         KeepCommandFault::Opening(fault) => put_opening(faults, fault, path),
         KeepCommandFault::Making(fault) => put_making(faults, fault, path),
+        KeepCommandFault::Naming(fault) => put_naming(faults, fault, path),
         KeepCommandFault::NoMemory => put_all(faults, b"NoMemory"),
         KeepCommandFault::Request(fault) => put_both(faults, fault.name(), REFUSED),
         KeepCommandFault::Item(fault) => put_item(faults, fault),

@@ -1,6 +1,7 @@
 //! What opens the device of a name.
-ghost use Rattle.std.specs.Prelude.{◌≡◌, Bool, false, true, ℕ, List, Option, Result, IfOk};
+ghost use Rattle.std.specs.Prelude.{◌≡◌, Bool, true, ℕ, List, Option, Result, IfOk};
 ghost use Rattle.tb_edge_file.specs.declared.openers.OpeningFault.{OpeningFault};
+ghost use Rattle.tb_edge_file.specs.declared.openers.Waited.{Waited};
 ghost use Rattle.tb_edge_file.specs.declared.asides.Reason.{Reason};
 ghost use Rattle.tb_edge_file.specs.ExitStatuses.{opening_fault, unread_fault};
 
@@ -76,6 +77,17 @@ pub fn unread_fault(fault: JournalFault) -> OpeningFault
     }
 }
 
+/// How a wait for more commits of a device that is read ended.
+#[derive(Clone, Copy, Debug, PartialEq, Eq)]
+pub enum Waited {
+    /// There may be more by now.
+    More,
+    /// Nobody waits for any.
+    Enough,
+    /// The device is not followed any more: its name leads to another one, or could not be looked at.
+    Parted(Reason),
+}
+
 /// What opens devices by their names, as a folder opens files.
 pub trait Opener {
     /// A file that is served, or made: nobody else serves it meanwhile.
@@ -96,11 +108,14 @@ pub trait Opener {
     /// What `open` may return: it makes nothing.
     ghost opens: { Self → List ℕ → Result Self.Reading OpeningFault → Self → Type 0 } = { λ before name answer after. Unit {0} };
 
-    /// What `make_new` may return: it makes a file that does not exist.
+    /// What `make_new` may return: it makes a file for a name that leads to none.
     ghost makes_new: { Self → List ℕ → Result Self.File OpeningFault → Self → Type 0 } = { λ before name answer after. Unit {0} };
 
-    /// Nobody waits for more commits, or they would be in another file. Anything, if an opener does not define it.
-    ghost ended: { Self → Type 0 } = { λ opener. Unit {0} };
+    /// What `name_new` may return: it gives a file that was made so the name, if that still leads to none.
+    ghost names_new: { Self → Self.File → List ℕ → Result (Unit {0}) OpeningFault → Self → Type 0 } = { λ before device name answer after. Unit {0} };
+
+    /// What `pause` may return: it waits for more commits of the device that was opened last.
+    ghost pauses: { Self → List ℕ → Waited → Self → Type 0 } = { λ before name answer after. Unit {0} };
 
     /// Opens the device of this name, and makes it if it is missing. No sync has failed on it.
     fn make(&mut self, name: &str) -> Result<Self::File, OpeningFault>
@@ -112,20 +127,25 @@ pub trait Opener {
         ensures taken { takes self.old name.now result self.new }
         ensures sound { Self.File.tells → IfOk result (λ device. (Self.File.disk device).sound ≡ true) };
 
-    /// Why a call on a device that it made or took failed, or why one that it opened is not followed any more, if it knows that.
+    /// Why a call on a device that it made or took failed, if it knows that.
     fn reason(&self) -> Option<Reason>
         ensures { reasons self.now result };
 
-    /// Makes the device of this name, which must not exist: if it does, Exists is returned. No sync has failed on it.
+    /// Makes a device for this name, which must lead to none: if it does, Exists is returned. It leads to the device only after `name_new`. No sync
+    /// has failed on it.
     fn make_new(&mut self, name: &str) -> Result<Self::File, OpeningFault>
         ensures made { makes_new self.old name.now result self.new }
         ensures sound { Self.File.tells → IfOk result (λ device. (Self.File.disk device).sound ≡ true) };
+
+    /// Gives a device that was made for this name the name. If that leads to another one by now, Exists is returned, and that one is as it was.
+    fn name_new(&mut self, device: Self::File, name: &str) -> Result<(), OpeningFault>
+        ensures { names_new self.old device name.now result self.new };
 
     /// Opens the device of this name, which exists, only for reading.
     fn open(&mut self, name: &str) -> Result<Self::Reading, OpeningFault>
         ensures { opens self.old name.now result self.new };
 
-    /// Waits a moment for more commits; false if nobody waits for any, or the name leads to another file by now.
-    fn pause(&self) -> bool
-        ensures { result ≡ false → ended self.now };
+    /// Waits a moment for more commits of the device of this name, which was opened last.
+    fn pause(&mut self, name: &str) -> Waited
+        ensures { pauses self.old name.now result self.new };
 }

@@ -1,7 +1,7 @@
 //! A file that is compared with what its name leads to, and whose bytes are set aside before they are cut off.
 ghost use Rattle.std.specs.Prelude.{◌≡◌, ◌⊎◌, ◌+◌, ◌-◌, ◌≤◌, ◌<◌, ◌^◌, Bool, true, false, ℕ, List, max, min, drop, length, IfOk, IfErr, OnOk};
 ghost use Rattle.tb_file_journal.specs.Device.{Cuts, HasFailed, IsLookedAt, IsOfCall, IsOfSync, Looks, SetsAside, Syncs, Writes};
-ghost use Rattle.tb_edge_file.specs.Places.{IsNothingAt, IsOnlyRead, named_disk};
+ghost use Rattle.tb_edge_file.specs.Places.{IsNothingAt, IsOnlyRead, named_disk, place_of};
 
 use crate::refusals::Refusals;
 use std::alloc::Global;
@@ -71,6 +71,13 @@ impl<D: Device + Drop, P: Place + Drop> Named<D, P> {
             refusals: Refusals::none(),
             lost: false,
         })
+    }
+
+    /// What its name leads to.
+    pub fn place(&self) -> &P
+        ensures { result.now ≡ place_of self.now }
+    {
+        &self.place
     }
 
     /// Says whether the name still leads to the file, as it did each time before.

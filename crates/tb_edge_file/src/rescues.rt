@@ -1,4 +1,4 @@
-//! What is reported of a file that was copied into a new one, and read on after its damage.
+//! What is reported of a file that was copied into a new one, and read on after its damage; and that new file.
 ghost use Rattle.std.specs.Prelude.{◌≡◌};
 ghost use Rattle.tb_edge_file.specs.Copies.{rescued_of};
 
@@ -16,6 +16,13 @@ pub struct Rescued {
     pub more: u64,
     /// The offset of the first of these.
     pub first: usize,
+}
+
+/// A new file with all that was copied, and what is reported of that. It has no name yet.
+#[derive(Drop)]
+pub struct Finished<N> {
+    pub device: N,
+    pub rescued: Rescued,
 }
 
 /// What was copied up to the damage, and then read on.

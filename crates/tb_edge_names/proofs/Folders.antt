@@ -46,7 +46,9 @@ changes folder file bytes = record {
 pub can_be_met : CanBeMet
 can_be_met = record {
   same = same;
-  follows = λ folder name status leads len. record { leads = leads; len = len; same = same folder };
+  finds_none = λ folder name error none. record { found = tt; missing = λ kind. none; same = same folder };
+  follows = λ folder name status leads len. record { leads = leads; len = len; missed = tt; same = same folder };
+  misses = λ folder name error none is. record { leads = tt; len = tt; missed = rw is none; same = same folder };
   identifies = λ folder status. record { is = refl; same = same folder };
   opens = λ folder name file leads. record { opened = leads; same = same folder };
   creates = λ folder name file none fresh. record {
@@ -81,6 +83,14 @@ can_be_met = record {
     durable = λ sound link x left. left;
     leads = refl;
     rest = record { names = λ other apart. (same folder).names other; files = (same folder).files };
+  };
+  links = λ folder name new none. record {
+    linked = record { none = none; leads = named folder new (folder.leads name); link = refl; sound_name = refl };
+    rest = record {
+      names = λ other apart. let kept = other_named folder new (folder.leads name) other apart in
+          record { leads = kept; link = refl; crash = λ x left. left ∙ kept; sound = refl };
+      files = λ file. record { bytes = refl; crash = λ x left. left; sound = refl };
+    };
   };
   removes = λ folder name. record {
     names = λ other apart. let kept = other_named folder name None other apart in

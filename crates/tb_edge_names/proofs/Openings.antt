@@ -1,14 +1,13 @@
 -- One call on names after the other, and what the file that was opened is then.
-use Rattle.std.proofs.Common.{◌≡◌, ◌≢◌, ℕ, true, List, length, None, Some, Result, Ok, Err, IfOk, sym, ◌∙◌, ap}
+use Rattle.std.proofs.Common.{◌≡◌, ◌≢◌, ℕ, true, List, Option, None, Some, Result, Ok, Err, IfOk, refl, sym, ◌∙◌, ap}
 use Rattle.tb_file_journal.specs.Device.{Disk, IsLookedAt, Syncs}
 use Rattle.tb_edge_file.specs.Names.{Creates, IsNew, IsUntouched, KeepsFile, KeepsName, Names, Opens, SyncsName}
 use Rattle.tb_edge_file.specs.declared.openers.OpeningFault.{OpeningFault}
-use Rattle.tb_edge_names.specs.Opening.{CreatesNew, MakesServed, Serves, TakesServed}
+use Rattle.tb_edge_names.specs.Opening.{MakesServed, OpensRead, Serves, TakesServed}
 use Rattle.tb_edge_names.specs.declared.served.Identity.{Identity}
-use Rattle.tb_edge_names.specs.declared.served.Status.{Status}
-use Rattle.tb_edge_names.specs.Served.{Follows, IsLed, IsOpenAt, IsReadFrom, IsServed, IsStillThere, KeepsFolder, MakesOnly, NameStays, OnlySyncs, file_number}
+use Rattle.tb_edge_names.specs.Served.{IsOpenAt, IsReadFrom, IsServed, IsStillThere, KeepsFolder, MakesOnly, NameStays, OnlySyncs, file_number}
 
-name_then : (a b c : Names) (name : List ℕ) → KeepsName a b name → KeepsName b c name → KeepsName a c name
+pub name_then : (a b c : Names) (name : List ℕ) → KeepsName a b name → KeepsName b c name → KeepsName a c name
 name_then a b c name first second = record {
   leads = second.leads ∙ first.leads;
   link = second.link ∙ first.link;
@@ -16,7 +15,7 @@ name_then a b c name first second = record {
   sound = second.sound ∙ first.sound;
 }
 
-file_then : (a b c : Names) (file : ℕ) → KeepsFile a b file → KeepsFile b c file → KeepsFile a c file
+pub file_then : (a b c : Names) (file : ℕ) → KeepsFile a b file → KeepsFile b c file → KeepsFile a c file
 file_then a b c file first second = record {
   bytes = second.bytes ∙ first.bytes;
   crash = λ x left. first.crash x (second.crash x left);
@@ -53,6 +52,11 @@ read_from numbered disk name file a b c opens seen same = record {
   leads = (same.names name).leads ∙ (opens.same.names name).leads ∙ opens.opened;
   seen = seen ∙ sym (same.files (numbered file)).bytes;
 }
+
+-- the file that was opened has this identity
+pub opened_is : {S : Type 0} (numbered : S → ℕ) (name : List ℕ) (file : S) (identity : Identity) (a b c : Names) → IsUntouched a b → Opens numbered name (Ok file) b c
+    → file_number identity ≡ numbered file → a.leads name ≡ Some (file_number identity)
+opened_is numbered name file identity a b c same opens is = sym (same.names name).leads ∙ opens.opened ∙ sym (ap (λ f. Some f) is)
 
 -- what is made
 
@@ -202,27 +206,15 @@ pub makes_none : {S D : Type 0} (numbered : S → ℕ) (locked : S → Type 0) (
     → MakesOnly name before after → MakesServed numbered locked disk name (Err fault) before after
 makes_none numbered locked disk name fault before after makes = record { makes = makes; serves = tt; durable = tt }
 
-pub creates_served : {S D : Type 0} (numbered : S → ℕ) (locked : S → Type 0) (disk : D → Disk) (name : List ℕ) (answer : Result D OpeningFault) (before after : Names)
-    (identity : Identity) (now : Disk) → before.leads name ≡ None → MakesOnly name before after → NameStays name before after
-    → IsServed numbered locked name identity now after → IfOk answer (λ device. IsStillThere now (disk device))
-    → CreatesNew numbered locked disk name answer before after
-creates_served numbered locked disk name answer before after identity now none makes stays is still = record {
-  none = of_ok answer (before.leads name ≡ None) none;
-  makes = makes;
-  serves = serves_then numbered locked disk name answer before after identity now is still;
-  durable = of_ok answer (NameStays name before after) stays;
+-- what is read
+
+pub opens_read : {E : Type 0} (name : List ℕ) (answer : Result E OpeningFault) (identity : Identity) (before after : Names) → IsUntouched before after
+    → before.leads name ≡ Some (file_number identity) → OpensRead name answer (Some identity) before after
+opens_read {E} name answer identity before after same leads = record {
+  same = same;
+  noted = of_ok answer ((file : Identity) × (Some identity ≡ Some file) × (before.leads name ≡ Some (file_number file))) (identity, refl, leads);
 }
 
-pub creates_none : {S D : Type 0} (numbered : S → ℕ) (locked : S → Type 0) (disk : D → Disk) (name : List ℕ) (fault : OpeningFault) (before after : Names)
-    → MakesOnly name before after → CreatesNew numbered locked disk name (Err fault) before after
-creates_none numbered locked disk name fault before after makes = record { none = tt; makes = makes; serves = tt; durable = tt }
-
--- a name was followed
-
-pub led : {F : Type 0} (names : F → Names) (name : List ℕ) (status : Status) (opened : Identity) (len : ℕ) (before after : F)
-    → Follows name (Ok status) (names before) (names after) → file_number status.identity ≡ file_number opened → status.len ≡ len → IsLed names name opened len
-led names name status opened len before after follows is long = record {
-  moment = before;
-  leads = follows.leads ∙ ap (λ f. Some f) is;
-  len_is = sym (ap (λ f. length ((names before).bytes f)) is) ∙ sym follows.len ∙ long;
-}
+pub opens_none : {E : Type 0} (name : List ℕ) (fault : OpeningFault) (reading : Option Identity) (before after : Names) → IsUntouched before after
+    → OpensRead {E = E} name (Err fault) reading before after
+opens_none name fault reading before after same = record { same = same; noted = tt }

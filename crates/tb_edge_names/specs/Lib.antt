@@ -1,5 +1,6 @@
 pub mod Folder
 pub mod Named
 pub mod Opening
+pub mod Parts
 pub mod Saved
 pub mod Served

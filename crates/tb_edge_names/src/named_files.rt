@@ -1,14 +1,21 @@
 //! What opens the files of a file system, by their names.
 ghost use Rattle.std.specs.Prelude.{◌≡◌, ◌≤◌, true, length, IfOk};
-ghost use Rattle.tb_edge_names.specs.Opening.{CreatesNew, MakesServed, OpensRead, TakesServed};
+ghost use Rattle.tb_edge_file.specs.Places.{place_of};
+ghost use Rattle.tb_edge_names.specs.Named.{Pauses, identity_of, reading_of};
+ghost use Rattle.tb_edge_names.specs.Opening.{MakesServed, OpensRead, TakesServed};
+ghost use Rattle.tb_edge_names.specs.Parts.{CreatesPart, NamesPart, part_name};
 ghost use Rattle.tb_edge_names.specs.Served.{IsStillThere};
 
+use crate::looks::look_for;
 use crate::names::{Copies, Name, Notes};
-use crate::opening::{Opened, create_new, open_existing, open_or_create, open_to_read};
+use crate::opening::{Opened, open_existing, open_or_create, open_to_read};
+use crate::parts::{create_part, name_part, part_name};
 use crate::served::{Identity, ServedFiles};
 use std::alloc::Global;
 use std::marker::PhantomData;
-use tb_edge_file::{Named, Opener, OpeningFault, Reason, Reported, opening_fault, unread_fault};
+use tb_edge_file::{
+    Named, Opener, OpeningFault, Reason, Reported, Waited, opening_fault, unread_fault,
+};
 use tb_file_journal::{Device, FileFault, Posix, Snapshot};
 use tb_records::Sink;
 
@@ -24,14 +31,11 @@ pub trait Surroundings {
 
     fn notes(&self) -> Self::Notes;
 
-    /// Why a call on a file failed, if that was noted.
+    /// Why a call on a file that is served failed, if that was noted.
     fn reason(&self) -> Option<Reason>;
 
-    /// A file of this identity was opened, to be read.
-    fn note_read(&mut self, opened: Identity);
-
-    /// Waits a moment; false if the name of the file that is read leads to another file by now, which is noted.
-    fn pause(&self) -> bool;
+    /// Waits a moment.
+    fn wait(&self);
 }
 
 /// The files of a file system, by their names.
@@ -40,6 +44,8 @@ pub struct NamedFiles<F, H, C> {
     alloc: Global,
     files: F,
     around: H,
+    // The file that was opened last to be read.
+    reading: Option<Identity>,
     // Whether it is reported how far a served file was read.
     reports: bool,
     copies: PhantomData<C>,
@@ -102,6 +108,7 @@ impl<F: ServedFiles + Drop, H: Surroundings + Drop, C: Copies> NamedFiles<F, H, 
             alloc,
             files,
             around,
+            reading: None,
             reports,
             copies: PhantomData,
         }
@@ -115,7 +122,8 @@ impl<F: ServedFiles + Drop, H: Surroundings + Drop, C: Copies> NamedFiles<F, H, 
         path: &str,
         reports: bool,
     ) -> Result<ServedFile<F, H, C>, OpeningFault>
-        ensures { F.Served.tells → IfOk result (λ device. IsStillThere (⟦<Posix<F::Served> as Device>⟧.disk opened.file) (⟦<ServedFile<F, H, C> as Device>⟧.disk device)) }
+        ensures identity { IfOk result (λ device. identity_of (place_of device) ≡ opened.identity) }
+        ensures there { F.Served.tells → IfOk result (λ device. IsStillThere (⟦<Posix<F::Served> as Device>⟧.disk opened.file) (⟦<ServedFile<F, H, C> as Device>⟧.disk device)) }
     {
         let Opened { file, identity } = opened;
         let lines = self.around.lines();
@@ -139,6 +147,32 @@ impl<F: ServedFiles + Drop, H: Surroundings + Drop, C: Copies> NamedFiles<F, H, 
             Err(fault) => Err(unread_fault(fault)),
         }
     }
+
+    /// Creates the file of a part, for this name.
+    #[tactic(auto, using(crate::proofs::NewFiles::creates_none))]
+    fn create(&mut self, part: &str, name: &str) -> Result<ServedFile<F, H, C>, OpeningFault>
+        ensures part { F.tells → F.Served.tells
+            → CreatesPart F.numbered F.locked (λ device. identity_of (place_of device)) (⟦<ServedFile<F, H, C> as Device>⟧.disk) part.now name.now result
+            (F.names self.old.files) (F.names self.new.files) }
+        ensures sound { F.Served.tells → IfOk result (λ device. (⟦<ServedFile<F, H, C> as Device>⟧.disk device).sound ≡ true) }
+    {
+        match create_part(&mut self.files, part, name) {
+            Ok(opened) => self.served(opened, part, false),
+            Err(fault) => Err(fault_of(&fault)),
+        }
+    }
+
+    /// Gives the file of a part this name.
+    #[tactic(auto, using(crate::proofs::NewFiles::part_named, crate::proofs::NewFiles::part_unnamed, crate::proofs::NewFiles::apart))]
+    fn give(&mut self, device: &ServedFile<F, H, C>, name: &str) -> Result<(), OpeningFault>
+        ensures { F.tells → NamesPart F.names (part_name name.now) name.now (identity_of (place_of device.now)) result (F.names self.new.files) }
+    {
+        let identity = device.place().identity();
+        match part_name(self.alloc, name) {
+            Ok(part) => name_part(&mut self.files, part.as_str(), name, identity),
+            Err(_) => Err(OpeningFault::NoMemory),
+        }
+    }
 }
 
 impl<F: ServedFiles + Drop, H: Surroundings + Drop, C: Copies> Opener for NamedFiles<F, H, C> {
@@ -152,10 +186,17 @@ impl<F: ServedFiles + Drop, H: Surroundings + Drop, C: Copies> Opener for NamedF
     ghost takes = { λ before name answer after. F.tells → F.Served.tells
         → TakesServed F.numbered F.locked (⟦<ServedFile<F, H, C> as Device>⟧.disk) name answer (F.names before.files) (F.names after.files) };
 
-    ghost opens = { λ before name answer after. F.tells → OpensRead name answer (F.names before.files) (F.names after.files) };
+    ghost opens = { λ before name answer after. F.tells → OpensRead name answer (reading_of after) (F.names before.files) (F.names after.files) };
+
+    ghost pauses = { λ before name answer after. F.tells
+        → Pauses (F.unseen after.files name) (reading_of before) (reading_of after) name answer (F.names after.files) };
 
     ghost makes_new = { λ before name answer after. F.tells → F.Served.tells
-        → CreatesNew F.numbered F.locked (⟦<ServedFile<F, H, C> as Device>⟧.disk) name answer (F.names before.files) (F.names after.files) };
+        → CreatesPart F.numbered F.locked (λ device. identity_of (place_of device)) (⟦<ServedFile<F, H, C> as Device>⟧.disk) (part_name name) name answer
+        (F.names before.files) (F.names after.files) };
+
+    ghost names_new = { λ before device name answer after. F.tells
+        → NamesPart F.names (part_name name) name (identity_of (place_of device)) answer (F.names after.files) };
 
     #[tactic(auto, using(crate::proofs::Openings::makes_served, crate::proofs::Openings::makes_none))]
     fn make(&mut self, name: &str) -> Result<Self::File, OpeningFault> {
@@ -180,26 +221,43 @@ impl<F: ServedFiles + Drop, H: Surroundings + Drop, C: Copies> Opener for NamedF
         self.around.reason()
     }
 
-    #[tactic(auto, using(crate::proofs::Openings::creates_served, crate::proofs::Openings::creates_none))]
+    #[tactic(auto, using(crate::proofs::NewFiles::part_created, crate::proofs::NewFiles::part_untouched))]
     fn make_new(&mut self, name: &str) -> Result<Self::File, OpeningFault> {
-        match create_new(&mut self.files, name) {
-            Ok(opened) => self.served(opened, name, false),
-            Err(fault) => Err(fault_of(&fault)),
+        match part_name(self.alloc, name) {
+            Ok(part) => self.create(part.as_str(), name),
+            Err(_) => Err(OpeningFault::NoMemory),
         }
     }
 
+    fn name_new(&mut self, device: Self::File, name: &str) -> Result<(), OpeningFault> {
+        let named = self.give(&device, name);
+        // It was locked until now.
+        drop(device);
+        named
+    }
+
+    #[tactic(auto, using(crate::proofs::Openings::opens_read, crate::proofs::Openings::opens_none))]
     fn open(&mut self, name: &str) -> Result<Self::Reading, OpeningFault> {
         match open_to_read(&mut self.files, name) {
             Ok(opened) => {
                 let Opened { file, identity } = opened;
-                self.around.note_read(identity);
+                self.reading = Some(identity);
                 Snapshot::new(self.alloc, file).map_err(|fault| unread_fault(fault))
             }
             Err(fault) => Err(fault_of(&fault)),
         }
     }
 
-    fn pause(&self) -> bool {
-        self.around.pause()
+    #[tactic(auto, using(crate::proofs::NameLooks::more, crate::proofs::NameLooks::parted))]
+    fn pause(&mut self, name: &str) -> Waited {
+        let Some(file) = self.reading else {
+            return Waited::Enough;
+        };
+        self.around.wait();
+        self.files.meanwhile();
+        match look_for(&mut self.files, name, file) {
+            Ok(_) => Waited::More,
+            Err(reason) => Waited::Parted(reason),
+        }
     }
 }

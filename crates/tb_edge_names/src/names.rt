@@ -1,12 +1,12 @@
 //! What the name of an open file leads to, and the copies of what is cut off it.
-ghost use Rattle.std.specs.Prelude.{◌≡◌, ℕ, Bool, true, false, string_bytes};
+ghost use Rattle.std.specs.Prelude.{◌≡◌, ℕ, Bool, true, false, OnOk, string_bytes};
 ghost use Rattle.tb_edge_names.specs.Named.{identity_of, path_of};
 ghost use Rattle.tb_edge_names.specs.Saved.{IsSaved};
 ghost use Rattle.tb_edge_names.specs.Served.{IsLed};
 
+use crate::looks::look_for;
 use crate::served::{Identity, ServedFiles};
 use std::alloc::Global;
-use std::io::ErrorKind;
 use std::marker::PhantomData;
 use tb_edge_file::{Place, Reason, copy_cut};
 use tb_file_journal::JournalFault;
@@ -60,17 +60,7 @@ pub struct Name<F, N, C> {
     path: String,
     opened: Identity,
     notes: N,
-    // Why the last look failed, if it did.
-    unseen: Option<Reason>,
     copies: PhantomData<C>,
-}
-
-/// Why a name does not lead to a file, by the fault of the look at it.
-fn unseen(kind: ErrorKind) -> Reason {
-    match kind {
-        ErrorKind::NotFound | ErrorKind::NotADirectory => Reason::Gone,
-        _ => Reason::Unseen,
-    }
 }
 
 impl<F: ServedFiles, N: Notes, C: Copies> Name<F, N, C> {
@@ -85,30 +75,28 @@ impl<F: ServedFiles, N: Notes, C: Copies> Name<F, N, C> {
             path,
             opened,
             notes,
-            unseen: None,
             copies: PhantomData,
         }
     }
 
-    /// Says whether the name leads to the file that was opened, and the file has this many bytes.
-    #[tactic(auto, using(crate::proofs::Openings::led))]
-    fn look(&mut self, len: usize) -> bool
-        ensures led { F.tells → result ≡ true → IsLed F.names (path_of self.old) (identity_of self.old) len }
+    /// The identity of the file that was opened.
+    pub fn identity(&self) -> Identity
+        ensures { result ≡ identity_of self.now }
+    {
+        self.opened
+    }
+
+    /// Looks at the name, which is to lead to the file that was opened, with this many bytes. If that is not so, the reason is returned.
+    #[tactic(auto, using(crate::proofs::NameLooks::led))]
+    fn look(&mut self, len: usize) -> Result<(), Reason>
+        ensures led { F.tells → OnOk result (IsLed F.names (path_of self.old) (identity_of self.old) len) }
     {
         self.files.meanwhile();
-        self.unseen = None;
-        match self.files.follow(self.path.as_str()) {
-            Ok(status) => {
-                if status.links == 0 || status.len != len as u64 {
-                    return false;
-                }
-                status.identity.is(self.opened)
-            }
-            Err(error) => {
-                self.unseen = Some(unseen(error.kind()));
-                false
-            }
+        let status = look_for(&mut self.files, self.path.as_str(), self.opened)?;
+        if status.links == 0 || status.len != len as u64 {
+            return Err(Reason::Gone);
         }
+        Ok(())
     }
 }
 
@@ -118,11 +106,13 @@ impl<F: ServedFiles, N: Notes, C: Copies> Place for Name<F, N, C> {
     ghost aside = { λ at bytes. C.is ≡ true → F.tells → IsSaved F.names bytes };
 
     fn leads(&mut self, len: usize) -> bool {
-        let leads = self.look(len);
-        if !leads {
-            self.notes.note(self.unseen.unwrap_or(Reason::Gone));
+        match self.look(len) {
+            Ok(()) => true,
+            Err(reason) => {
+                self.notes.note(reason);
+                false
+            }
         }
-        leads
     }
 
     fn set_aside(&mut self, at: usize, bytes: &[u8]) -> Result<(), JournalFault> {

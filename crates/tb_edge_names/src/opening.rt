@@ -1,5 +1,5 @@
 //! What opens a file: to serve it, to make it, or to read it.
-ghost use Rattle.std.specs.Prelude.{◌≡◌, ℕ, List, true, IfOk, None};
+ghost use Rattle.std.specs.Prelude.{◌≡◌, ℕ, List, true, IfOk, None, Some};
 ghost use Rattle.tb_edge_file.specs.Names.{IsUntouched};
 ghost use Rattle.tb_edge_names.specs.Served.{IsOpenAt, IsReadFrom, IsServed, KeepsFolder, MakesOnly, NameStays, OnlySyncs, file_number};
 
@@ -67,7 +67,7 @@ fn existing<F: ServedFiles>(files: &mut F, name: &str) -> Result<F::Served, File
 
 /// Creates a file that does not exist.
 #[tactic(auto, using(crate::proofs::Openings::made_new, crate::proofs::Openings::made_none, crate::proofs::Openings::new_at, crate::proofs::Openings::folder_new, crate::proofs::Openings::folder_same))]
-fn created<F: ServedFiles>(files: &mut F, name: &str) -> Result<F::Served, FileFault>
+pub(crate) fn created<F: ServedFiles>(files: &mut F, name: &str) -> Result<F::Served, FileFault>
     ensures makes { F.tells → MakesOnly name.now (F.names files.old) (F.names files.new) }
     ensures folder { F.tells → KeepsFolder name.now (F.names files.old) (F.names files.new) }
     ensures none { F.tells → IfOk result (λ _. (F.names files.old).leads name.now ≡ None) }
@@ -98,7 +98,10 @@ fn existing_or_created<F: ServedFiles>(files: &mut F, name: &str) -> Result<F::S
 
 /// Locks an open file, and syncs it.
 #[tactic(auto, using(crate::proofs::Openings::untouched_then, crate::proofs::Openings::served))]
-fn locked<F: ServedFiles>(files: &mut F, file: F::Served) -> Result<Opened<F::Served>, FileFault>
+pub(crate) fn locked<F: ServedFiles>(
+    files: &mut F,
+    file: F::Served,
+) -> Result<Opened<F::Served>, FileFault>
     ensures same { F.tells → IsUntouched (F.names files.old) (F.names files.new) }
     ensures served { F.tells → F.Served.tells → (name : List ℕ) → IsOpenAt F.numbered F.Served.disk name file (F.names files.old) → (F.Served.disk file).sound ≡ true
         → IfOk result (λ opened. IsServed F.numbered F.locked name opened.identity (⟦<Posix<F::Served> as Device>⟧.disk opened.file) (F.names files.new)) }
@@ -176,29 +179,16 @@ pub fn open_or_create<F: ServedFiles>(
     locked_with_name(files, name, file)
 }
 
-/// Creates a file that does not exist, with access for its owner only. It is locked, and its name is durable.
-#[tactic(auto, using(crate::proofs::Openings::made_syncs, crate::proofs::Openings::name_stays_since))]
-pub fn create_new<F: ServedFiles>(files: &mut F, name: &str) -> Result<Opened<F::Served>, FileFault>
-    ensures makes { F.tells → MakesOnly name.now (F.names files.old) (F.names files.new) }
-    ensures none { F.tells → IfOk result (λ _. (F.names files.old).leads name.now ≡ None) }
-    ensures served { F.tells → F.Served.tells
-        → IfOk result (λ opened. IsServed F.numbered F.locked name.now opened.identity (⟦<Posix<F::Served> as Device>⟧.disk opened.file) (F.names files.new)) }
-    ensures name { F.tells → IfOk result (λ _. NameStays name.now (F.names files.old) (F.names files.new)) }
-    ensures sound { F.Served.tells → IfOk result (λ opened. (⟦<Posix<F::Served> as Device>⟧.disk opened.file).sound ≡ true) }
-{
-    let file = created(files, name)?;
-    locked_with_name(files, name, file)
-}
-
 /// Opens a regular file that exists only for reading: it makes nothing, needs no write permission and takes no lock, so another process may append
 /// to it meanwhile. A write or a cut of it fails. A symbolic link to nothing is reported as such.
-#[tactic(auto, using(crate::proofs::Openings::untouched_then, crate::proofs::Openings::read_from))]
+#[tactic(auto, using(crate::proofs::Openings::untouched_then, crate::proofs::Openings::read_from, crate::proofs::Openings::opened_is))]
 pub fn open_to_read<F: ServedFiles>(
     files: &mut F,
     name: &str,
 ) -> Result<Opened<F::Served>, FileFault>
     ensures same { F.tells → IsUntouched (F.names files.old) (F.names files.new) }
     ensures read { F.tells → IfOk result (λ opened. IsReadFrom name.now (⟦<Posix<F::Served> as Device>⟧.disk opened.file) (F.names files.new)) }
+    ensures is { F.tells → IfOk result (λ opened. (F.names files.old).leads name.now ≡ Some (file_number opened.identity)) }
 {
     find_regular(files, name)?;
     let file = match files.open_read(name) {

@@ -1,7 +1,7 @@
 //! Files that are served, by the system's calls on their names.
-ghost use Rattle.std.specs.Prelude.{◌≡◌, ℕ, true, Ok, IfOk};
+ghost use Rattle.std.specs.Prelude.{◌≡◌, ◌≢◌, ℕ, List, false, true, Ok, IfOk};
 ghost use Rattle.tb_edge_file.specs.Names.{Creates, IsUntouched, Opens};
-ghost use Rattle.tb_edge_names.specs.Served.{Follows, Identifies, file_number};
+ghost use Rattle.tb_edge_names.specs.Served.{Follows, Identifies, Links, file_number};
 
 use std::io::Error;
 use tb_edge_file::FileSystem;
@@ -18,7 +18,8 @@ impl Identity {
     /// Says whether both are of one file.
     #[tactic(auto, unfolding(crate::specs::Served::file_number))]
     pub fn is(self, other: Identity) -> bool
-        ensures { result ≡ true → file_number self ≡ file_number other }
+        ensures same { result ≡ true → file_number self ≡ file_number other }
+        ensures other { result ≡ false → file_number self ≢ file_number other }
     {
         if self.device != other.device {
             return false;
@@ -54,9 +55,12 @@ pub trait ServedFiles: FileSystem {
     /// Others may have changed names and files. After it nothing is known of them.
     fn meanwhile(&mut self);
 
+    /// The last look at a name failed, and it is not known whether it leads to a file.
+    ghost unseen: { Self → List ℕ → Type 0 };
+
     /// What a name leads to.
     fn follow(&mut self, name: &str) -> Result<Status, Error>
-        ensures { Self.tells → Follows name.now result (Self.names self.old) (Self.names self.new) };
+        ensures { Self.tells → Follows (unseen self.new name.now) name.now result (Self.names self.old) (Self.names self.new) };
 
     /// What an open file is.
     fn identify(&mut self, file: &Self::Served) -> Result<Status, Error>
@@ -78,6 +82,10 @@ pub trait ServedFiles: FileSystem {
         ensures creates { Self.tells → Creates numbered name.now result (Self.names self.old) (Self.names self.new) }
         ensures seen { Self.tells → IfOk result (λ file. (Self.Served.disk file).seen ≡ (Self.names self.new).bytes (numbered file)) }
         ensures sound { Self.Served.tells → IfOk result (λ file. (Self.Served.disk file).sound ≡ true) };
+
+    /// Gives what has a name another one, which nothing has. A link is not followed.
+    fn link(&mut self, name: &str, new: &str) -> Result<(), Error>
+        ensures { Self.tells → Links name.now new.now result (Self.names self.old) (Self.names self.new) };
 
     /// Locks an open file; false if another process has locked it.
     fn lock(&mut self, file: &Self::Served) -> Result<bool, Error>

@@ -191,6 +191,8 @@ impl<'a> ServedFiles for HostNames<'a> {
 
     fn meanwhile(&mut self) {}
 
+    ghost unseen = { λ _ _. ⊥ };
+
     fn follow(&mut self, name: &str) -> Result<Status, Error> {
         let found = fs::metadata(&self.files, name)?;
         Ok(status_of(&found))
@@ -220,6 +222,10 @@ impl<'a> ServedFiles for HostNames<'a> {
         let how = how.read(true).write(true).create_new(true).mode(0o600);
         let file = how.open(&self.files, name)?;
         Ok(OpenFile { file })
+    }
+
+    fn link(&mut self, name: &str, new: &str) -> Result<(), Error> {
+        fs::hard_link(self.rt, name, new)
     }
 
     fn lock(&mut self, file: &OpenFile) -> Result<bool, Error> {

@@ -22,8 +22,6 @@ fn run<C: Copies>(
     let around = HostSurroundings {
         rt,
         reason: &reason,
-        path: command.file,
-        opened: None,
     };
     let files = HostNames::new(rt);
     let mut files = NamedFiles::<HostNames, HostSurroundings, C>::new(

@@ -2,12 +2,11 @@
 
 use crate::notes::HostNotes;
 use std::cell::Cell;
-use std::io::{BufWriter, ErrorKind, Stderr};
-use std::os::unix::fs::MetadataExt;
+use std::io::{BufWriter, Stderr};
+use std::thread;
 use std::time::Duration;
-use std::{fs, thread};
 use tb_edge_file::Reason;
-use tb_edge_names::{Identity, Surroundings};
+use tb_edge_names::Surroundings;
 use tb_records::Counting;
 
 /// The bytes of standard error that are buffered, so that a line goes out at once.
@@ -28,29 +27,8 @@ pub fn lines(rt: &HostRuntime) -> BufWriter<Stderr> {
 #[derive(Clone, Copy)]
 pub struct HostSurroundings<'a> {
     pub rt: &'a HostRuntime,
-    /// Why a call on the served file failed, or why a file is not followed any more, if that is known.
+    /// Why a call on the served file failed, if that is known.
     pub reason: &'a Cell<Option<Reason>>,
-    /// The path of the file that is read.
-    pub path: &'a str,
-    /// What that led to when it was opened.
-    pub opened: Option<Identity>,
-}
-
-/// Why a path does not lead to this file; None if it does.
-fn absence(rt: &HostRuntime, path: &str, opened: Option<Identity>) -> Option<Reason> {
-    match (fs::metadata(rt, path), opened) {
-        (Ok(found), Some(opened)) => {
-            if found.dev() == opened.device && found.ino() == opened.inode {
-                return None;
-            }
-            Some(Reason::Gone)
-        }
-        (Ok(_), None) => None,
-        (Err(error), _) => match error.kind() {
-            ErrorKind::NotFound | ErrorKind::NotADirectory => Some(Reason::Gone),
-            _ => Some(Reason::Unseen),
-        },
-    }
 }
 
 impl<'a> Surroundings for HostSurroundings<'a> {
@@ -73,14 +51,7 @@ impl<'a> Surroundings for HostSurroundings<'a> {
         self.reason.get()
     }
 
-    fn note_read(&mut self, opened: Identity) {
-        self.opened = Some(opened);
-    }
-
-    fn pause(&self) -> bool {
+    fn wait(&self) {
         thread::sleep(self.rt, Duration::from_millis(PAUSE_MS));
-        let reason = absence(self.rt, self.path, self.opened);
-        self.reason.set(reason);
-        reason.is_none()
     }
 }

@@ -5,14 +5,14 @@ use Rattle.tb_records.specs.declared.devices.Sink as sinks
 use Rattle.tb_file_journal.specs.declared.devices.Device as devices
 use Rattle.tb_file_journal.specs.Scans.{HasRead, ScanState}
 use Rattle.tb_file.specs.declared.recovering.Rules.{Rules}
-use Rattle.tb_file.specs.declared.salvaging.Salvaged.{Salvaged}
 use Rattle.tb_file.specs.Keeping.{Keeping}
 use Rattle.tb_edge_commands.specs.Streams.{Change, Streams, new, old}
 use Rattle.tb_edge_file.specs.declared.faults.KeepCommandFault.{KeepCommandFault}
 use Rattle.tb_edge_file.specs.declared.following.Part.{Part}
 use Rattle.tb_edge_file.specs.declared.ends.Pipes.{Pipes}
 use Rattle.tb_edge_file.specs.declared.keeping.FileStart.{FileStart}
-use Rattle.tb_edge_file.specs.Copies.{CopiesHeaded, CopiesMended, EndsCopy, MakesCopy, NotesMended, copied_of, refused_by}
+use Rattle.tb_edge_file.specs.declared.rescues.Finished.{Finished}
+use Rattle.tb_edge_file.specs.Copies.{CopiesHeaded, CopiesInto, CopiesMended, MakesCopy, NamesCopied, NotesMended}
 use Rattle.tb_edge_file.specs.Ends.{FileOutput, KnownEnds, KnownFiles, KnownReading, OnDevice, OnEnds, OnOpener, OnWriter, made_by}
 use Rattle.tb_edge_file.specs.Following.{EndsRounds, WritesGrown, GrowsBy, HasPartCause, RoundCause, SendsRound, WritesPart}
 use Rattle.tb_edge_file.specs.Outcomes.{DumpsPart, DumpsFollowing, FileOutcome, ServesFile, ServesKept, ServesLong, ServesOpened, file_of}
@@ -28,17 +28,13 @@ module _ {D : Type 0} (its : devices.Ghosts D) (outcome : FileOutcome) where
   abbrev pub RunsFile : FileStart → D → Streams → Streams → Type 0
   RunsFile start device = ServesFile its outcome (file_of start) start.reports device
 
--- what is written about a file of this many bytes that was copied, or why it is refused
-abbrev pub EndsSalvage : {E N : Type 0} → devices.Ghosts E → ℕ → Bool → Salvaged N → FileOutcome → FileOutput E → FileOutput E → Type 0
-EndsSalvage its len whole salvaged outcome = EndsCopy its (refused_by whole salvaged.stop) (copied_of len salvaged) outcome
-
 -- the part of a dump that was asked for, from what a device holds
-module _ {D W : Type 0} (its : devices.Ghosts D) (sink : sinks.Ghosts W) (Ended : Type 0) (part : Part) (outcome : FileOutcome) where
+module _ {D W : Type 0} (its : devices.Ghosts D) (sink : sinks.Ghosts W) (part : Part) (outcome : FileOutcome) where
   abbrev pub DumpsAsked : Change D → Change W → Type 0
-  DumpsAsked device writer = OnDevice sink (DumpsPart its Ended part.after part.follows outcome) device writer
+  DumpsAsked device writer = OnDevice sink (DumpsPart its part.after part.follows outcome) device writer
 
   abbrev pub FollowsAsked : Change D → Change W → Type 0
-  FollowsAsked device writer = OnDevice sink (DumpsFollowing its Ended part.after part.follows outcome) device writer
+  FollowsAsked device writer = OnDevice sink (DumpsFollowing its part.after part.follows outcome) device writer
 
 -- a copy, over the files of a command
 module _ {O D E W : Type 0} (its : KnownFiles O D E) (sink : sinks.Ghosts W) where
@@ -48,7 +44,13 @@ module _ {O D E W : Type 0} (its : KnownFiles O D E) (sink : sinks.Ghosts W) whe
   abbrev pub CopiesMendedOn : List ℕ → KeepCommandFault → FileOutcome → E → Change O → Change W → Type 0
   CopiesMendedOn into refused outcome from opener writer = OnOpener sink (CopiesMended its into refused outcome from) opener writer
 
+  abbrev pub NamesCopiedOn : List ℕ → Finished D → FileOutcome → Change O → Change W → Type 0
+  NamesCopiedOn name finished outcome opener writer = OnOpener sink (NamesCopied its name finished outcome) opener writer
+
 module _ {O D E F W : Type 0} (its : KnownFiles O D E) (reading : KnownReading F) (sink : sinks.Ghosts W) where
+  abbrev pub CopiesIntoOn : List ℕ → D → Bool → FileOutcome → Change O → Change F → Change W → Type 0
+  CopiesIntoOn name into whole outcome opener from writer = OnOpener sink (CopiesInto its name reading into whole outcome (old from) (new from)) opener writer
+
   abbrev pub MakesCopyOn : List ℕ → Bool → FileOutcome → Change O → Change F → Change W → Type 0
   MakesCopyOn into whole outcome opener from writer =
       OnDevice sink (MakesCopy its into reading (old opener) (new opener) whole outcome) from writer

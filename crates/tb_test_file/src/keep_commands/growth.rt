@@ -3,10 +3,11 @@ use crate::keep::dumps::dump_of;
 use crate::keep::scripts::kept_bytes;
 use crate::steps::{copy_of, expect, expect_begin, expect_given, sure};
 use std::alloc::Global;
-use std::cell::Cell;
 use std::io::BufWriter;
 use std::process::Abort;
-use tb_edge_file::{Opener, OpeningFault, Outgoing, Outlet, Part, Reason, check_over, dump_over};
+use tb_edge_file::{
+    Opener, OpeningFault, Outgoing, Outlet, Part, Reason, Waited, check_over, dump_over,
+};
 use tb_file_journal::{Growing, JournalFault, Memory, Snapshot};
 use tb_records::Counting;
 
@@ -69,7 +70,7 @@ fn growing_ledger(rt: &impl Abort, alloc: Global) -> Growth<Memory> {
 struct Growths {
     alloc: Global,
     file: Option<Growth<Memory>>,
-    pauses: Cell<u32>,
+    pauses: u32,
 }
 
 impl Opener for Growths {
@@ -93,6 +94,11 @@ impl Opener for Growths {
         Err(OpeningFault::Forbidden)
     }
 
+    fn name_new(&mut self, device: Memory, _name: &str) -> Result<(), OpeningFault> {
+        drop(device);
+        Err(OpeningFault::Forbidden)
+    }
+
     fn open(&mut self, _name: &str) -> Result<Snapshot<Growth<Memory>>, OpeningFault> {
         match self.file.take() {
             Some(file) => { Snapshot::new(self.alloc, file).map_err(|_| OpeningFault::NoMemory) }
@@ -100,10 +106,14 @@ impl Opener for Growths {
         }
     }
 
-    fn pause(&self) -> bool {
-        let left = self.pauses.get();
-        self.pauses.set(left.saturating_sub(1));
-        left > 0
+    fn pause(&mut self, _name: &str) -> Waited {
+        match self.pauses.checked_sub(1) {
+            Some(left) => {
+                self.pauses = left;
+                Waited::More
+            }
+            None => Waited::Enough,
+        }
     }
 }
 
@@ -112,7 +122,7 @@ fn folder(rt: &impl Abort, alloc: Global, pauses: u32) -> Growths {
     Growths {
         alloc,
         file: Some(growing_ledger(rt, alloc)),
-        pauses: Cell::new(pauses),
+        pauses,
     }
 }
 

@@ -32,7 +32,7 @@ returns-in-Err g c = record {
     untouched = c.in-Err.ensures.untouched;
     cause_old = c.in-Err.ensures.cause_old;
   };
-  copies = (c.uncopied.result, refl, c.uncopied.ensures, refl);
+  copies = (c.uncopied.result, refl, c.uncopied.ensures);
 }
 
 pub end_by-requires-clause-usable : goal.end_by-requires-clause-usable

@@ -1,5 +1,5 @@
 use Rattle.std.proofs.Common.{Ok, Err, refl}
-use Rattle.tb_edge_file.proofs.CopiedFiles.{rescued_printed}
+use Rattle.tb_edge_file.proofs.CopiedFiles.{rescued}
 use Rattle.tb_edge_file.proofs.copying.rescue.Goals as goal
 
 pub returns-in-Ok : goal.returns-in-Ok
@@ -12,7 +12,7 @@ returns-in-Ok g c = record {
   keeper = c.read_on.new.keeper;
   on = c.in-Ok.ensures.on;
   any_moment = c.in-Ok.ensures.any_moment;
-  ends = (rescued_printed _ _ _ c.read_on.new.keeper.state c.in-Ok.on _ _ _ c.rescued_of-rescued.ensures c.copied_of-copied.ensures c.end_rescue.ensures, refl);
+  ends = (rescued _ _ _ c.read_on.new.keeper.state c.in-Ok.on _ _ c.rescued_of-rescued.ensures c.copied_of-copied.ensures c.into_device-device.ensures, refl);
 }
 
 pub returns-in-Err : goal.returns-in-Err
@@ -25,5 +25,5 @@ returns-in-Err g c = record {
   keeper = c.read_on.new.keeper;
   on = tt;
   any_moment = c.in-Err.ensures.any_moment;
-  ends = (c.named_copy.result, refl, c.named_copy.ensures, refl);
+  ends = (c.named_copy.result, refl, c.named_copy.ensures);
 }
