@@ -1,7 +1,7 @@
 // Load is a closed loop of workers that each have one request under way, and an echo server to
 // measure it by. It prints one line of JSON.
 //
-//	load [-workers N] [-connections N] [-items K] [-seconds S] [-warm S] [-pids A,B] ADDRESS
+//	load [-workers N] [-connections N] [-items K] [-rest S] [-seconds S] [-warm S] [-pids A,B] ADDRESS
 //	load [-workers N] [-items K] .. -- COMMAND [WORD ..]
 //	load -echo ADDRESS
 //
@@ -22,7 +22,7 @@ import (
 
 type options struct {
 	workers, connections, items int
-	seconds, warm               float64
+	seconds, warm, rest         float64
 	pids                        string
 	isEcho                      bool
 }
@@ -34,6 +34,7 @@ func main() {
 	flag.IntVar(&given.workers, "workers", 1, "sessions, each with one request under way")
 	flag.IntVar(&given.connections, "connections", 0, "of all workers (one of each)")
 	flag.IntVar(&given.items, "items", 1, "transfers in a request")
+	flag.Float64Var(&given.rest, "rest", 0, "seconds of each worker after a reply")
 	flag.Float64Var(&given.seconds, "seconds", 1, "that are measured")
 	flag.Float64Var(&given.warm, "warm", 0.3, "seconds before that")
 	flag.StringVar(&given.pids, "pids", "", "processes whose CPU time is measured")

@@ -22,6 +22,7 @@ type worker struct {
 	count       int
 	sent        time.Time
 	figures     []figure
+	rest        time.Duration // after a reply
 }
 
 // dialed connects to an address, again if the queue of a Unix socket is full.
@@ -51,7 +52,7 @@ func dial(address string) (net.Conn, error) {
 func connected(given options, address string) ([]*worker, error) {
 	workers := make([]*worker, given.workers)
 	for at := range workers {
-		workers[at] = &worker{data: make([]byte, 4096)}
+		workers[at] = &worker{data: make([]byte, 4096), rest: duration(given.rest)}
 	}
 	for at := 0; at < given.connections; at++ {
 		it, err := dialed(address)
@@ -75,15 +76,15 @@ func connected(given options, address string) ([]*worker, error) {
 	return workers, nil
 }
 
-// overSockets is a load over sockets: by one thread, or by a goroutine for each worker over TLS and
-// for batches, which a thread would send one after another.
+// overSockets is a load over sockets: by one thread, or by a goroutine for each worker over TLS, for
+// workers that rest, and for batches, which a thread would send one after another.
 func overSockets(given options, address string) loop {
 	return func() (func(time.Time) error, []*worker, error) {
 		workers, err := connected(given, address)
 		if err != nil {
 			return nil, nil, err
 		}
-		if strings.HasPrefix(address, "tls:") || given.items > 256 {
+		if strings.HasPrefix(address, "tls:") || given.rest > 0 || given.items > 256 {
 			return func(end time.Time) error { return byGoroutines(workers, end) }, workers, nil
 		}
 		for _, it := range workers {
@@ -170,6 +171,7 @@ func (w *worker) run(end time.Time) error {
 				return err
 			}
 		}
+		time.Sleep(w.rest)
 	}
 	return nil
 }

@@ -37,6 +37,24 @@ type Backend interface {
 	Kill()
 }
 
+// OverLog is a backend over an agreed log.
+type OverLog interface {
+	Backend
+	// LogNumbers are those of the log, as this replica has it.
+	LogNumbers() LogNumbers
+}
+
+// LogNumbers are those of an agreed log, as a replica has it.
+type LogNumbers struct {
+	Position     uint64         // of the last entry that was read
+	Answered     uint64         // up to which the server has answered
+	First        uint64         // the first entry that the log still has; 0 before that was read
+	Ahead        time.Duration  // by which the log's last moment is ahead of the clock
+	CopyPosition uint64         // up to which the copy is on the disk
+	CopyBytes    int64          // of the copy
+	Rotten       map[string]int // how many entries each node has lost or changed
+}
+
 // Asker is who waits for the reply to a request.
 type Asker interface {
 	// Answered takes the reply, whose bytes are another's afterwards. If it is nil, why is the name of

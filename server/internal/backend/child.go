@@ -12,6 +12,7 @@ import (
 
 	"telovamish.org/server/internal/config"
 	"telovamish.org/server/internal/moments"
+	"telovamish.org/server/internal/process"
 	"telovamish.org/server/internal/report"
 )
 
@@ -19,11 +20,7 @@ const (
 	emptyMax = 13           // bytes below which a journal's file has no entry
 	progress = "--progress" // the option that has `tbd run` report when it serves
 	existing = "--existing" // the option that has it make no file
-	steady   = time.Minute  // after which a command that ends is one that was well until then
 )
-
-// pauses are before the command is started again; the last one from then on.
-var pauses = []time.Duration{100 * time.Millisecond, 500 * time.Millisecond, 2 * time.Second, 5 * time.Second}
 
 // news is what a server that keeps its ledger reports besides faults.
 var news = regexp.MustCompile(
@@ -44,7 +41,7 @@ type Child struct {
 
 	mu        sync.Mutex
 	words     []string
-	process   *process
+	process   *process.Process
 	hasBegun  bool
 	isClosed  bool
 	isGivenUp bool // it was killed before it took a request
@@ -102,24 +99,16 @@ func (c *Child) run() error {
 		c.serves()
 		c.mu.Unlock()
 	}
-	for lives, quick := 0, 0; ; quick++ {
+	var restarts process.Restarts
+	for lives := 0; ; lives++ {
 		began := time.Now()
 		ended, err := c.runOnce(lives)
 		if err != nil || ended == "" {
 			return err
 		}
-		lives++
-		if time.Since(began) > steady {
-			quick = 0
-		}
-		pause := pauses[len(pauses)-1]
-		if quick < len(pauses) {
-			pause = pauses[quick]
-		}
+		pause := restarts.Next(time.Since(began))
 		c.log.Say(report.Warning, "%s, and is started again in %g s", ended, pause.Seconds())
-		select {
-		case <-time.After(pause):
-		case <-c.stopping:
+		if process.Within(c.stopping, pause) {
 			return report.End(1, "%s, and is not started again", ended)
 		}
 	}
@@ -128,7 +117,7 @@ func (c *Child) run() error {
 // runOnce runs the command once, and returns how it ended if it is started again.
 func (c *Child) runOnce(lives int) (string, error) {
 	status, line, err := c.live()
-	var want *wanting
+	var want *process.Wanting
 	switch {
 	case errors.As(err, &want) && lives > 0:
 		return want.Line, nil
@@ -148,107 +137,58 @@ func (c *Child) runOnce(lives int) (string, error) {
 
 // endBySignal is how the command ended, if it may be started again.
 func (c *Child) endBySignal(status int, line string) (string, error) {
-	number := signalOf(status)
-	ended := status
-	switch {
-	case number != 0 || status == 0:
-		ended = 1
-	case line != "":
-		return "", report.End(status, "%s", line)
+	why, bySignal := process.Ended(c.words[0], status, line)
+	if !bySignal || !c.keeps() || c.isStopping() {
+		return "", why
 	}
-	if line != "" && number == 0 {
-		return "", report.End(ended, "%s", line)
-	}
-	how := c.words[0] + " ended " + endOf(status)
-	if line != "" {
-		how += " (" + line + ")"
-	}
-	if number == 0 || !c.keeps() || c.isStopping() {
-		return "", report.End(ended, "%s", how)
-	}
-	return how, nil
+	return why.Line, nil
 }
 
-func (c *Child) isStopping() bool {
-	select {
-	case <-c.stopping:
-		return true
-	default:
-		return false
-	}
-}
+func (c *Child) isStopping() bool { return process.Within(c.stopping, 0) }
 
 // live runs the command from its start to its end. It returns its status and its last line.
 func (c *Child) live() (int, string, error) {
-	p, err := start(c.words, c.commits.end)
+	p, err := process.Start(c.words, c.commits.end)
 	if err != nil {
 		return 0, "", err
 	}
-	pipe, err := newOutgoing(p.stdin)
+	pipe, err := newOutgoing(p.Stdin)
 	if err != nil {
 		return 0, "", err
 	}
 	name := c.words[0] // before settle, which makes other words
-	said := goes(func() string {
-		return tail(p.stderr, func(line string) bool { return c.isNews(p, pipe, line) })
+	said := process.Goes(func() string {
+		return p.Stderr.Tail(func(line string) bool { return c.isNews(p, pipe, line) })
 	})
 	c.begin(p, pipe)
-	read := goes(func() error { return c.readReplies(p, name) })
+	read := process.Goes(func() error { return c.readReplies(p, name) })
 	select {
-	case <-read.done:
-	case <-p.exited:
+	case <-read.Done:
+	case <-p.Exited:
 	case <-pipe.broke: // it may live on
 	}
-	within(read.done, lastWords) // what it wrote before it ended is read to its end
+	process.Within(read.Done, process.LastWords) // what it wrote before it ended is read to its end
 	c.leave(said)
-	if err := c.waitForEnd(p, said.done, read.done); err != nil {
+	if err := p.End(c.patience, said.Done, read.Done); err != nil {
 		return 0, "", err
 	}
-	return p.status, lastLine(said.result), read.result
-}
-
-// task is what a goroutine does, and its result once that is done.
-type task[T any] struct {
-	result T
-	done   chan struct{}
-}
-
-func goes[T any](do func() T) *task[T] {
-	it := &task[T]{done: make(chan struct{})}
-	go func() {
-		defer report.Guard()
-		it.result = do()
-		close(it.done)
-	}()
-	return it
-}
-
-// within reports whether a channel is closed within a time.
-func within(it <-chan struct{}, wait time.Duration) bool {
-	timer := time.NewTimer(wait)
-	defer timer.Stop()
-	select {
-	case <-it:
-		return true
-	case <-timer.C:
-		return false
-	}
+	return p.Status(), process.LastLine(said.Result), read.Result
 }
 
 // readReplies reads what the process writes, until there is no more. One that writes what is no reply
 // is killed.
-func (c *Child) readReplies(p *process, name string) error {
-	if c.queue.readReplies(p.stdout) {
+func (c *Child) readReplies(p *process.Process, name string) error {
+	if c.queue.readReplies(p.Stdout) {
 		return nil
 	}
-	if err := p.kill(); err != nil {
+	if err := p.Kill(); err != nil {
 		return err
 	}
 	return report.End(1, "%s wrote what is no reply to a request that it was given", name)
 }
 
 // begin has pairs written to a process. One that keeps no ledger takes requests at once.
-func (c *Child) begin(p *process, pipe *outgoing) {
+func (c *Child) begin(p *process.Process, pipe *outgoing) {
 	c.mu.Lock()
 	c.process = p
 	isClosed := c.isClosed
@@ -257,7 +197,7 @@ func (c *Child) begin(p *process, pipe *outgoing) {
 }
 
 // isNews takes a line of a start, or that the process serves. It reports that the line is no fault.
-func (c *Child) isNews(p *process, pipe *outgoing, line string) bool {
+func (c *Child) isNews(p *process.Process, pipe *outgoing, line string) bool {
 	if !c.keeps() {
 		return false
 	}
@@ -274,9 +214,9 @@ func (c *Child) isNews(p *process, pipe *outgoing, line string) bool {
 }
 
 // settle lets requests be taken, once all that the process wrote at its start is counted.
-func (c *Child) settle(p *process, pipe *outgoing) {
+func (c *Child) settle(p *process.Process, pipe *outgoing) {
 	defer report.Guard()
-	for until := time.Now().Add(time.Second); !isAsleep(p.pid) && time.Now().Before(until); {
+	for until := time.Now().Add(time.Second); !isAsleep(p.Pid()) && time.Now().Before(until); {
 		time.Sleep(time.Millisecond)
 	}
 	c.mu.Lock()
@@ -302,42 +242,16 @@ func (c *Child) serves() {
 }
 
 // leave has no more written to a process that ended, or is to end, and answers those that wait.
-func (c *Child) leave(said *task[string]) {
+func (c *Child) leave(said *process.Task[string]) {
 	c.mu.Lock()
 	c.process = nil
 	c.mu.Unlock()
 	c.queue.leave()
 	endedAs := programEnded
-	if within(said.done, lastWords) {
-		endedAs = FaultName(lastLine(said.result))
+	if process.Within(said.Done, process.LastWords) {
+		endedAs = FaultName(process.LastLine(said.Result))
 	}
 	c.queue.lost(endedAs)
-}
-
-// waitForEnd waits until a process that gets no more requests has ended, and what it started. It kills
-// them if they do not end.
-func (c *Child) waitForEnd(p *process, pipes ...<-chan struct{}) error {
-	defer p.close()
-	areDone := func(wait time.Duration) bool {
-		until := time.Now().Add(wait)
-		for _, it := range pipes {
-			if !within(it, time.Until(until)) {
-				return false
-			}
-		}
-		return true
-	}
-	if within(p.exited, c.patience) && areDone(lastWords) {
-		return nil
-	}
-	if err := p.kill(); err != nil { // with what it started, which may have the ledger's file open
-		return err
-	}
-	areDone(lastWords)
-	p.close()
-	areDone(time.Hour)
-	<-p.exited
-	return nil
 }
 
 // momentsOf are moments that go on where the ledger is. It is a fault if that is ahead of the clock, and
@@ -391,9 +305,9 @@ func (c *Child) lastTime() (int64, error) {
 		return 0, err
 	}
 	if status != 0 {
-		line := lastLine(said)
+		line := process.LastLine(said)
 		if line == "" {
-			line = name + " ended " + endOf(status)
+			line = name + " ended " + process.EndOf(status)
 		}
 		if status < 0 {
 			status = 1
@@ -414,31 +328,31 @@ func (c *Child) lastTime() (int64, error) {
 // finished is the output of a command that is written nothing, what it said last, and its status. It is
 // killed if the host is to end.
 func (c *Child) finished(words []string) (string, string, int, error) {
-	p, err := start(words, func(*process) {})
+	p, err := process.Start(words, nil)
 	if err != nil {
-		var want *wanting
+		var want *process.Wanting
 		if errors.As(err, &want) {
 			err = want.Ended
 		}
 		return "", "", 0, err
 	}
-	defer p.close()
-	p.stdin.Close()
-	said := goes(func() string { return tail(p.stderr, func(string) bool { return false }) })
-	output := goes(func() string {
-		text, _ := io.ReadAll(p.stdout)
+	defer p.Close()
+	p.Stdin.Close()
+	said := process.Goes(func() string { return p.Stderr.Tail(nil) })
+	output := process.Goes(func() string {
+		text, _ := io.ReadAll(p.Stdout)
 		return string(text)
 	})
-	for _, it := range []<-chan struct{}{output.done, said.done, p.exited} {
+	for _, it := range []<-chan struct{}{output.Done, said.Done, p.Exited} {
 		select {
 		case <-it:
 		case <-c.stopping:
-			p.kill()
-			<-p.exited
+			p.Kill()
+			<-p.Exited
 			return "", "", 0, errors.New("the host is to end")
 		}
 	}
-	return output.result, said.result, p.status, nil
+	return output.Result, said.Result, p.Status(), nil
 }
 
 // Begun is closed once requests are served for the first time.
@@ -492,7 +406,7 @@ func (c *Child) Close() {
 		c.queue.close()
 	default:
 		c.isGivenUp = true
-		c.process.kill()
+		c.process.Kill()
 	}
 }
 
@@ -501,7 +415,7 @@ func (c *Child) Kill() {
 	c.mu.Lock()
 	defer c.mu.Unlock()
 	if c.process != nil {
-		c.process.kill()
+		c.process.Kill()
 	}
 }
 
@@ -538,4 +452,14 @@ func isAmong(word string, words []string) bool {
 		}
 	}
 	return false
+}
+
+var faultName = regexp.MustCompile(`^[\w./-]+: ([A-Z][A-Za-z]+)(?::|$)`)
+
+// FaultName is the name in a program's last line, as Full in `tbd: Full`, and otherwise that it ended.
+func FaultName(line string) string {
+	if found := faultName.FindStringSubmatch(line); found != nil {
+		return found[1]
+	}
+	return programEnded
 }

@@ -9,6 +9,7 @@ import (
 	"testing"
 	"time"
 
+	"telovamish.org/server/internal/process"
 	"telovamish.org/server/internal/report"
 )
 
@@ -51,25 +52,6 @@ func TestFaultNames(t *testing.T) {
 	} {
 		if got := FaultName(line); got != want {
 			t.Errorf("%q: %s, not %s", line, got, want)
-		}
-	}
-}
-
-func TestHowAProcessEnded(t *testing.T) {
-	for status, want := range map[int]string{
-		0: "with status 0", 3: "with status 3", 128: "with status 128", 137: "by SIGKILL", -6: "by SIGABRT",
-		-34: "by signal 34", 255: "with status 255",
-	} {
-		if got := endOf(status); got != want {
-			t.Errorf("%d: %s, not %s", status, got, want)
-		}
-	}
-}
-
-func TestLastLine(t *testing.T) {
-	for said, want := range map[string]string{"": "", "\n": "", "a": "a", "a\nb\n": "b", "a\r\nb\r\n\n": "b"} {
-		if got := lastLine(said); got != want {
-			t.Errorf("%q: %q, not %q", said, got, want)
 		}
 	}
 }
@@ -130,17 +112,17 @@ const (
 // longer.
 func TestAServerThatIsStartedAgain(t *testing.T) {
 	c, said, file := child(t, serves+`echo "$*" >> `+"$2.words; "+"sleep 0.05; kill -KILL $$", time.Second)
-	running := goes(c.Run)
+	running := process.Goes(c.Run)
 	said.want(t, "tbd: made it")
 	<-c.Begun()
 	said.want(t, "sh ended by SIGKILL, and is started again in 0.1 s")
 	said.want(t, "tbd: made it")
 	said.want(t, "sh ended by SIGKILL, and is started again in 0.5 s")
 	c.Close()
-	<-running.done
+	<-running.Done
 	var ended *report.Ended
-	if !errors.As(running.result, &ended) || ended.Line != "sh ended by SIGKILL, and is not started again" {
-		t.Error(running.result)
+	if !errors.As(running.Result, &ended) || ended.Line != "sh ended by SIGKILL, and is not started again" {
+		t.Error(running.Result)
 	}
 	text, err := os.ReadFile(file + ".words")
 	want := "run " + file + " 64 --progress\nrun " + file + " 64 --progress --existing\n"
@@ -175,18 +157,18 @@ func TestEnds(t *testing.T) {
 
 func TestItsInputEnds(t *testing.T) {
 	c, _, _ := child(t, serves+waits, 10*time.Second)
-	running := goes(c.Run)
+	running := process.Goes(c.Run)
 	<-c.Begun()
 	c.Close()
-	if <-running.done; running.result != nil {
-		t.Error(running.result)
+	if <-running.Done; running.Result != nil {
+		t.Error(running.Result)
 	}
 }
 
 // TestAnEndBeforeItServes kills it: nothing was asked of it.
 func TestAnEndBeforeItServes(t *testing.T) {
 	c, _, _ := child(t, "sleep 60", time.Minute)
-	running := goes(c.Run)
+	running := process.Goes(c.Run)
 	for {
 		c.mu.Lock()
 		p := c.process
@@ -197,8 +179,8 @@ func TestAnEndBeforeItServes(t *testing.T) {
 		time.Sleep(time.Millisecond)
 	}
 	c.Close()
-	if <-running.done; running.result != nil {
-		t.Error(running.result)
+	if <-running.Done; running.Result != nil {
+		t.Error(running.Result)
 	}
 }
 
@@ -295,34 +277,34 @@ os.write(1, b'a' * 3); os.read(0, 1)`
 		file := filepath.Join(t.TempDir(), "ledger")
 		script := strings.NewReplacer("START", row.start, "COMMITS", row.commits).Replace(python)
 		counts := newCommits(file)
-		p, err := start([]string{"python3", "-SEc", script, file}, counts.end)
+		p, err := process.Start([]string{"python3", "-SEc", script, file}, counts.end)
 		if err != nil {
 			t.Fatal(err)
 		}
-		p.stderr.Read(make([]byte, 100))
+		p.Stderr.Read(make([]byte, 100))
 		counts.untilAsleep(t, p)
 		counts.begin(p)
 		if got, ok := counts.count(); got != 0 || !ok {
 			t.Error(got, ok)
 		}
-		p.stdin.Write([]byte("."))
-		p.stdout.Read(make([]byte, 100))
+		p.Stdin.Write([]byte("."))
+		p.Stdout.Read(make([]byte, 100))
 		counts.untilAsleep(t, p)
 		if got, ok := counts.count(); got != row.want || !ok {
 			t.Errorf("%+v: %d, %v", row, got, ok)
 		}
-		p.stdin.Close()
-		<-p.exited
+		p.Stdin.Close()
+		<-p.Exited
 		if got, ok := counts.count(); got != row.want || !ok {
 			t.Errorf("%+v, once it has ended: %d, %v", row, got, ok)
 		}
-		p.close()
+		p.Close()
 	}
 }
 
-func (c *commits) untilAsleep(t *testing.T, p *process) {
+func (c *commits) untilAsleep(t *testing.T, p *process.Process) {
 	t.Helper()
-	for i := 0; !isAsleep(p.pid); i++ {
+	for i := 0; !isAsleep(p.Pid()); i++ {
 		if i > 5000 {
 			t.Fatal("it does not wait")
 		}
@@ -331,11 +313,11 @@ func (c *commits) untilAsleep(t *testing.T, p *process) {
 }
 
 func TestCommitsThatAreNotKnown(t *testing.T) {
-	p, err := start([]string{"sleep", "60"}, func(*process) {})
+	p, err := process.Start([]string{"sleep", "60"}, nil)
 	if err != nil {
 		t.Fatal(err)
 	}
-	defer p.close()
+	defer p.Close()
 	for _, file := range []string{"", "/nowhere/at/all"} {
 		counts := newCommits(file)
 		counts.begin(p)
@@ -343,9 +325,9 @@ func TestCommitsThatAreNotKnown(t *testing.T) {
 			t.Errorf("%q: %d", file, got)
 		}
 	}
-	p.kill()
-	if <-p.exited; p.status != -int(syscall.SIGKILL) {
-		t.Error(p.status)
+	p.Kill()
+	if <-p.Exited; p.Status() != -int(syscall.SIGKILL) {
+		t.Error(p.Status())
 	}
 }
 

@@ -6,6 +6,8 @@ import (
 	"os"
 	"strconv"
 	"sync"
+
+	"telovamish.org/server/internal/process"
 )
 
 // latch is the bytes of a latch.
@@ -22,10 +24,11 @@ type commits struct {
 	file string // "" if the ledger is in memory
 
 	mu      sync.Mutex
-	process *process
-	first   int64 // what this process had beyond its pipes and its file when it was ready
-	ended   int64 // commits of processes before
-	now     int64 // commits of this process
+	process *process.Process
+	gone    *process.Process // the one that ended last
+	first   int64            // what this process had beyond its pipes and its file when it was ready
+	ended   int64            // commits of processes before
+	now     int64            // commits of this process
 	isKnown bool
 }
 
@@ -36,8 +39,8 @@ func (c *commits) beyond() (int64, bool) {
 	if c.file == "" || c.process == nil {
 		return 0, false
 	}
-	written, ok := bytesWritten(c.process.pid) // first: so no later byte is counted only here
-	said := c.process.stderr.written()
+	written, ok := bytesWritten(c.process.Pid()) // first: so no later byte is counted only here
+	said := c.process.Stderr.Written()
 	if !ok || written < said { // another process writes, as under a shell
 		return 0, false
 	}
@@ -45,26 +48,26 @@ func (c *commits) beyond() (int64, bool) {
 	if err != nil {
 		return 0, false
 	}
-	return written - said - c.process.stdout.written() - found.Size(), true
+	return written - said - c.process.Stdout.Written() - found.Size(), true
 }
 
 // begin takes a process that is ready, and was asked nothing yet.
-func (c *commits) begin(process *process) {
+func (c *commits) begin(p *process.Process) {
 	c.mu.Lock()
 	defer c.mu.Unlock()
-	if process.hasEnded {
+	if c.gone == p {
 		return
 	}
-	c.process = process
+	c.process = p
 	c.first, c.isKnown = c.beyond()
 }
 
 // end takes a process that has ended, and of which the system still reports what it wrote.
-func (c *commits) end(process *process) {
+func (c *commits) end(p *process.Process) {
 	c.mu.Lock()
 	defer c.mu.Unlock()
-	process.hasEnded = true
-	if c.process != process {
+	c.gone = p
+	if c.process != p {
 		return
 	}
 	c.look()

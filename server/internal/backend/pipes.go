@@ -2,51 +2,13 @@ package backend
 
 import (
 	"os"
-	"sync/atomic"
 	"syscall"
 	"unsafe"
 
 	"telovamish.org/server/internal/memory"
 )
 
-const (
-	setPipeSize = 1031    // F_SETPIPE_SZ of Linux
-	pipeSize    = 1 << 20 // bytes that a pipe may hold: a long request whole
-	partsMax    = 1024    // of a writev
-	fionread    = 0x541b  // of Linux: bytes that are in a pipe
-)
-
-// widen has a pipe hold a long request whole, if the system allows that.
-func widen(pipe *os.File) {
-	if raw, err := pipe.SyscallConn(); err == nil {
-		raw.Control(func(file uintptr) {
-			syscall.Syscall(syscall.SYS_FCNTL, file, setPipeSize, pipeSize)
-		})
-	}
-}
-
-// incoming is the reading end of a pipe, which counts what was written into it.
-type incoming struct {
-	*os.File
-	count atomic.Int64 // bytes that were read
-}
-
-func (i *incoming) Read(data []byte) (int, error) {
-	n, err := i.File.Read(data)
-	i.count.Add(int64(n))
-	return n, err
-}
-
-// written is how many bytes were written into the pipe: those that were read, and those in it.
-func (i *incoming) written() int64 {
-	held, count := int32(0), i.count.Load()
-	if raw, err := i.File.SyscallConn(); err == nil {
-		raw.Control(func(file uintptr) {
-			syscall.Syscall(syscall.SYS_IOCTL, file, fionread, uintptr(unsafe.Pointer(&held)))
-		})
-	}
-	return count + int64(held)
-}
+const partsMax = 1024 // of a writev
 
 // group is pairs that are written together.
 type group struct {

@@ -3,7 +3,6 @@ package backend
 import (
 	"bytes"
 	"fmt"
-	"os"
 	"testing"
 	"unsafe"
 
@@ -68,25 +67,5 @@ func TestAClearedGroup(t *testing.T) {
 		if it.Base != nil {
 			t.Error("it keeps a chunk")
 		}
-	}
-}
-
-// TestBytesThatWereWritten into a pipe are counted before they are read, and once.
-func TestBytesThatWereWritten(t *testing.T) {
-	in, out, err := os.Pipe()
-	if err != nil {
-		t.Fatal(err)
-	}
-	defer in.Close()
-	defer out.Close()
-	it := &incoming{File: in}
-	out.Write(make([]byte, 100))
-	if got := it.written(); got != 100 {
-		t.Errorf("%d before it is read", got)
-	}
-	it.Read(make([]byte, 30))
-	out.Write(make([]byte, 5))
-	if got := it.written(); got != 105 {
-		t.Errorf("%d after a part was read", got)
 	}
 }

@@ -12,6 +12,8 @@ import (
 	"telovamish.org/server/internal/frames"
 	"telovamish.org/server/internal/memory"
 	"telovamish.org/server/internal/moments"
+	"telovamish.org/server/internal/process"
+	"telovamish.org/server/internal/report"
 )
 
 // asker remembers what it is answered.
@@ -70,7 +72,7 @@ func serverOf(t *testing.T, q *queue) *server {
 	if err != nil {
 		t.Fatal(err)
 	}
-	widen(theirIn)
+	process.Widen(theirIn)
 	pipe, err := newOutgoing(theirIn)
 	if err != nil {
 		t.Fatal(err)
@@ -110,7 +112,7 @@ func (s *server) reply(client byte) {
 
 func queueOf(keeps bool) *queue {
 	q := newQueue(keeps)
-	q.moments = moments.New(0, nil)
+	q.moments = moments.New(0, report.New("test", false))
 	return q
 }
 

@@ -7,7 +7,33 @@ import (
 	"telovamish.org/server/internal/report"
 )
 
-const usage = "usage: tb-listen [OPTIONS] -- COMMAND [WORD ..]\n"
+// Kind is a program that has these options: the listener, or another one with options of its own.
+type Kind struct {
+	Name    string // by which it is started
+	Said    string // by which its faults of arguments begin
+	Usage   string // after its name
+	About   string // what it is, for --help
+	Without []string
+	More    []Option // they come first
+}
+
+// Option is an option that only one kind has.
+type Option struct {
+	Name, Value, Help  string // without a value it is a flag
+	IsMany, IsRequired bool
+	Set                func(text string) error
+}
+
+// Listener is tb-listen.
+var Listener = &Kind{Name: "tb-listen", Said: Program, Usage: "[OPTIONS] -- COMMAND [WORD ..]", About: aboutListener}
+
+// arguments are those of a kind that are parsed.
+type arguments struct {
+	*Kind
+	c       *Config
+	options []option
+	given   map[string]bool
+}
 
 // Page is a page that is printed in place of listening: the version, or how the program is used.
 type Page struct{ Text string }
@@ -21,69 +47,110 @@ type Usage struct{ Text string }
 // Error is both lines.
 func (u *Usage) Error() string { return u.Text }
 
-func wrong(format string, values ...any) error {
-	return &Usage{fmt.Sprintf("%s%s: error: %s\n", usage, Program, fmt.Sprintf(format, values...))}
+// Wrong is why arguments are wrong.
+func (k *Kind) Wrong(format string, values ...any) error {
+	return &Usage{fmt.Sprintf("usage: %s %s\n%s: error: %s\n", k.Name, k.Usage, k.Said, fmt.Sprintf(format, values...))}
+}
+
+// all are the options of a kind.
+func (k *Kind) all() []option {
+	var all []option
+	for at := range k.More {
+		it := &k.More[at]
+		all = append(all, option{name: it.Name, value: it.Value, help: it.Help, isMany: it.IsMany,
+			isRequired: it.IsRequired, set: func(_ *Config, text string) error { return it.Set(text) }})
+	}
+	for _, it := range options {
+		if !isAmong(it.name, k.Without) {
+			all = append(all, it)
+		}
+	}
+	return all
+}
+
+func isAmong(word string, words []string) bool {
+	for _, it := range words {
+		if it == word {
+			return true
+		}
+	}
+	return false
 }
 
 // Parse is what arguments say, and the file of --config. It returns a Page if they ask for one, a Usage
 // if they are wrong, and a report.Ended if the file is.
-func Parse(arguments []string) (*Config, error) {
-	c := defaults()
-	given, err := c.parse(arguments)
+func (k *Kind) Parse(words []string) (*Config, error) {
+	a := &arguments{Kind: k, c: defaults(), options: k.all(), given: map[string]bool{}}
+	c := a.c
+	err := a.parse(words)
 	if err == nil && c.File != "" {
-		err = c.readFile(given)
+		err = c.readFile(a.given)
 	}
 	switch {
 	case err != nil:
 		return c, err
 	case len(c.Command) == 0:
-		return c, wrong("the following arguments are required: COMMAND")
+		return c, k.Wrong("the following arguments are required: COMMAND")
 	case c.Command[0] == "":
-		return c, wrong("an empty word is no COMMAND")
+		return c, k.Wrong("an empty word is no COMMAND")
 	}
 	if c.Unix == "" && c.TCP.IsZero() {
 		c.TCP = Place{"127.0.0.1", 3001}
 	}
-	return c, c.test()
+	return c, c.test(k)
 }
 
-// parse takes arguments in. It returns the names of the options that were given.
-func (c *Config) parse(arguments []string) (map[string]bool, error) {
-	given, unknown := map[string]bool{}, []string(nil)
-	for len(arguments) > 0 {
-		word := arguments[0]
+// parse takes arguments in.
+func (a *arguments) parse(words []string) error {
+	var unknown []string
+	for len(words) > 0 {
+		word := words[0]
 		if word == "--" {
-			c.Command = arguments[1:]
+			a.c.Command = words[1:]
 			break
 		}
 		if !strings.HasPrefix(word, "-") || word == "-" {
-			c.Command = arguments
+			a.c.Command = words
 			break
 		}
-		arguments = arguments[1:]
-		if page := pageOf(word); page != nil {
-			return nil, page
+		words = words[1:]
+		if page := a.pageOf(word); page != nil {
+			return page
 		}
 		name, value, hasValue := strings.Cut(word, "=")
-		it := optionOf(strings.TrimPrefix(name, "--"))
+		it := optionOf(a.options, strings.TrimPrefix(name, "--"))
 		if it == nil || !strings.HasPrefix(name, "--") {
 			unknown = append(unknown, word)
 			continue
 		}
-		if !it.isFlag() && !hasValue && len(arguments) > 0 && isValue(arguments[0]) {
-			value, hasValue, arguments = arguments[0], true, arguments[1:]
+		if !it.isFlag() && !hasValue && len(words) > 0 && isValue(words[0]) {
+			value, hasValue, words = words[0], true, words[1:]
 		}
-		if err := c.take(it, value, hasValue, given); err != nil {
-			return nil, wrong("argument --%s: %v", it.name, err)
+		if err := a.take(it, value, hasValue); err != nil {
+			return a.Wrong("argument --%s: %v", it.name, err)
 		}
 	}
-	if len(c.Command) == 0 && c.File == "" {
-		return nil, wrong("the following arguments are required: COMMAND")
+	if missing := a.missing(); missing != nil {
+		return a.Wrong("the following arguments are required: %s", strings.Join(missing, ", "))
 	}
 	if len(unknown) > 0 {
-		return nil, wrong("unrecognized arguments: %s", strings.Join(unknown, " "))
+		return a.Wrong("unrecognized arguments: %s", strings.Join(unknown, " "))
 	}
-	return given, nil
+	return nil
+}
+
+// missing are the options that have to be given and were not, and COMMAND.
+func (a *arguments) missing() []string {
+	var missing []string
+	for at := range a.options {
+		if it := &a.options[at]; it.isRequired && !a.given[it.name] {
+			missing = append(missing, "--"+it.name)
+		}
+	}
+	if len(a.c.Command) == 0 && a.c.File == "" {
+		missing = append(missing, "COMMAND")
+	}
+	return missing
 }
 
 // isValue reports whether a word may be the value of an option: it is no option itself.
@@ -92,51 +159,51 @@ func isValue(word string) bool {
 }
 
 // take sets an option.
-func (c *Config) take(it *option, value string, hasValue bool, given map[string]bool) error {
+func (a *arguments) take(it *option, value string, hasValue bool) error {
 	switch {
 	case it.isFlag() && hasValue:
 		return fmt.Errorf("ignored explicit argument %s", report.Quoted(value))
 	case !it.isFlag() && !hasValue:
 		return fmt.Errorf("expected one argument")
 	}
-	if err := it.set(c, value); err != nil {
+	if err := it.set(a.c, value); err != nil {
 		return err
 	}
-	if given[it.name] && !it.isMany && !it.isFlag() {
+	if a.given[it.name] && !it.isMany && !it.isFlag() {
 		return fmt.Errorf("give it once")
 	}
-	given[it.name] = true
+	a.given[it.name] = true
 	return nil
 }
 
 // pageOf is the page that a word asks for.
-func pageOf(word string) *Page {
+func (a *arguments) pageOf(word string) *Page {
 	switch word {
 	case "--version":
-		return &Page{"tb-listen " + Version + "\n"}
+		return &Page{a.Name + " " + Version + "\n"}
 	case "-h", "--help":
-		return &Page{help()}
+		return &Page{a.help()}
 	}
 	return nil
 }
 
 // test is what is wrong with options that do not go together.
-func (c *Config) test() error {
+func (c *Config) test(k *Kind) error {
 	switch {
 	case (c.Certificate == "") != (c.Key == ""):
-		return wrong("--certificate and --key need each other")
+		return k.Wrong("--certificate and --key need each other")
 	case c.ClientCA != "" && c.Certificate == "":
-		return wrong("--client-ca needs --certificate and --key")
+		return k.Wrong("--client-ca needs --certificate and --key")
 	case c.Certificate != "" && c.TCP.IsZero():
-		return wrong("--certificate is for TCP: --tcp HOST:PORT")
+		return k.Wrong("--certificate is for TCP: --tcp HOST:PORT")
 	case !c.TCP.IsZero() && !c.MayServe(c.TCP.Host):
-		return wrong("%s is no loopback address: give --client-ca FILE, so that only clients with a certificate "+
+		return k.Wrong("%s is no loopback address: give --client-ca FILE, so that only clients with a certificate "+
 			"get in, or --insecure", c.TCP.Host)
 	}
 	return nil
 }
 
-const about = `
+const aboutListener = `
 Sockets for a ledger server that speaks over pipes: many clients, one ledger.
 
 It runs the command, which reads pairs of a moment and a request, and writes replies in their order, as
@@ -150,14 +217,12 @@ of only digits is given with its folder, as ./64). If a signal ended it, it is s
 
 prints the state of a listener with --status PATH, and ends with 0 if it is ready, 1 if it is starting,
 and otherwise 2.
-
-options:
 `
 
 // help is how the program is used.
-func help() string {
+func (a *arguments) help() string {
 	var page strings.Builder
-	page.WriteString(usage + about)
+	fmt.Fprintf(&page, "usage: %s %s\n%s\noptions:\n", a.Name, a.Usage, a.About)
 	line := func(name, value, help string) {
 		head := "  --" + name
 		if value != "" {
@@ -168,8 +233,8 @@ func help() string {
 			fmt.Fprintf(&page, "                        %s\n", it)
 		}
 	}
-	for at := range options {
-		line(options[at].name, options[at].value, options[at].help)
+	for at := range a.options {
+		line(a.options[at].name, a.options[at].value, a.options[at].help)
 	}
 	line("version", "", "print the version")
 	line("help", "", "print this page")

@@ -71,6 +71,7 @@ func defaults() *Config {
 type option struct {
 	name, value, help string
 	isMany            bool // it may be repeated
+	isRequired        bool
 	set               func(c *Config, text string) error
 }
 
@@ -135,10 +136,10 @@ var options = []option{
 		set: path(func(c *Config) *string { return &c.File })},
 }
 
-func optionOf(name string) *option {
-	for at := range options {
-		if options[at].name == name {
-			return &options[at]
+func optionOf(all []option, name string) *option {
+	for at := range all {
+		if all[at].name == name {
+			return &all[at]
 		}
 	}
 	return nil
@@ -190,16 +191,21 @@ func whole(text string, least, most int64) (int64, error) {
 }
 
 func seconds(least, most float64, of func(*Config) *time.Duration) func(*Config, string) error {
-	return func(c *Config, text string) error {
+	return func(c *Config, text string) error { return Seconds(least, most, of(c))(text) }
+}
+
+// Seconds sets a duration to a number of seconds within bounds.
+func Seconds(least, most float64, to *time.Duration) func(string) error {
+	return func(text string) error {
 		value, err := strconv.ParseFloat(strings.TrimSpace(text), 64)
 		if err != nil || !(least <= value && value <= most) || strings.ContainsAny(text, "xXpP_") {
 			return fmt.Errorf("%s is no number of seconds from %g to %.0f", report.Quoted(short(text, 60)), least, most)
 		}
 		if value *= float64(time.Second); value >= math.MaxInt64 {
-			*of(c) = math.MaxInt64
+			*to = math.MaxInt64
 			return nil
 		}
-		*of(c) = time.Duration(value)
+		*to = time.Duration(value)
 		return nil
 	}
 }

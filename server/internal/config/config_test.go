@@ -19,7 +19,7 @@ import (
 // faultOfArguments is the last line of what is wrong with arguments.
 func faultOfArguments(t *testing.T, arguments ...string) string {
 	t.Helper()
-	_, err := Parse(arguments)
+	_, err := Listener.Parse(arguments)
 	var usage *Usage
 	if !errors.As(err, &usage) {
 		t.Fatalf("%q: %v", arguments, err)
@@ -91,7 +91,7 @@ func TestEachWrongValue(t *testing.T) {
 }
 
 func TestWithoutOptions(t *testing.T) {
-	got, err := Parse([]string{"--", "true", "--idle", "x"})
+	got, err := Listener.Parse([]string{"--", "true", "--idle", "x"})
 	want := &Config{TCP: Place{"127.0.0.1", 3001}, Connections: 256, Idle: 300 * time.Second, Slow: 30 * time.Second,
 		Command: []string{"true", "--idle", "x"}}
 	if err != nil || !reflect.DeepEqual(got, want) {
@@ -100,7 +100,7 @@ func TestWithoutOptions(t *testing.T) {
 }
 
 func TestEachRightValue(t *testing.T) {
-	got, err := Parse(strings.Fields("--unix u --tcp [::1]:0 --connections 65535 --certificate c --key k --client-ca a " +
+	got, err := Listener.Parse(strings.Fields("--unix u --tcp [::1]:0 --connections 65535 --certificate c --key k --client-ca a " +
 		"--insecure --allow-uid 7 --allow-uid=8 --clients f --connections-per-peer 1 --sessions-per-range 2 " +
 		"--requests-per-second 3 --memory 4194304 --status s --metrics localhost:4 --idle 1e6 --slow 0.001 " +
 		"--ahead 1e10 --log-json true"))
@@ -114,12 +114,12 @@ func TestEachRightValue(t *testing.T) {
 }
 
 func TestPages(t *testing.T) {
-	_, err := Parse([]string{"--version"})
+	_, err := Listener.Parse([]string{"--version"})
 	var page *Page
 	if !errors.As(err, &page) || page.Text != "tb-listen "+Version+"\n" {
 		t.Error(err)
 	}
-	if _, err = Parse([]string{"--help"}); !errors.As(err, &page) {
+	if _, err = Listener.Parse([]string{"--help"}); !errors.As(err, &page) {
 		t.Fatal(err)
 	}
 	found := regexp.MustCompile(`(?m)^  --(\S+)`).FindAllStringSubmatch(page.Text, -1)
@@ -195,13 +195,13 @@ insecure = true
 log-json = false
 command = ["tbd", "run", "ledger.journal", "64"]
 `)
-	got, err := Parse([]string{"--connections", "9", "--config", path})
+	got, err := Listener.Parse([]string{"--connections", "9", "--config", path})
 	want := &Config{Unix: "ledger.sock", Connections: 9, Users: []uint32{7, 8}, Idle: 12500 * time.Millisecond,
 		Slow: 3 * time.Second, IsInsecure: true, File: path, Command: []string{"tbd", "run", "ledger.journal", "64"}}
 	if err != nil || !reflect.DeepEqual(got, want) {
 		t.Errorf("%+v, %v", got, err)
 	}
-	if got, err = Parse([]string{"--config", path, "--", "tbs", "run", "64"}); err != nil || got.Command[0] != "tbs" {
+	if got, err = Listener.Parse([]string{"--config", path, "--", "tbs", "run", "64"}); err != nil || got.Command[0] != "tbs" {
 		t.Errorf("%+v, %v", got, err)
 	}
 }
@@ -221,14 +221,14 @@ func TestFilesThatAreWrong(t *testing.T) {
 		"status = \"\"\n":                  ": status: an empty word is no path",
 	} {
 		path := file(t, text)
-		_, err := Parse([]string{"--config", path, "--", "true"})
+		_, err := Listener.Parse([]string{"--config", path, "--", "true"})
 		var ended *report.Ended
 		if !errors.As(err, &ended) || ended.Status != 1 || !strings.HasPrefix(err.Error(), path) ||
 			!strings.Contains(err.Error(), want) || strings.Contains(err.Error(), "\n") {
 			t.Errorf("%q: %v, not %q", text, err, want)
 		}
 	}
-	if _, err := Parse([]string{"--config", "/dev/zero"}); err == nil || err.Error() != "/dev/zero is a pipe or a device, not a file" {
+	if _, err := Listener.Parse([]string{"--config", "/dev/zero"}); err == nil || err.Error() != "/dev/zero is a pipe or a device, not a file" {
 		t.Error(err)
 	}
 	if got := faultOfArguments(t, "--config", file(t, "idle = 5\n")); got != "the following arguments are required: COMMAND" {
@@ -262,7 +262,7 @@ func FuzzArguments(f *testing.F) {
 				return
 			}
 		}
-		c, err := Parse(arguments)
+		c, err := Listener.Parse(arguments)
 		if err == nil && (len(c.Command) == 0 || c.Connections < 1 || c.Idle <= 0 || c.Slow <= 0 || c.Ahead < 0) {
 			t.Errorf("%+v", c)
 		}

@@ -85,7 +85,7 @@ func (c *Config) takeFile(text []byte, given map[string]bool) error {
 		if values[name] == nil || given[name] {
 			continue
 		}
-		if err := c.takeValue(optionOf(name), values[name]); err != nil {
+		if err := c.takeValue(optionOf(options, name), values[name]); err != nil {
 			return report.End(1, "%s: %s: %v", c.File, name, err)
 		}
 	}

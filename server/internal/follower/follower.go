@@ -17,14 +17,7 @@ import (
 	"telovamish.org/server/internal/report"
 )
 
-const (
-	lastWords = time.Second // for which what a command wrote may still come when it has ended
-	steady    = time.Minute // after which a command that ends is one that was well until then
-	spareMax  = 1 << 18     // bytes that are kept for the next entries
-)
-
-// pauses are before the command is started again; the last one from then on.
-var pauses = []time.Duration{100 * time.Millisecond, 500 * time.Millisecond, 2 * time.Second, 5 * time.Second}
+const spareMax = 1 << 18 // bytes that are kept for the next entries
 
 // Handler takes what the process does. Its calls come one after another.
 type Handler interface {
@@ -71,23 +64,17 @@ func New(words []string, patience time.Duration, handler Handler, log *report.Lo
 // otherwise.
 func (f *Follower) Run() error {
 	defer report.Guard()
-	for lives, quick := 0, 0; ; quick++ {
+	var restarts process.Restarts
+	for lives := 0; ; lives++ {
 		began := time.Now()
 		ended, err := f.runOnce(lives)
 		if err != nil || ended == "" {
 			return err
 		}
-		lives++
 		f.handler.Lost()
-		if time.Since(began) > steady {
-			quick = 0
-		}
-		pause := pauses[len(pauses)-1]
-		if quick < len(pauses) {
-			pause = pauses[quick]
-		}
+		pause := restarts.Next(time.Since(began))
 		f.log.Say(report.Warning, "%s, and is started again in %g s", ended, pause.Seconds())
-		if within(f.stopping, pause) {
+		if process.Within(f.stopping, pause) {
 			return report.End(1, "%s, and is not started again", ended)
 		}
 	}
@@ -110,47 +97,36 @@ func (f *Follower) runOnce(lives int) (string, error) {
 
 // endBySignal is how the command ended, if it may be started again.
 func (f *Follower) endBySignal(status int, line string) (string, error) {
-	number := process.SignalOf(status)
-	ended := status
-	if number != 0 || status == 0 {
-		ended = 1
+	why, bySignal := process.Ended(f.words[0], status, line)
+	if !bySignal || f.isStopping() {
+		return "", why
 	}
-	if line != "" && number == 0 {
-		return "", report.End(ended, "%s", line)
-	}
-	how := f.words[0] + " ended " + process.EndOf(status)
-	if line != "" {
-		how += " (" + line + ")"
-	}
-	if number == 0 || f.isStopping() {
-		return "", report.End(ended, "%s", how)
-	}
-	return how, nil
+	return why.Line, nil
 }
 
 // live runs the command from its start to its end. It returns its status and its last line.
 func (f *Follower) live() (int, string, error) {
-	p, err := process.Start(f.words)
+	p, err := process.Start(f.words, nil)
 	if err != nil {
 		return 0, "", err
 	}
-	said := goes(func() string { return process.Tail(p.Stderr) })
+	said := process.Goes(func() string { return p.Stderr.Tail(nil) })
 	f.begin(p)
 	r := &reader{handler: f.handler, program: f.words[0]}
-	reading := goes(func() error { return f.killIf(p, r.read(p.Stdout)) })
-	writing := goes(func() struct{} { f.write(p); return struct{}{} })
+	reading := process.Goes(func() error { return f.killIf(p, r.read(p.Stdout)) })
+	writing := process.Goes(func() struct{} { f.write(p); return struct{}{} })
 	select {
-	case <-reading.done:
+	case <-reading.Done:
 	case <-p.Exited:
-	case <-writing.done: // it takes no more, and may live on
+	case <-writing.Done: // it takes no more, and may live on
 	}
-	within(reading.done, lastWords) // what it wrote before it ended is read to its end
+	process.Within(reading.Done, process.LastWords) // what it wrote before it ended is read to its end
 	f.leave(p)
 	r.end()
-	if err := f.waitForEnd(p, reading.done, said.done, writing.done); err != nil {
+	if err := p.End(f.patience, reading.Done, said.Done, writing.Done); err != nil {
 		return 0, "", err
 	}
-	return p.Status(), process.LastLine(said.result), reading.result
+	return p.Status(), process.LastLine(said.Result), reading.Result
 }
 
 // killIf kills a process if there is a fault, and returns that.
@@ -180,39 +156,13 @@ func (f *Follower) leave(p *process.Process) {
 	p.Stdin.Close()
 }
 
-// waitForEnd waits until a process that gets no more has ended, and what it started. It kills them if they
-// do not end.
-func (f *Follower) waitForEnd(p *process.Process, pipes ...<-chan struct{}) error {
-	defer p.Close()
-	areDone := func(wait time.Duration) bool {
-		until := time.Now().Add(wait)
-		for _, it := range pipes {
-			if !within(it, time.Until(until)) {
-				return false
-			}
-		}
-		return true
-	}
-	if within(p.Exited, f.patience) && areDone(lastWords) {
-		return nil
-	}
-	if err := p.Kill(); err != nil {
-		return err
-	}
-	areDone(lastWords)
-	p.Close()
-	areDone(time.Hour)
-	<-p.Exited
-	return nil
-}
-
 func (f *Follower) hasClosed() bool {
 	f.mu.Lock()
 	defer f.mu.Unlock()
 	return f.isClosed
 }
 
-func (f *Follower) isStopping() bool { return within(f.stopping, 0) }
+func (f *Follower) isStopping() bool { return process.Within(f.stopping, 0) }
 
 // Stop has the command not be started again.
 func (f *Follower) Stop() {
@@ -238,41 +188,5 @@ func (f *Follower) Kill() {
 	defer f.mu.Unlock()
 	if f.process != nil {
 		f.process.Kill()
-	}
-}
-
-// task is what a goroutine does, and its result once that is done.
-type task[T any] struct {
-	result T
-	done   chan struct{}
-}
-
-func goes[T any](do func() T) *task[T] {
-	it := &task[T]{done: make(chan struct{})}
-	go func() {
-		defer report.Guard()
-		it.result = do()
-		close(it.done)
-	}()
-	return it
-}
-
-// within reports whether a channel is closed within a time.
-func within(it <-chan struct{}, wait time.Duration) bool {
-	select {
-	case <-it:
-		return true
-	default:
-	}
-	if wait <= 0 {
-		return false
-	}
-	timer := time.NewTimer(wait)
-	defer timer.Stop()
-	select {
-	case <-it:
-		return true
-	case <-timer.C:
-		return false
 	}
 }

@@ -41,42 +41,60 @@ type subcommand struct {
 	hasCommand bool // it has a COMMAND
 }
 
-var logOptions = []option{
-	{name: "log", value: "LOG", help: "the agreed log", isRequired: true, set: func(g *given, text string) error {
-		_, err := agreed.Parse(text)
-		g.URL = text
-		return err
-	}},
-	{name: "log-ca", value: "FILE", help: "the certificates that the engine's is tested by: TLS is spoken",
-		set: path(func(g *given) *string { return &g.Access.Authority })},
-	{name: "log-certificate", value: "FILE", help: "this replica's certificate",
-		set: path(func(g *given) *string { return &g.Access.Certificate })},
-	{name: "log-key", value: "FILE", help: "the key of its certificate",
-		set: path(func(g *given) *string { return &g.Access.Key })},
-	{name: "log-password-file", value: "FILE", help: "its first line is the password of --log-user",
-		set: path(func(g *given) *string { return &g.Access.PasswordFile })},
-	{name: "log-user", value: "NAME", help: "the engine's user", set: func(g *given, text string) error {
-		if text == "" {
-			return fmt.Errorf("it is empty")
+// logOptions are those of LogOptions, for what a subcommand is given.
+var logOptions = func() []option {
+	var its []option
+	for at, it := range LogOptions(new(string), &agreed.Access{}) {
+		at := at
+		its = append(its, option{name: it.Name, value: it.Value, help: it.Help, isRequired: it.IsRequired,
+			set: func(g *given, text string) error { return LogOptions(&g.URL, &g.Access)[at].Set(text) }})
+	}
+	return its
+}()
+
+// LogOptions are the options by which a log is found and spoken to, which set a URL and an Access.
+func LogOptions(url *string, access *agreed.Access) []config.Option {
+	file := func(to *string) func(string) error {
+		return func(text string) error {
+			if *to = text; text == "" {
+				return fmt.Errorf("an empty word is no path")
+			}
+			return nil
 		}
-		g.Access.User = text
-		return nil
-	}},
-	{name: "standbys", value: "N", help: "PostgreSQL: standbys that have to have flushed what is read (1; 0 is one machine)",
-		set: func(g *given, text string) error {
-			number, err := whole(text, 65535)
-			g.Access.Standbys = int(number)
+	}
+	return []config.Option{
+		{Name: "log", Value: "LOG", Help: "the agreed log", IsRequired: true, Set: func(text string) error {
+			_, err := agreed.Parse(text)
+			*url = text
 			return err
 		}},
+		{Name: "log-ca", Value: "FILE", Help: "the certificates that the engine's is tested by: TLS is spoken",
+			Set: file(&access.Authority)},
+		{Name: "log-certificate", Value: "FILE", Help: "this replica's certificate", Set: file(&access.Certificate)},
+		{Name: "log-key", Value: "FILE", Help: "the key of its certificate", Set: file(&access.Key)},
+		{Name: "log-password-file", Value: "FILE", Help: "its first line is the password of --log-user",
+			Set: file(&access.PasswordFile)},
+		{Name: "log-user", Value: "NAME", Help: "the engine's user", Set: func(text string) error {
+			if access.User = text; text == "" {
+				return fmt.Errorf("it is empty")
+			}
+			return nil
+		}},
+		{Name: "standbys", Value: "N", Help: "PostgreSQL: standbys that have to have flushed what is read (1; " +
+			"0 is one machine)", Set: func(text string) error {
+			number, err := whole(text, 65535)
+			access.Standbys = int(number)
+			return err
+		}},
+	}
 }
 
 var forgetOption = option{name: "forget", value: "NAME", help: "take a replica off the list that is there no more",
 	isMany: true, set: func(g *given, text string) error {
-		if !isName(text) {
-			return fmt.Errorf("%s is no name", report.Quoted(text))
-		}
-		g.Forget = append(g.Forget, text)
-		return nil
+		var name string
+		err := SetName(&name)(text)
+		g.Forget = append(g.Forget, name)
+		return err
 	}}
 
 var atOption = option{name: "at", value: "POSITION", help: "up to this position (the last)",
@@ -122,6 +140,27 @@ func whole(text string, most uint64) (uint64, error) {
 		shown = shown[:shownMax]
 	}
 	return 0, fmt.Errorf("%s is no number from 0 to %d", report.Quoted(string(shown)), most)
+}
+
+// FaultOf is what is wrong with options of a log that do not go together, or "": a file of TLS would be
+// ignored, and etcd be told the password without TLS.
+func FaultOf(url string, access *agreed.Access) string {
+	hasOne := access.Certificate != "" || access.Key != ""
+	hasAll := access.Certificate != "" && access.Key != "" && access.Authority != ""
+	if strings.HasPrefix(url, "etcd:") && hasOne && !hasAll {
+		return "--log-certificate and --log-key need each other, and --log-ca"
+	}
+	return ""
+}
+
+// SetName sets the name of a replica.
+func SetName(to *string) func(string) error {
+	return func(text string) error {
+		if *to = text; !isName(text) {
+			return fmt.Errorf("%s is no name", report.Quoted(text))
+		}
+		return nil
+	}
 }
 
 func isName(text string) bool {
@@ -216,8 +255,6 @@ func (s *subcommand) test(g *given, found map[string]bool, others []string) erro
 	if !s.hasCommand {
 		others = append(others, g.Command...)
 	}
-	hasFiles := g.Access.Certificate != "" || g.Access.Key != ""
-	hasAll := g.Access.Certificate != "" && g.Access.Key != "" && g.Access.Authority != ""
 	switch {
 	case len(missing) > 0:
 		return s.wrong("the following arguments are required: %s", strings.Join(missing, ", "))
@@ -225,8 +262,9 @@ func (s *subcommand) test(g *given, found map[string]bool, others []string) erro
 		return s.wrong("unrecognized arguments: %s", strings.Join(others, " "))
 	case s.hasCommand && g.Command[0] == "":
 		return s.wrong("an empty word is no COMMAND")
-	case strings.HasPrefix(g.URL, "etcd:") && hasFiles && !hasAll: // otherwise etcd is told the password without TLS
-		return s.wrong("--log-certificate and --log-key need each other, and --log-ca")
+	}
+	if fault := FaultOf(g.URL, &g.Access); fault != "" {
+		return s.wrong("%s", fault)
 	}
 	return nil
 }

@@ -25,14 +25,14 @@ type asked struct {
 
 // hashes prints the hashes of the log and of the replies of a fresh server, up to a position.
 func hashes(ctx context.Context, g *given, out *output) error {
-	p, err := process.Start(g.Command)
+	p, err := process.Start(g.Command, nil)
 	if err != nil {
 		return err
 	}
 	defer p.Close()
 	defer p.Kill()
 	said := make(chan string, 1)
-	go func() { said <- process.Tail(p.Stderr) }()
+	go func() { said <- p.Stderr.Tail(nil) }()
 	ctx, cancel := context.WithCancel(ctx)
 	defer cancel()
 	given, failed := make(chan asked, 64), make(chan error, 1)

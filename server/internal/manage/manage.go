@@ -25,14 +25,18 @@ const interrupted = 130 // the exit status after SIGINT
 // Has reports whether there is a subcommand of this name.
 func Has(name string) bool { return subcommands[name] != nil }
 
-// Main runs a subcommand. It returns the exit status.
-func Main(name string, arguments []string) int {
+// Main runs a subcommand. It returns the exit status. hasOutput is that standard output is not closed.
+func Main(name string, arguments []string, hasOutput bool) int {
 	defer report.Guard()
 	// a write to a pipe that nobody reads, or beyond `ulimit -f`, fails
 	signal.Ignore(syscall.SIGPIPE, syscall.SIGXFSZ)
 	ctx, stop := signal.NotifyContext(context.Background(), os.Interrupt)
 	defer stop()
 	log := report.New(Program, false)
+	if !hasOutput {
+		log.Say(report.Error, "standard output is closed")
+		return 1
+	}
 	status := run(ctx, name, arguments, &output{to: os.Stdout}, log)
 	if ctx.Err() != nil {
 		return interrupted

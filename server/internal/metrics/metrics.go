@@ -7,11 +7,13 @@ import (
 	"log"
 	"net"
 	"net/http"
+	"sort"
 	"strconv"
 	"strings"
 	"sync"
 	"time"
 
+	"telovamish.org/server/internal/backend"
 	"telovamish.org/server/internal/counts"
 	"telovamish.org/server/internal/status"
 )
@@ -145,7 +147,29 @@ func Page(numbers *status.Numbers) string {
 		p.one("tb_syncs_total", "counter", "Syncs of these", float64(counts.Syncs*commits))
 	}
 	p.one("tb_clock_lag_seconds", "gauge", "Seconds that moments lie behind the clock; below 0 if it was set back", numbers.Of.Lag().Seconds())
+	if its, ok := numbers.Log(); ok {
+		p.log(its)
+	}
 	return p.String()
+}
+
+// log is what a replica has of the agreed log.
+func (p *page) log(its backend.LogNumbers) {
+	p.one("tb_log_position", "gauge", "Position of the last entry that was read", float64(its.Position))
+	p.one("tb_log_answered", "gauge", "Position up to which the server has answered", float64(its.Answered))
+	p.one("tb_log_first", "gauge", "First entry that the log still has", float64(its.First))
+	p.one("tb_log_ahead_seconds", "gauge", "Seconds that the log's last moment is ahead of the clock", its.Ahead.Seconds())
+	p.one("tb_copy_position", "gauge", "Position up to which the copy is on the disk", float64(its.CopyPosition))
+	p.one("tb_copy_bytes", "gauge", "Bytes of the copy", float64(its.CopyBytes))
+	p.family("tb_rotten_entries_total", "counter", "Entries that a node has lost or changed")
+	nodes := make([]string, 0, len(its.Rotten))
+	for node := range its.Rotten {
+		nodes = append(nodes, node)
+	}
+	sort.Strings(nodes)
+	for _, node := range nodes {
+		p.sample("tb_rotten_entries_total", fmt.Sprintf("node=%q", node), float64(its.Rotten[node]))
+	}
 }
 
 // latencies is the histogram.

@@ -115,3 +115,27 @@ func TestManyReaders(t *testing.T) {
 		time.Sleep(20 * time.Millisecond)
 	}
 }
+
+// overLog is a fake over an agreed log.
+type overLog struct{ fake }
+
+func (overLog) LogNumbers() backend.LogNumbers {
+	return backend.LogNumbers{Position: 40, Answered: 39, First: 12, Ahead: 1500 * time.Millisecond, CopyPosition: 38,
+		CopyBytes: 4096, Rotten: map[string]int{"m2:2379": 3}}
+}
+
+func TestAPageOfAReplica(t *testing.T) {
+	it := numbers()
+	if strings.Contains(Page(it), "tb_log_") {
+		t.Error("a listener has no log")
+	}
+	it.Of = overLog{}
+	got := Page(it)
+	for _, line := range []string{"tb_log_position 40.0", "tb_log_answered 39.0", "tb_log_first 12.0",
+		"tb_log_ahead_seconds 1.5", "tb_copy_position 38.0", "tb_copy_bytes 4096.0",
+		"# TYPE tb_rotten_entries_total counter", `tb_rotten_entries_total{node="m2:2379"} 3.0`} {
+		if !strings.Contains("\n"+got, "\n"+line+"\n") {
+			t.Errorf("%q is not in\n%s", line, got)
+		}
+	}
+}

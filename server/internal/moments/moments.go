@@ -2,6 +2,7 @@
 package moments
 
 import (
+	"fmt"
 	"sync"
 	"syscall"
 	"time"
@@ -35,20 +36,18 @@ func Running() int64 {
 	return at.Nano()
 }
 
-// Moments are those of requests, in nanoseconds since 1970. They begin with the clock, or with the
-// ledger's last time if that is later. They never fall, and grow by no more than the time that goes by
-// and a thousandth of it, by a clock that nobody sets: so a clock that is set far ahead does not take
-// the ledger along.
-type Moments struct {
-	wall, running Clock
-	log           *report.Log
+// Steady gives moments, in nanoseconds since 1970, by clocks that are passed. They begin with the wall
+// clock, or with the ledger's last time if that is later. They never fall, and grow by no more than the
+// time that goes by and a thousandth of it, by a clock that nobody sets: so a clock that is set far ahead
+// does not take the ledger along.
+type Steady struct {
+	Last int64 // the last moment
 
-	mu       sync.Mutex
-	last, at int64
-	said     side
+	at   int64
+	said side
 }
 
-// side is where the clock is that was printed last.
+// side is where the clock is that was said last.
 type side int
 
 const (
@@ -68,6 +67,68 @@ func sideOf(off int64) side {
 	return near
 }
 
+// From begins with the wall clock, or with last.
+func From(last, wall, running int64) Steady {
+	if wall > last {
+		last = wall
+	}
+	return Steady{Last: last, at: running}
+}
+
+// Lag is how long moments are behind the clock, if that is ahead of where it should be. It is below 0 if
+// the clock was set back by a second or more, or begins behind the ledger's last time: then the ledger's
+// time stands still.
+func (s *Steady) Lag(wall, running int64) time.Duration {
+	lag := wall - s.Last - (running - s.at)
+	if lag < 0 && lag > -second {
+		return 0
+	}
+	return time.Duration(lag)
+}
+
+// Next is the next moment, and a line if the clock is now off, which a program of this name prints.
+func (s *Steady) Next(wall, running int64, program string) (moment uint64, line string) {
+	gone := running - s.at
+	if gone < 0 {
+		gone = 0
+	}
+	off := wall - s.Last - gone
+	if wall > s.Last {
+		most := s.Last + gone + gone/parts
+		if wall < most {
+			most = wall
+		}
+		s.Last, s.at = most, running
+		off = wall - s.Last
+	}
+	is := sideOf(off)
+	if is != s.said {
+		line = is.line(off/second, program)
+	}
+	s.said = is
+	return uint64(s.Last), line
+}
+
+// line is that the clock is off by so many seconds, or "".
+func (s side) line(seconds int64, program string) string {
+	switch s {
+	case ahead:
+		return fmt.Sprintf(startAgain, seconds, program)
+	case behind:
+		return fmt.Sprintf(setBack, -seconds)
+	}
+	return ""
+}
+
+// Moments are those of a listener's requests.
+type Moments struct {
+	wall, running Clock
+	log           *report.Log
+
+	mu     sync.Mutex
+	steady Steady
+}
+
 // New begins with the clock, or with last.
 func New(last int64, log *report.Log) *Moments {
 	return NewBy(last, log, Wall, Running)
@@ -75,60 +136,25 @@ func New(last int64, log *report.Log) *Moments {
 
 // NewBy is New by other clocks.
 func NewBy(last int64, log *report.Log, wall, running Clock) *Moments {
-	now := wall()
-	if now > last {
-		last = now
-	}
-	return &Moments{wall: wall, running: running, log: log, last: last, at: running()}
+	return &Moments{wall: wall, running: running, log: log, steady: From(last, wall(), running())}
 }
 
-// Lag is how long moments are behind the clock, if that is ahead of where it should be. It is below 0 if
-// the clock was set back by a second or more, or begins behind the ledger's last time: then the ledger's
-// time stands still.
+// Lag is that of Steady.
 func (m *Moments) Lag() time.Duration {
 	wall, running := m.wall(), m.running()
 	m.mu.Lock()
 	defer m.mu.Unlock()
-	lag := wall - m.last - (running - m.at)
-	if lag < 0 && lag > -second {
-		return 0
-	}
-	return time.Duration(lag)
+	return m.steady.Lag(wall, running)
 }
 
 // Next is the moment of the next request.
 func (m *Moments) Next() uint64 {
 	wall, running := m.wall(), m.running()
 	m.mu.Lock()
-	gone := running - m.at
-	if gone < 0 {
-		gone = 0
-	}
-	off := wall - m.last - gone
-	if wall > m.last {
-		most := m.last + gone + gone/parts
-		if wall < most {
-			most = wall
-		}
-		m.last, m.at = most, running
-		off = wall - m.last
-	}
-	next, is := m.last, sideOf(off)
-	isNew := is != m.said
-	m.said = is
+	next, line := m.steady.Next(wall, running, m.log.Program())
 	m.mu.Unlock()
-	if isNew {
-		m.report(is, off/second)
+	if line != "" {
+		m.log.Say(report.Warning, "%s", line)
 	}
-	return uint64(next)
-}
-
-// report prints that the clock is off by so many seconds, if it is.
-func (m *Moments) report(is side, seconds int64) {
-	switch is {
-	case ahead:
-		m.log.Say(report.Warning, startAgain, seconds, m.log.Program())
-	case behind:
-		m.log.Say(report.Warning, setBack, -seconds)
-	}
+	return next
 }

@@ -3,26 +3,22 @@ package process
 
 import (
 	"errors"
-	"io"
 	"os"
 	"os/exec"
-	"strconv"
-	"strings"
 	"syscall"
+	"time"
+	"unsafe"
 
 	"telovamish.org/server/internal/report"
 )
 
-const (
-	tailMax     = 4096    // bytes of what a command said last that are kept
-	setPipeSize = 1031    // F_SETPIPE_SZ of Linux
-	pipeSize    = 1 << 20 // bytes that a pipe may hold: a long request whole
-)
+// LastWords is for how long what a command wrote may still come when it has ended.
+const LastWords = time.Second
 
 // Process is a command that runs, with its pipes.
 type Process struct {
 	Stdin          *os.File
-	Stdout, Stderr *os.File
+	Stdout, Stderr *Incoming
 	Exited         chan struct{} // closed when it has ended
 
 	cmd    *exec.Cmd
@@ -35,8 +31,9 @@ type Wanting struct{ *report.Ended }
 // Unwrap is why a program ends.
 func (w *Wanting) Unwrap() error { return w.Ended }
 
-// Start runs a command, in a session of its own.
-func Start(words []string) (*Process, error) {
+// Start runs a command, in a session of its own. onEnd, if it is not nil, is called when the command has
+// ended, while the system still reports what it did.
+func Start(words []string, onEnd func(*Process)) (*Process, error) {
 	p, err := start(words)
 	if err != nil {
 		why := report.End(1, "%s does not start: %s", words[0], report.Why(err))
@@ -47,7 +44,7 @@ func Start(words []string) (*Process, error) {
 		}
 		return nil, why
 	}
-	go p.wait()
+	go p.wait(onEnd)
 	return p, nil
 }
 
@@ -61,18 +58,21 @@ func start(words []string) (*Process, error) {
 			return nil, nil
 		}
 		files = append(files, out, in)
-		widen(in)
 		return out, in
 	}
 	theirIn, in := pipe()
 	out, theirOut := pipe()
 	said, theirSaid := pipe()
 	p := &Process{
-		Stdin: in, Stdout: out, Stderr: said,
+		Stdin:  in,
+		Stdout: &Incoming{File: out},
+		Stderr: &Incoming{File: said},
 		Exited: make(chan struct{}),
 		cmd:    exec.Command(words[0], words[1:]...),
 	}
 	if fault == nil {
+		Widen(in)
+		Widen(out)
 		p.cmd.Stdin, p.cmd.Stdout, p.cmd.Stderr = theirIn, theirOut, theirSaid
 		p.cmd.SysProcAttr = &syscall.SysProcAttr{Setsid: true}
 		fault = p.cmd.Start()
@@ -89,18 +89,13 @@ func start(words []string) (*Process, error) {
 	return p, nil
 }
 
-// widen has a pipe hold a long request whole, if the system allows that.
-func widen(pipe *os.File) {
-	if raw, err := pipe.SyscallConn(); err == nil {
-		raw.Control(func(file uintptr) {
-			syscall.Syscall(syscall.SYS_FCNTL, file, setPipeSize, pipeSize)
-		})
-	}
-}
-
 // wait waits until the process has ended. What it started may hold its pipes open beyond that.
-func (p *Process) wait() {
+func (p *Process) wait(onEnd func(*Process)) {
 	defer report.Guard()
+	if onEnd != nil {
+		p.untilEnded()
+		onEnd(p)
+	}
 	p.cmd.Wait()
 	if state, ok := p.cmd.ProcessState.Sys().(syscall.WaitStatus); ok {
 		p.status = state.ExitStatus()
@@ -109,6 +104,19 @@ func (p *Process) wait() {
 		}
 	}
 	close(p.Exited)
+}
+
+// untilEnded waits until the process has ended, and leaves it to the system.
+func (p *Process) untilEnded() {
+	const byPid, ended, noReap = 1, 4, 0x01000000 // P_PID, WEXITED, WNOWAIT
+	var info [128]byte
+	for {
+		_, _, err := syscall.Syscall6(syscall.SYS_WAITID, byPid, uintptr(p.Pid()),
+			uintptr(unsafe.Pointer(&info)), ended|noReap, 0, 0)
+		if err != syscall.EINTR {
+			return
+		}
+	}
 }
 
 // Status is the exit status of a process that has ended, or the number of the signal that ended it,
@@ -129,64 +137,35 @@ func (p *Process) Kill() error {
 	return nil
 }
 
+// End waits until a process that is given no more has ended, and what it started: until pipes, which are
+// read, are closed. It kills them if they do not end.
+func (p *Process) End(patience time.Duration, pipes ...<-chan struct{}) error {
+	defer p.Close()
+	areClosed := func(wait time.Duration) bool {
+		until := time.Now().Add(wait)
+		for _, it := range pipes {
+			if !Within(it, time.Until(until)) {
+				return false
+			}
+		}
+		return true
+	}
+	if Within(p.Exited, patience) && areClosed(LastWords) {
+		return nil
+	}
+	if err := p.Kill(); err != nil { // with what it started, which may have the ledger's file open
+		return err
+	}
+	areClosed(LastWords)
+	p.Close()
+	areClosed(time.Hour)
+	<-p.Exited
+	return nil
+}
+
 // Close closes the pipes.
 func (p *Process) Close() {
 	p.Stdin.Close()
 	p.Stdout.Close()
 	p.Stderr.Close()
-}
-
-// SignalOf is the signal that ended a process, or what it started for that: a shell reports it by 128 and
-// its number. 0 if no signal did.
-func SignalOf(status int) syscall.Signal {
-	switch {
-	case status < 0:
-		return syscall.Signal(-status)
-	case status > 128 && status < 128+65:
-		return syscall.Signal(status - 128)
-	}
-	return 0
-}
-
-// EndOf is how a process ended, in words.
-func EndOf(status int) string {
-	number := SignalOf(status)
-	if number == 0 {
-		return "with status " + strconv.Itoa(status)
-	}
-	if name := signalNames[number]; name != "" {
-		return "by " + name
-	}
-	return "by signal " + strconv.Itoa(int(number))
-}
-
-var signalNames = map[syscall.Signal]string{
-	syscall.SIGABRT: "SIGABRT", syscall.SIGALRM: "SIGALRM", syscall.SIGBUS: "SIGBUS",
-	syscall.SIGFPE: "SIGFPE", syscall.SIGHUP: "SIGHUP", syscall.SIGILL: "SIGILL", syscall.SIGINT: "SIGINT",
-	syscall.SIGKILL: "SIGKILL", syscall.SIGPIPE: "SIGPIPE", syscall.SIGQUIT: "SIGQUIT",
-	syscall.SIGSEGV: "SIGSEGV", syscall.SIGTERM: "SIGTERM", syscall.SIGTRAP: "SIGTRAP",
-	syscall.SIGUSR1: "SIGUSR1", syscall.SIGUSR2: "SIGUSR2", syscall.SIGXCPU: "SIGXCPU",
-	syscall.SIGXFSZ: "SIGXFSZ",
-}
-
-// LastLine is the last line of what a program said.
-func LastLine(said string) string {
-	lines := strings.Split(strings.TrimSpace(said), "\n")
-	return strings.TrimSuffix(lines[len(lines)-1], "\r")
-}
-
-// Tail is the last lines of a pipe, once it has ended.
-func Tail(from io.Reader) string {
-	data := make([]byte, tailMax)
-	kept := ""
-	for {
-		n, err := from.Read(data)
-		kept += strings.ToValidUTF8(string(data[:n]), "\uFFFD")
-		if len(kept) > tailMax {
-			kept = kept[len(kept)-tailMax:]
-		}
-		if n == 0 && err != nil {
-			return kept
-		}
-	}
 }

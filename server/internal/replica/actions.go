@@ -24,9 +24,6 @@ type Read struct {
 	IsElsewhere bool
 }
 
-// LookElsewhere has reads go on at another address.
-type LookElsewhere struct{}
-
 // Append appends an entry by its name, once: Appended, AppendLost.
 type Append struct {
 	Writer entries.Writer
@@ -108,24 +105,23 @@ type End struct {
 	Report []byte
 }
 
-func (*ReadStart) isAction()     {}
-func (*KeepHead) isAction()      {}
-func (*Read) isAction()          {}
-func (*LookElsewhere) isAction() {}
-func (*Append) isAction()        {}
-func (*ReadNode) isAction()      {}
-func (*ReadTrimmed) isAction()   {}
-func (*StopNode) isAction()      {}
-func (*StartServer) isAction()   {}
-func (*Feed) isAction()          {}
-func (*ReadCopy) isAction()      {}
-func (*Keep) isAction()          {}
-func (*SyncCopy) isAction()      {}
-func (*WriteReport) isAction()   {}
-func (*ReadReports) isAction()   {}
-func (*ReadClock) isAction()     {}
-func (*ReadFull) isAction()      {}
-func (*Answer) isAction()        {}
-func (*Say) isAction()           {}
-func (*SetTimer) isAction()      {}
-func (*End) isAction()           {}
+func (*ReadStart) isAction()   {}
+func (*KeepHead) isAction()    {}
+func (*Read) isAction()        {}
+func (*Append) isAction()      {}
+func (*ReadNode) isAction()    {}
+func (*ReadTrimmed) isAction() {}
+func (*StopNode) isAction()    {}
+func (*StartServer) isAction() {}
+func (*Feed) isAction()        {}
+func (*ReadCopy) isAction()    {}
+func (*Keep) isAction()        {}
+func (*SyncCopy) isAction()    {}
+func (*WriteReport) isAction() {}
+func (*ReadReports) isAction() {}
+func (*ReadClock) isAction()   {}
+func (*ReadFull) isAction()    {}
+func (*Answer) isAction()      {}
+func (*Say) isAction()         {}
+func (*SetTimer) isAction()    {}
+func (*End) isAction()         {}

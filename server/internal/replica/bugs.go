@@ -29,4 +29,5 @@ const (
 	FeedsFromTheEnd                // a restarted server is given what follows, not all
 	KeepsTheCancelled              // a cancelled request is appended and answered
 	LooksNowhereElse               // an entry that does not fit is no entry at any node
+	ReadsAgain                     // an entry that comes once more is not passed over
 )

@@ -2,7 +2,9 @@
 
 package replica
 
-// Planted is the bug that each new core has, in this test binary.
-var Planted Bug
+var (
+	Planted Bug          // that each new core has, in this binary
+	Also    map[Bug]bool // more of them
+)
 
-func (c *Core) has(bug Bug) bool { return Planted == bug }
+func (c *Core) has(bug Bug) bool { return Planted == bug || Also[bug] }

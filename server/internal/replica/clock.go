@@ -2,6 +2,8 @@ package replica
 
 import (
 	"telovamish.org/server/internal/entries"
+	"telovamish.org/server/internal/faults"
+	"telovamish.org/server/internal/moments"
 	"telovamish.org/server/internal/report"
 )
 
@@ -74,9 +76,6 @@ func (e *StartRead) apply(c *Core) {
 	if c.isOver {
 		return
 	}
-	if e.TrimmedPosition == 0 {
-		c.comparator.agreed = mark{}
-	}
 	k.until = c.now.Running + clockFor
 	k.set()
 }
@@ -85,9 +84,9 @@ func (e *StartRead) apply(c *Core) {
 func (c *Core) failedBy(why Failure) bool {
 	switch why.Kind {
 	case FailedNoLog:
-		c.fail(NoLog, "%s", why.Text)
+		c.fail(faults.NoLog, "%s", why.Text)
 	case FailedFull:
-		c.fail(LogFull, "%s", why.Text)
+		c.fail(faults.LogFull, "%s", why.Text)
 	}
 	return c.isOver
 }
@@ -95,13 +94,13 @@ func (c *Core) failedBy(why Failure) bool {
 // hasRightHead compares the log's head with what this replica wants, and with the copy's.
 func (c *Core) hasRightHead(e *StartRead) bool {
 	if !c.settings.Head.HasSameRules(e.Head) {
-		c.fail(OtherRules, "the log has %s, and this replica %s", e.Head, c.settings.Head.Wanted())
+		c.fail(faults.OtherRules, "the log has %s, and this replica %s", e.Head, c.settings.Head.Wanted())
 		return false
 	}
 	if e.KeptHead == nil {
 		c.do(&KeepHead{e.Head})
 	} else if !entries.IsSameHead(e.Head, e.KeptHead) {
-		c.fail(OtherRules, "the log has %s, and %s is a copy of another log", e.Head, e.Folder)
+		c.fail(faults.OtherRules, "the log has %s, and %s is a copy of another log", e.Head, e.Folder)
 		return false
 	}
 	return true
@@ -113,10 +112,10 @@ func (c *Core) checkTrimmed(e *StartRead) {
 	position := int64(c.taken.Position)
 	isBehind := e.TrimmedPosition > position
 	if isBehind != (e.TrimmedPlace > c.taken.Place) || e.TrimmedPlace > e.Last || e.TrimmedPosition < 0 {
-		c.fail(BadEntry, "the log's `trimmed` has position %d at place %d, and the copy %d at %d",
+		c.fail(faults.BadEntry, "the log's `trimmed` has position %d at place %d, and the copy %d at %d",
 			e.TrimmedPosition, e.TrimmedPlace, position, c.taken.Place)
 	} else if isBehind && !c.has(ReadsATrimmedLog) {
-		c.fail(Trimmed, "the log begins after position %d, and the copy has %d: take a peer's, by copy-from",
+		c.fail(faults.Trimmed, "the log begins after position %d, and the copy has %d: take a peer's, by copy-from",
 			e.TrimmedPosition, position)
 	}
 }
@@ -146,11 +145,11 @@ func (k *clock) isFarBehind() bool {
 // isAhead has the clock looked at again in a while, for as long as that may take.
 func (k *clock) isAhead(format string, values ...any) {
 	if k.now.Running > k.until {
-		k.fail(Ahead, format, values...)
+		k.fail(faults.Ahead, format, values...)
 		return
 	}
 	if !k.isSaid {
-		k.say(report.Warning, string(Ahead)+": "+format+"; tested again for 120 s", values...)
+		k.say(report.Warning, string(faults.Ahead)+": "+format+"; tested again for 120 s", values...)
 	}
 	k.isSaid = true
 	k.next = k.now.Running + clockAgain
@@ -302,7 +301,7 @@ func (k *clock) confirm() {
 // meet has requests taken. The clock may have been set meanwhile.
 func (k *clock) meet() {
 	k.phase, k.next, k.isMet = met, never, true
-	k.sequencer.moments = steadyFrom(k.taken.LastMoment, k.now)
+	k.sequencer.moments = moments.From(int64(k.taken.LastMoment), k.now.Wall, k.now.Running)
 	k.reporter.ask()
 	k.do(&StartServer{})
 	k.sequencer.goOn()

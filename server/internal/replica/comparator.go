@@ -2,16 +2,8 @@ package replica
 
 import (
 	"telovamish.org/server/internal/entries"
+	"telovamish.org/server/internal/faults"
 )
-
-const marked = 64 // entries from one mark of the log to the next
-
-// mark is the log up to a position: its place, and the hash.
-type mark struct {
-	position uint64
-	place    int64
-	digest   entries.Hash
-}
 
 // claim is the hash of replies that a writer had.
 type claim struct {
@@ -22,15 +14,14 @@ type claim struct {
 // comparator compares what the writers of entries had, of the log and of replies, with what is here.
 type comparator struct {
 	*Core
-	agreed     mark               // up to where another writer had read the same log
-	marks      []mark             // after that
-	claims     map[uint64][]claim // of replies that are not here yet
+	agreed     map[entries.Writer]uint64 // up to where each had read the same log, as far as that is known
+	claims     map[uint64][]claim        // of replies that are not here yet
 	distrusted map[entries.Writer]bool
 }
 
 func (m *comparator) init(c *Core) {
 	m.Core, m.claims, m.distrusted = c, map[uint64][]claim{}, map[entries.Writer]bool{}
-	m.agreed = mark{c.taken.Position, c.taken.Place, c.taken.Digest}
+	m.agreed = map[entries.Writer]uint64{}
 	for _, writer := range c.settings.Distrusted {
 		m.distrusted[writer] = true
 	}
@@ -43,41 +34,19 @@ func (m *comparator) compare(entry *entries.Entry, data []byte) *doubt {
 		return nil
 	}
 	if entry.Log.Position >= position || entry.Replies.Position >= position {
-		why := misfit(data, "writer %s has more of the log than there is; keep all files", writer)
-		why.name = Diverged
+		why := misfit(data, m.agreed[writer], "writer %s has more of the log than there is; keep all files", writer)
+		why.name = faults.Diverged
 		return why
 	}
 	if entry.Log.Position+Kept > position {
 		if mine, ok := m.taken.Hash(entry.Log.Position); !ok || mine != entry.Log.Hash {
-			return &doubt{why: "has another log", data: data, isOther: true, writer: writer,
-				position: entry.Log.Position}
+			return &doubt{why: "has another log", data: data, since: m.agreed[writer], isOther: true,
+				writer: writer, position: entry.Log.Position}
 		}
-		if writer != m.settings.Writer {
-			m.agree(entry.Log.Position)
-		}
+		m.agreed[writer] = entry.Log.Position
 	}
 	m.compareReplies(entry.Replies, writer)
 	return nil
-}
-
-// agree is that another writer had read the same log up to a position.
-func (m *comparator) agree(position uint64) {
-	count := 0
-	for count < len(m.marks) && m.marks[count].position <= position {
-		m.agreed = m.marks[count]
-		count++
-	}
-	m.marks = m.marks[count:]
-}
-
-// mark marks the log here, at one of many positions.
-func (m *comparator) mark(position uint64) {
-	if position%marked == 0 {
-		m.marks = append(m.marks, mark{position, m.taken.Place, m.taken.Digest})
-	}
-	if len(m.marks) > Kept {
-		m.marks = m.marks[1:]
-	}
 }
 
 // compareReplies compares what a writer had of replies, now or when they come.
@@ -87,7 +56,7 @@ func (m *comparator) compareReplies(replies entries.Claim, writer entries.Writer
 	case !ok && replies.Position > m.follower.answered:
 		m.claims[replies.Position] = append(m.claims[replies.Position], claim{replies.Hash, writer})
 	case ok && mine != replies.Hash:
-		m.fail(Diverged, "at position %d: writer %s has replies with the hash %s, here it is %s; "+
+		m.fail(faults.Diverged, "at position %d: writer %s has replies with the hash %s, here it is %s; "+
 			"keep all files", replies.Position, writer, replies.Hash, mine)
 	}
 }

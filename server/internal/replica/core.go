@@ -17,6 +17,7 @@ import (
 	"time"
 
 	"telovamish.org/server/internal/entries"
+	"telovamish.org/server/internal/faults"
 	"telovamish.org/server/internal/report"
 )
 
@@ -42,6 +43,7 @@ type Settings struct {
 	Taken         *Taken         // what the copy has
 	Nodes         []string       // the engine's addresses
 	Server        string         // the name of its command, for lines
+	Window        int            // bytes of pairs that may be under way to the server; 4 MiB if 0
 	Patience      time.Duration  // that a request waits for the log
 	Ahead         time.Duration  // by which a clock, or the log's last moment, may be ahead
 	IsAlone       bool           // it serves though nobody confirms its clock
@@ -71,6 +73,9 @@ type Core struct {
 
 // New is a replica that begins with its first Step, by any event: Tick will do.
 func New(settings Settings) *Core {
+	if settings.Window == 0 {
+		settings.Window = 4 << 20
+	}
 	c := &Core{settings: settings, taken: settings.Taken, timer: never}
 	c.sequencer.init(c)
 	c.reader.init(c)
@@ -143,9 +148,9 @@ func (c *Core) say(level report.Level, format string, values ...any) {
 }
 
 // fail ends the replica by a fault, which is reported.
-func (c *Core) fail(name FaultName, format string, values ...any) {
-	why := fault{name, fmt.Sprintf(format, values...)}
-	c.end(name.Status(), why.line(), c.reporter.text(why.line()))
+func (c *Core) fail(name faults.Name, format string, values ...any) {
+	why := faults.New(name, format, values...)
+	c.end(why.Status, why.Line, c.reporter.text(why.Line))
 }
 
 // end ends the replica.
@@ -205,5 +210,10 @@ func (c *Core) LogAhead(now Instant) time.Duration {
 	return 0
 }
 
-// Lag is how long the moments are behind the clock.
-func (c *Core) Lag(now Instant) time.Duration { return c.sequencer.moments.lag(now) }
+// Lag is how long the moments are behind the clock; 0 before requests are taken.
+func (c *Core) Lag(now Instant) time.Duration {
+	if !c.clock.isMet {
+		return 0
+	}
+	return c.sequencer.moments.Lag(now.Wall, now.Running)
+}

@@ -87,7 +87,17 @@ func (r *rig) begin() { r.step(&StartRead{Head: did[*ReadStart](r).Head}) }
 // serve has it serve, alone.
 func (r *rig) serve() {
 	r.Helper()
-	r.begin()
+	r.serveFrom(StartRead{})
+	if !r.core.IsServing() {
+		r.Fatal("it does not serve")
+	}
+}
+
+// serveFrom has it begin with a log of its head.
+func (r *rig) serveFrom(start StartRead) {
+	r.Helper()
+	start.Head = did[*ReadStart](r).Head
+	r.step(&start)
 	r.step(&ReportsRead{})
 	r.step(&ReportWritten{true})
 	r.step(&ReportRead{Name: "m1", Data: []byte(r.core.settings.Writer.String())})
@@ -95,9 +105,6 @@ func (r *rig) serve() {
 	did[*StartServer](r)
 	r.step(&ReportWritten{true})
 	r.step(&ServerBegan{})
-	if !r.core.IsServing() {
-		r.Fatal("it does not serve")
-	}
 }
 
 // frame is a lookup of nothing by a client.

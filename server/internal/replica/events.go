@@ -87,10 +87,11 @@ type NodeRead struct {
 	Item *Item
 }
 
-// TrimmedRead is up to where the log was trimmed, asked for by ReadTrimmed; zeros if that is not known.
+// TrimmedRead is up to where the log was trimmed, asked for by ReadTrimmed.
 type TrimmedRead struct {
 	Position uint64
 	Place    int64
+	Failed   Failure
 }
 
 // ServerBegan is that a server's process runs, which is given entries from the first one on.

@@ -2,12 +2,9 @@ package replica
 
 import (
 	"telovamish.org/server/internal/entries"
+	"telovamish.org/server/internal/faults"
 	"telovamish.org/server/internal/frames"
 )
-
-// window is how many bytes of pairs may be under way to the server before the next ones are read from
-// the copy, when it has answered some.
-const window = 4 << 20
 
 // fed is an entry that the server was given: what each reply has to repeat, and how many came.
 type fed struct {
@@ -29,15 +26,15 @@ type follower struct {
 	inFlight  int    // bytes of these
 	answered  uint64 // the position up to which this process has answered
 	digest    entries.Hash
-	known     uint64 // up to which replies were checked when they came first
-	start     uint64 // what the copy had at the start
-	hasServed bool   // it has answered that
-	hashes    hashes // of the replies up to a position
+	known     uint64             // up to which replies were checked when they came first
+	start     uint64             // what the copy had at the start
+	hasServed bool               // it has answered that
+	hashes    ring[entries.Hash] // of the replies up to a position
 }
 
 func (f *follower) init(c *Core) {
 	f.Core, f.known, f.start = c, c.taken.Position, c.taken.Position
-	f.hashes.put(0, entries.Hash{})
+	f.hashes.put(entries.Hash{})
 }
 
 func (*ServerBegan) apply(c *Core) {
@@ -60,7 +57,7 @@ func (*ServerLost) apply(c *Core) {
 
 // goOn has entries read from the copy, if the server has room and was not given all.
 func (f *follower) goOn() {
-	if f.isRunning && !f.isReading && f.given < f.taken.Position && f.inFlight < window {
+	if f.isRunning && !f.isReading && f.given < f.taken.Position && f.inFlight < f.settings.Window {
 		f.isReading = true
 		f.do(&ReadCopy{f.given + 1})
 	}
@@ -75,7 +72,7 @@ func (e *CopyRead) apply(c *Core) {
 	for _, pairs := range e.Pairs {
 		askers, err := entries.AppendAskers(nil, pairs)
 		if err != nil {
-			c.fail(Damaged, "the entry at %d: %s", f.given+1, err)
+			c.fail(faults.Damaged, "the entry at %d: %s", f.given+1, err)
 			return
 		}
 		f.feed(f.given+1, pairs, askers)
@@ -83,12 +80,11 @@ func (e *CopyRead) apply(c *Core) {
 	f.goOn()
 }
 
-// give gives the server the next entry at once, if it has all before it and room.
+// give gives the server the next entry at once, if it has all before it and room. Otherwise it comes from
+// the copy, once the server has replied or what is read there has come.
 func (f *follower) give(position uint64, pairs []byte, askers []frames.Asker) {
-	if f.isRunning && !f.isReading && f.given == position-1 && f.inFlight < window {
+	if f.isRunning && !f.isReading && f.given == position-1 && f.inFlight < f.settings.Window {
 		f.feed(position, pairs, askers)
-	} else if !f.has(FeedsNothingLate) {
-		f.goOn()
 	}
 }
 
@@ -136,7 +132,7 @@ func (e *HashesCame) apply(c *Core) {
 	f.inFlight -= it.size
 	log, ok := c.taken.Hash(e.Position)
 	if e.Replies != it.digest || ok && log != e.Log {
-		c.fail(Diverged, "%s has another hash at position %d", f.settings.Server, e.Position)
+		c.fail(faults.Diverged, "%s has another hash at position %d", f.settings.Server, e.Position)
 		return
 	}
 	f.finish(e.Position, it.digest)
@@ -146,11 +142,11 @@ func (e *HashesCame) apply(c *Core) {
 func (f *follower) finish(position uint64, digest entries.Hash) {
 	before, ok := f.hashes.at(position)
 	if ok && before != digest {
-		f.fail(Diverged, "%s answers the entry at %d otherwise than before", f.settings.Server, position)
+		f.fail(faults.Diverged, "%s answers the entry at %d otherwise than before", f.settings.Server, position)
 		return
 	}
-	if position == f.hashes.first+uint64(len(f.hashes.ring)) {
-		f.hashes.put(position, digest)
+	if position == f.hashes.end() {
+		f.hashes.put(digest)
 	}
 	f.digest, f.answered = digest, position
 	if position > f.known {
@@ -158,7 +154,9 @@ func (f *follower) finish(position uint64, digest entries.Hash) {
 	}
 	f.comparator.answered(position)
 	f.hasServed = f.hasServed || position >= f.start
-	f.goOn()
+	if !f.has(FeedsNothingLate) {
+		f.goOn()
+	}
 }
 
 // hasCaughtUp reports whether a process runs, and has answered what those before it had.

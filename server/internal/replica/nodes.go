@@ -7,6 +7,7 @@ import (
 	"strings"
 
 	"telovamish.org/server/internal/entries"
+	"telovamish.org/server/internal/faults"
 	"telovamish.org/server/internal/report"
 )
 
@@ -27,8 +28,10 @@ type nodes struct {
 	search    *search   // for an entry
 	survey    *survey   // of the log
 	later     []*survey // that come after it
-	isDoubted bool      // another replica doubts this one's log
+	proven    uint64    // up to where most nodes have had the same log
 	doubtedBy map[string]bool
+	isDoubted bool   // another replica doubts this one's log
+	agreed    uint64 // up to where that one had read the same
 }
 
 // search is for the entry after what was taken, as another node has it.
@@ -44,20 +47,21 @@ type search struct {
 
 // survey counts the nodes by the hash of the log that they have from a mark up to a position.
 type survey struct {
-	base      mark
+	base      mark // from where on the log is in doubt, and is not trimmed
 	position  uint64
 	mine      entries.Hash
-	isMine    bool     // mine is known
-	isAll     bool     // each node is waited for
+	isAll     bool     // each node is waited for, for a while; otherwise most of them, of one log
 	isWaiting bool     // for where the log begins
+	isSaid    bool     // that most nodes do not answer
+	isOther   bool     // more nodes have another log, if it was not trimmed meanwhile
 	left      []string // nodes that did not answer yet
 	at        int      // the one of them that is asked now
 	until     int64
-	again     int64 // when those that are left are asked again
+	again     int64 // when it goes on after a pause
 	reached   uint64
 	digest    entries.Hash
 	numbers   map[entries.Writer]uint64 // the last one of each writer that was seen
-	found     map[entries.Hash]int
+	found     map[entries.Hash][]string
 	then      func() // if no more nodes have another log
 }
 
@@ -110,13 +114,13 @@ func (n *nodes) searchOn() {
 	it := n.search
 	switch {
 	case it.at < len(it.left):
-		n.askNode(it.left[it.at], n.reader.place)
+		n.askNode(it.left[it.at], n.taken.Place) // one that is missing may be before one that is there twice
 	case len(it.left) > 0 && n.now.Running <= it.until:
 		it.again = n.now.Running + nodePause
 	default:
 		n.search = nil
 		// an entry that was not read may be missing here
-		n.testAt(n.taken.Position, true, func() { n.failBy(it) })
+		n.test(n.taken.Position, it.why.since, true, func() { n.failBy(it) })
 	}
 }
 
@@ -127,6 +131,9 @@ func (n *nodes) searched(item *Item) {
 		it.at++
 		n.searchOn()
 		return
+	}
+	if entry, err := entries.Parse(item.Data); err == nil && n.reader.isTwice(&entry) {
+		return // the next one counts
 	}
 	n.do(&StopNode{n.ask})
 	n.ask++ // what it has after that does not matter
@@ -194,13 +201,13 @@ func (n *nodes) failBy(it *search) {
 	if names == "" {
 		names = "the engine"
 	}
-	n.fail(Rotten, "%s; it fits at none of %s: take a peer's copy", said, names)
+	n.fail(faults.Rotten, "%s; it fits at none of %s: take a peer's copy", said, names)
 }
 
 // settle compares the log with that of the nodes. If they do not have another one, the writer of an
 // entry is doubted.
 func (n *nodes) settle(item Item, why *doubt, then func()) {
-	n.test(why.position, func() {
+	n.test(why.position, why.since, false, func() {
 		n.doubts[why.writer] = true
 		n.say(report.Error, "writer %s %s up to position %d", why.writer, why.why, why.position)
 		n.reporter.ask()
@@ -208,25 +215,24 @@ func (n *nodes) settle(item Item, why *doubt, then func()) {
 	})
 }
 
-// test ends the replica if more nodes have another log up to a position than have this one's, of the most
-// that answer.
-func (n *nodes) test(position uint64, then func()) { n.testAt(position, false, then) }
-
-// testAt is test, of all nodes that answer within a while if isAll.
-func (n *nodes) testAt(position uint64, isAll bool, then func()) {
-	it := &survey{position: position, isAll: isAll, found: map[entries.Hash]int{}, then: then, again: never}
-	it.left = append(it.left, n.settings.Nodes...)
-	it.until = n.now.Running + latest
-	if n.comparator.agreed.position <= position {
-		it.base = n.comparator.agreed
+// test ends the replica if more nodes have another log up to a position than have this one's. Up to `since`
+// the log is not in doubt.
+func (n *nodes) test(position, since uint64, isAll bool, then func()) {
+	it := &survey{position: position, isAll: isAll, found: map[entries.Hash][]string{}, then: then, again: never}
+	it.left, it.until = n.all(), n.now.Running+latest
+	it.mine, _ = n.taken.Hash(position)
+	if since < n.proven {
+		since = n.proven
 	}
-	it.mine, it.isMine = n.taken.Hash(position)
+	it.base, _ = n.taken.marks.at(since) // if it is kept no more, from the beginning
 	if n.survey != nil {
 		n.later = append(n.later, it)
 		return
 	}
 	n.begin(it)
 }
+
+func (n *nodes) all() []string { return append([]string{}, n.settings.Nodes...) }
 
 // begin asks from where on nodes have the log.
 func (n *nodes) begin(it *survey) {
@@ -240,44 +246,86 @@ func (e *TrimmedRead) apply(c *Core) {
 	if it == nil || !it.isWaiting {
 		return
 	}
+	if e.Failed.Kind != NoFailure {
+		it.again = c.now.Running + nodePause
+		return
+	}
 	it.isWaiting = false
-	if e.Position > it.base.position && e.Position <= it.position && !n.has(SurveysWhatWasTrimmed) {
-		if digest, ok := c.taken.Hash(e.Position); ok {
-			it.base = mark{e.Position, e.Place, digest}
-		}
+	if it.isOther && e.Place <= it.base.place {
+		n.failByOthers(it)
+		return
+	}
+	if it.isOther { // what they had was not all
+		it.isOther, it.found, it.left, it.at = false, map[entries.Hash][]string{}, n.all(), 0
+	}
+	if e.Place > it.base.place && !n.has(SurveysWhatWasTrimmed) {
+		it.base = c.taken.markBefore(e.Place)
 	}
 	n.surveyOn()
+}
+
+// doubtBy is that another replica doubts this one's log.
+func (n *nodes) doubtBy(writer string) {
+	if n.doubtedBy[writer] {
+		return
+	}
+	n.doubtedBy[writer] = true
+	since := uint64(0)
+	for it, position := range n.comparator.agreed {
+		if it.String() == writer {
+			since = position
+		}
+	}
+	if !n.isDoubted || since < n.agreed {
+		n.isDoubted, n.agreed = true, since
+	}
 }
 
 // testWhereDoubted compares the log with that of the nodes when another replica doubts this one.
 func (n *nodes) testWhereDoubted() {
 	if n.isDoubted && n.clock.isMet && n.search == nil && n.survey == nil {
 		n.isDoubted = false
-		n.test(n.taken.Position, func() {})
+		n.test(n.taken.Position, n.agreed, false, func() {})
 	}
 }
 
 // surveyOn asks the next node for its log; after all of them those that did not answer, after a pause, as
-// long as most nodes have not.
+// long as most nodes do not have the same one.
 func (n *nodes) surveyOn() {
 	it := n.survey
-	if it.reached, it.digest = it.base.position, it.base.digest; it.reached == it.position {
-		for range it.left {
-			it.found[it.digest]++
-		}
-		it.left = nil
-	}
 	missing := len(it.left)
 	switch {
-	case it.at < missing:
-		it.numbers = map[entries.Writer]uint64{}
-		n.askNode(it.left[it.at], it.base.place)
-	case (it.isAll && missing > 0 || 2*missing >= len(n.settings.Nodes)) && n.now.Running <= it.until:
-		it.again = n.now.Running + nodePause
-	default:
+	case it.base.position >= it.position: // no node has that any more
 		n.survey = nil
-		n.judge(it)
+		it.then()
 		n.goOn()
+	case it.at < missing:
+		it.reached, it.digest = it.base.position, it.base.digest
+		it.numbers = n.taken.numbersAt(it.base.position)
+		n.askNode(it.left[it.at], it.base.place)
+	case missing > 0 && (!it.isDecided(len(n.settings.Nodes)) || it.isAll && n.now.Running <= it.until):
+		it.again = n.now.Running + nodePause
+		n.sayWaiting(it)
+	default:
+		n.judge(it)
+	}
+}
+
+// isDecided reports whether most nodes have the same log.
+func (s *survey) isDecided(nodes int) bool {
+	for _, names := range s.found {
+		if 2*len(names) > nodes {
+			return true
+		}
+	}
+	return false
+}
+
+// sayWaiting says once that too few nodes answer: one alone, or one of two, may be the wrong one.
+func (n *nodes) sayWaiting(it *survey) {
+	if n.now.Running > it.until && !it.isSaid {
+		it.isSaid = true
+		n.say(report.Warning, "waits for most nodes of the engine, to compare the log up to position %d", it.position)
 	}
 }
 
@@ -303,7 +351,7 @@ func (n *nodes) surveyed(item *Item) {
 	case !it.counts(item.Data) || it.reached < it.position:
 		return
 	default:
-		it.found[it.digest]++
+		it.found[it.digest] = append(it.found[it.digest], it.left[it.at])
 		it.left = append(it.left[:it.at], it.left[it.at+1:]...)
 		n.do(&StopNode{n.ask})
 		n.ask++
@@ -311,26 +359,39 @@ func (n *nodes) surveyed(item *Item) {
 	n.surveyOn()
 }
 
-// judge ends the replica if more nodes have one other log than have this one's.
+// judge goes on, or ends the replica if more nodes have one other log than have this one's. Was the log
+// trimmed while they were asked, they are asked again.
 func (n *nodes) judge(it *survey) {
-	others, same := 0, 0
-	for digest, count := range it.found {
-		if it.isMine && digest == it.mine {
-			same = count
-		} else if count > others {
-			others = count
-		}
-	}
-	if others > same {
-		n.fail(Rotten, "%d nodes of the engine have another log up to position %d than was read here: "+
-			"take a peer's copy", others, it.position)
+	same := len(it.found[it.mine])
+	if it.isOther = len(it.others()) > same; it.isOther {
+		n.begin(it)
 		return
 	}
+	n.survey = nil
+	if 2*same > len(n.settings.Nodes) && it.position > n.proven {
+		n.proven = it.position
+	}
 	it.then()
+	n.goOn()
 }
 
-// counts takes an entry in, if it is not in the log a second time after the mark. Bytes that are not an
-// entry stand for themselves.
+func (n *nodes) failByOthers(it *survey) {
+	n.fail(faults.Rotten, "%s have another log up to position %d than was read here: take a peer's copy",
+		strings.Join(it.others(), ", "), it.position)
+}
+
+// others are the nodes that have another log, of the log that most of these have.
+func (s *survey) others() (others []string) {
+	for digest, names := range s.found {
+		if digest != s.mine && len(names) > len(others) {
+			others = names
+		}
+	}
+	return others
+}
+
+// counts takes an entry in, if it is not in the log a second time. Bytes that are not an entry stand for
+// themselves.
 func (s *survey) counts(data []byte) bool {
 	entry, err := entries.Parse(data)
 	if err != nil {
@@ -351,7 +412,11 @@ func (n *nodes) due(now int64) int64 {
 	if it := n.survey; it != nil {
 		if now >= it.again {
 			it.again, it.at = never, 0
-			n.surveyOn()
+			if it.isWaiting {
+				n.do(&ReadTrimmed{})
+			} else {
+				n.surveyOn()
+			}
 		}
 	} else if it := n.search; it != nil && now >= it.again {
 		it.again, it.at = never, 0

@@ -5,6 +5,7 @@ import (
 	"fmt"
 
 	"telovamish.org/server/internal/entries"
+	"telovamish.org/server/internal/faults"
 	"telovamish.org/server/internal/frames"
 )
 
@@ -27,14 +28,15 @@ func (r *reader) init(c *Core) { r.Core, r.place, r.isSettled = c, c.taken.Place
 type doubt struct {
 	why      string
 	data     []byte
-	name     FaultName // of a misfit: that of its fault if it was written so
-	isOther  bool      // the writer had read another log, up to a position
+	since    uint64      // up to where nothing is missing that it is about
+	name     faults.Name // of a misfit: that of its fault if it was written so
+	isOther  bool        // the writer had read another log, up to a position
 	writer   entries.Writer
 	position uint64
 }
 
-func misfit(data []byte, format string, values ...any) *doubt {
-	return &doubt{why: fmt.Sprintf(format, values...), data: data, name: BadEntry}
+func misfit(data []byte, since uint64, format string, values ...any) *doubt {
+	return &doubt{why: fmt.Sprintf(format, values...), data: data, since: since, name: faults.BadEntry}
 }
 
 // read has the log read on, after what was taken.
@@ -49,7 +51,7 @@ func (r *reader) read(isElsewhere bool) {
 func (e *EntryRead) apply(c *Core) {
 	r := &c.reader
 	switch {
-	case e.Reading != r.reading, e.Item.Place <= r.place:
+	case e.Reading != r.reading, e.Item.Place <= r.place && !r.has(ReadsAgain):
 	case !r.isSettled:
 		r.hasLeft = true
 	default:
@@ -59,7 +61,7 @@ func (e *EntryRead) apply(c *Core) {
 
 func (e *ReadGone) apply(c *Core) {
 	if e.Reading == c.reader.reading {
-		c.fail(Trimmed, "%s; take a peer's, by copy-from", e.Text)
+		c.fail(faults.Trimmed, "%s; take a peer's, by copy-from", e.Text)
 	}
 }
 
@@ -110,21 +112,22 @@ func (r *reader) take(item Item) *doubt {
 	own := r.ownOf(item.Data)
 	entry, err := r.parse(item.Data, own)
 	if err != nil {
-		return misfit(item.Data, "%s", err)
+		return misfit(item.Data, r.taken.Position, "%s", err)
 	}
 	before := r.taken.Numbers[entry.Writer]
-	if entry.Number <= before && !r.has(TakesTwice) {
+	if r.isTwice(&entry) {
 		text := fmt.Sprintf("entry %d of a writer is in the log twice, and is taken once", entry.Number)
 		r.do(&Say{Level: "warning", Text: text, Kind: "twice"})
 		r.place = item.Place
 		return nil
 	}
 	if entry.Number > before+1 && !r.has(SkipsAGap) {
-		return misfit(item.Data, "it has number %d after %d (%s)", entry.Number, before, restored)
+		return misfit(item.Data, r.taken.lastOf(entry.Writer), "it has number %d after %d (%s)", entry.Number, before,
+			restored)
 	}
 	askers, err := r.askersOf(&entry, own)
 	if err != nil {
-		return misfit(item.Data, "%s", err)
+		return misfit(item.Data, r.taken.Position, "%s", err)
 	}
 	if why := r.comparator.compare(&entry, item.Data); why != nil {
 		return why
@@ -133,6 +136,11 @@ func (r *reader) take(item Item) *doubt {
 		r.enter(item, &entry, own, askers)
 	}
 	return nil
+}
+
+// isTwice reports whether an entry was taken before.
+func (r *reader) isTwice(entry *entries.Entry) bool {
+	return entry.Number <= r.taken.Numbers[entry.Writer] && !r.has(TakesTwice)
 }
 
 // ownOf is the own entry that has these bytes, if one waits for them.
@@ -178,13 +186,12 @@ func (r *reader) enter(item Item, entry *entries.Entry, own *sent, askers []fram
 	r.taken.Count(item.Place, entry)
 	r.follower.give(position, entry.Pairs, askers)
 	r.copier.keep(position, item)
-	r.comparator.mark(position)
 }
 
 // checkPlace ends the replica if the log ends before the copy does: the engine has lost what it
 // acknowledged, or an old state of it was brought back.
 func (c *Core) checkPlace(last int64) {
 	if last < c.taken.Place || last == c.taken.Place && len(c.sequencer.sent) > 0 {
-		c.fail(Diverged, "the log ends at place %d, and the copy at %d; keep all files", last, c.taken.Place)
+		c.fail(faults.Diverged, "the log ends at place %d, and the copy at %d; keep all files", last, c.taken.Place)
 	}
 }

@@ -4,7 +4,10 @@ import (
 	"encoding/json"
 	"fmt"
 	"sort"
+	"strconv"
 	"strings"
+
+	"telovamish.org/server/internal/faults"
 )
 
 const reportEvery = 10 * second // after which a replica reports, if its position has changed
@@ -104,15 +107,22 @@ func (r *reporter) due(now int64) int64 {
 
 // heardReport is a report of another replica, whose program may be another one: a field that is not what
 // it is to be is none.
-type heardReport map[string]json.RawMessage
+type heardReport struct {
+	Clock, Doubts, Fault, Heard, Hello, Writer json.RawMessage
+}
 
-func (h heardReport) text(name string) (text string) {
-	json.Unmarshal(h[name], &text)
+func textOf(field json.RawMessage) (text string) {
+	if len(field) > 0 {
+		json.Unmarshal(field, &text)
+	}
 	return text
 }
 
-func (h heardReport) number(name string) (number int64) {
-	json.Unmarshal(h[name], &number)
+func numberOf(field json.RawMessage) int64 {
+	number, err := strconv.ParseInt(string(field), 10, 64)
+	if err != nil {
+		return 0
+	}
 	return number
 }
 
@@ -130,17 +140,24 @@ func (e *ReportRead) apply(c *Core) {
 	if json.Unmarshal(e.Data, &it) != nil {
 		return
 	}
-	var heard map[string]json.Number
-	json.Unmarshal(it["heard"], &heard)
-	if hello, err := heard[c.settings.Name].Int64(); err == nil {
-		c.clock.hear(e.Name, hello, it.number("clock"))
-	}
-	r.hearHello(e.Name, it.number("hello"))
-	r.hearDoubt(it)
-	if why := it.text("fault"); why != "" && strings.Contains(why, c.settings.Writer.String()) {
-		c.fail(Diverged, "%s says: %s", e.Name, why)
+	r.hearClock(e.Name, &it)
+	r.hearHello(e.Name, numberOf(it.Hello))
+	r.hearDoubt(&it)
+	if why := textOf(it.Fault); why != "" && strings.Contains(why, c.settings.Writer.String()) {
+		c.fail(faults.Diverged, "%s says: %s", e.Name, why)
 	}
 	c.clock.heard()
+}
+
+// hearClock takes the clock of a replica that answers a hello of this one.
+func (r *reporter) hearClock(name string, it *heardReport) {
+	var heard map[string]json.RawMessage
+	if len(it.Heard) > len("{}") {
+		json.Unmarshal(it.Heard, &heard)
+	}
+	if hello := numberOf(heard[r.settings.Name]); hello != 0 {
+		r.clock.hear(name, hello, numberOf(it.Clock))
+	}
 }
 
 // hearHello has a hello answered, once: answers to those who ask too would be answered by them without an
@@ -153,13 +170,14 @@ func (r *reporter) hearHello(name string, hello int64) {
 }
 
 // hearDoubt has the log compared with that of the nodes if another replica doubts it, once for each.
-func (r *reporter) hearDoubt(it heardReport) {
+func (r *reporter) hearDoubt(it *heardReport) {
 	var doubts []string
-	json.Unmarshal(it["doubts"], &doubts)
+	if len(it.Doubts) > 0 {
+		json.Unmarshal(it.Doubts, &doubts)
+	}
 	for _, writer := range doubts {
-		if by := it.text("writer"); writer == r.settings.Writer.String() && !r.nodes.doubtedBy[by] {
-			r.nodes.doubtedBy[by] = true
-			r.nodes.isDoubted = true
+		if writer == r.settings.Writer.String() {
+			r.nodes.doubtBy(textOf(it.Writer))
 		}
 	}
 }

@@ -4,7 +4,9 @@ import (
 	"sort"
 
 	"telovamish.org/server/internal/entries"
+	"telovamish.org/server/internal/faults"
 	"telovamish.org/server/internal/frames"
+	"telovamish.org/server/internal/moments"
 	"telovamish.org/server/internal/report"
 )
 
@@ -14,6 +16,8 @@ const (
 	pause     = second / 10 // before an append is tried again
 	come      = 2 * milli   // in which one of those who are answered comes again
 	gather    = 6 * milli   // and all of them
+
+	program = "tb_replica"
 
 	noLog   = "NoLog"
 	logFull = "LogFull"
@@ -48,7 +52,7 @@ type sequencer struct {
 	own     map[uint64]*sent // those that were read, by their position
 	under   *sent            // the one that is appended now
 	retryAt int64
-	moments steady
+	moments moments.Steady
 
 	isGathering         bool
 	want, before        int
@@ -122,7 +126,7 @@ func (s *sequencer) goOn() {
 
 // next is the next entry, of the requests that wait, with one moment for all.
 func (s *sequencer) next() *sent {
-	moment := s.moments.next(s.Core)
+	moment := s.moment()
 	it, length, count := &sent{lookAt: never}, 0, 0
 	for _, r := range s.queue {
 		if length+entries.MomentSize+len(r.Frame) > entries.PairsMax {
@@ -145,6 +149,19 @@ func (s *sequencer) next() *sent {
 	s.queue = s.queue[:left]
 	s.name(it, pairs)
 	return it
+}
+
+// moment is that of the next entry.
+func (s *sequencer) moment() uint64 {
+	wall, running := s.now.Wall, s.now.Running
+	if s.has(TrustsAJump) {
+		s.moments = moments.From(s.moments.Last, wall, running)
+	}
+	moment, line := s.moments.Next(wall, running, program)
+	if line != "" {
+		s.say(report.Warning, "%s", line)
+	}
+	return moment
 }
 
 // name makes an entry of pairs, by the next number.
@@ -185,7 +202,7 @@ func (e *Appended) apply(c *Core) {
 // wasPassedOver is that an own entry is before what was read: the node that is read from has lost it, or
 // the engine has lost what it acknowledged.
 func (s *sequencer) wasPassedOver(number uint64, place int64) {
-	s.nodes.testAt(s.taken.Position, true, func() {
+	s.nodes.test(s.taken.Position, s.sent[number].entry.Log.Position, true, func() {
 		if s.sent[number] != nil {
 			s.checkPlace(place)
 		}
@@ -214,9 +231,9 @@ func (e *AppendLost) apply(c *Core) {
 	s := &c.sequencer
 	isFull := e.Why.Kind == FailedFull
 	if isFull && !s.isFull || !isFull && !s.isAway {
-		name := NoLog
+		name := faults.NoLog
 		if isFull {
-			name = LogFull
+			name = faults.LogFull
 		}
 		c.say(report.Warning, "%s: %s", name, e.Why.Text)
 	}
@@ -320,15 +337,15 @@ func (s *sequencer) tell(it *sent, at int, reply []byte, why string) {
 	s.answer(r, reply, why)
 }
 
-// lookElsewhere reads at another address if what was written is not read at this one. It returns when
-// it is to be done next.
+// lookElsewhere reads at another address if what was written is not read at this one, from what was taken
+// on: there may be what this one has lost. It returns when it is to be done next.
 func (s *sequencer) lookElsewhere(now int64) int64 {
 	next := int64(never)
 	for _, it := range s.sent {
 		if now >= it.lookAt {
-			if now >= s.looked+elsewhere { // for all that wait: each place needs time
+			if now >= s.looked+elsewhere && s.reader.isSettled { // for all that wait: each address needs time
 				s.looked = now
-				s.do(&LookElsewhere{})
+				s.reader.read(true)
 			}
 			it.lookAt = now + elsewhere
 		}

@@ -28,6 +28,7 @@ func (b *Backend) do(now replica.Instant, action replica.Action) {
 	case *replica.SetTimer:
 		b.setTimer(now, it.At)
 	case *replica.Say:
+		b.says(it.Text)
 		if it.Kind != "" {
 			b.lines.SayOf("", it.Text, it.Kind)
 		} else {
@@ -51,8 +52,6 @@ func (b *Backend) doSeldom(action replica.Action) {
 		b.goes(b.serve)
 	case *replica.Read:
 		b.read(*it)
-	case *replica.LookElsewhere:
-		b.log.LookElsewhere()
 	case *replica.ReadNode:
 		b.readNode(*it)
 	case *replica.StopNode:
@@ -84,8 +83,9 @@ func (b *Backend) ask(action replica.Action) {
 	case *replica.ReadTrimmed:
 		b.goes(func() {
 			position, place, err := b.log.Trimmed(b.ctx)
-			if _, ok := b.failed(err); ok {
-				b.post(&replica.TrimmedRead{Position: position, Place: int64(place)})
+			if why, ok := b.failed(err); ok {
+				b.trimmed(position, err)
+				b.post(&replica.TrimmedRead{Position: position, Place: int64(place), Failed: why})
 			}
 		})
 	case *replica.WriteReport:
@@ -95,6 +95,8 @@ func (b *Backend) ask(action replica.Action) {
 			if _, ok := b.failed(err); ok {
 				b.post(&replica.ReportWritten{IsWritten: err == nil})
 			}
+			position, _, err := b.log.Trimmed(b.ctx) // another one may have trimmed it
+			b.trimmed(position, err)
 		})
 	case *replica.ReadReports:
 		b.goes(b.readReports)
@@ -133,7 +135,9 @@ func (b *Backend) serve() {
 }
 
 func (b *Backend) append(it replica.Append) {
+	b.appending(it)
 	b.goes(func() {
+		b.appends()
 		place, err := b.log.Append(b.ctx, it.Writer[:], it.Number, it.Data)
 		why, ok := b.failed(err)
 		switch {
@@ -151,6 +155,7 @@ func (b *Backend) sync(to mark) {
 		b.fail(err)
 		return
 	}
+	b.synced.Store(to.Position)
 	b.post(&replica.CopySynced{Position: to.Position, Place: int64(to.Place), End: to.End})
 }
 
@@ -167,6 +172,7 @@ func (b *Backend) readStart(head []byte) {
 		var place agreed.Place
 		position, place, err = b.log.Trimmed(b.ctx)
 		it.TrimmedPosition, it.TrimmedPlace = int64(position), int64(place)
+		b.trimmed(position, err)
 	}
 	if err == nil {
 		var last agreed.Place
@@ -176,6 +182,13 @@ func (b *Backend) readStart(head []byte) {
 	why, ok := b.failed(err)
 	if it.Failed = why; ok {
 		b.post(it)
+	}
+}
+
+// trimmed notes where the log begins.
+func (b *Backend) trimmed(position uint64, err error) {
+	if err == nil {
+		b.first.Store(position + 1)
 	}
 }
 

@@ -15,7 +15,6 @@ import (
 	"telovamish.org/server/internal/follower"
 	"telovamish.org/server/internal/logcopy"
 	"telovamish.org/server/internal/memory"
-	"telovamish.org/server/internal/moments"
 	"telovamish.org/server/internal/replica"
 	"telovamish.org/server/internal/report"
 )
@@ -49,7 +48,10 @@ type Backend struct {
 
 	isServing atomic.Bool
 	lag       atomic.Int64
+	synced    atomic.Uint64 // the copy's position on the disk
+	first     atomic.Uint64 // the first entry that the log still has; 0 before that was read
 	hasBegun  bool
+	wrong     wrong
 	ended     *replica.End
 	timer     *time.Timer
 	reading   *reading
@@ -57,6 +59,7 @@ type Backend struct {
 	serving   chan error // nil before the server was started
 
 	mu      sync.Mutex
+	numbers backend.LogNumbers
 	events  []event
 	wake    chan struct{}
 	isOver  bool
@@ -83,6 +86,7 @@ func New(s replica.Settings, words []string, slow time.Duration, log agreed.Log,
 		pending: map[*backend.Request]*replica.Request{},
 		askers:  map[*replica.Request]*backend.Request{},
 	}
+	b.synced.Store(copy.Mark().Position)
 	b.ctx, b.cancel = context.WithCancel(context.Background())
 	b.server = follower.New(words, slow, &replies{Backend: b}, lines)
 	return b
@@ -114,13 +118,14 @@ func (b *Backend) Run() error {
 		b.mu.Unlock()
 		for at, it := range some {
 			if b.ended == nil {
-				b.step(it.it)
+				b.steps(it.it)
 			}
 			if it.done != nil {
 				it.done()
 			}
 			some[at] = event{}
 		}
+		b.count()
 		spare = some
 	}
 	return b.end()
@@ -128,7 +133,7 @@ func (b *Backend) Run() error {
 
 // step has the core take an event, and does what it asks for.
 func (b *Backend) step(it replica.Event) {
-	now := replica.Instant{Wall: moments.Wall(), Running: moments.Running()}
+	now := b.clocks()
 	for _, action := range b.core.Step(now, it) {
 		b.do(now, action)
 	}
@@ -138,6 +143,32 @@ func (b *Backend) step(it replica.Event) {
 		b.hasBegun = true
 		close(b.begun)
 	}
+}
+
+// count notes the core's numbers for those who ask meanwhile.
+func (b *Backend) count() {
+	now := b.clocks()
+	state, rotten := b.core.State(), b.core.Rotten()
+	b.mu.Lock()
+	defer b.mu.Unlock()
+	n := &b.numbers
+	n.Position, n.Answered, n.Ahead = state.Position, state.Answered, b.core.LogAhead(now)
+	if len(rotten) > 0 {
+		n.Rotten = make(map[string]int, len(rotten))
+		for node, count := range rotten {
+			n.Rotten[node] = count
+		}
+	}
+}
+
+// LogNumbers implements backend.OverLog.
+func (b *Backend) LogNumbers() backend.LogNumbers {
+	b.mu.Lock()
+	its := b.numbers
+	b.mu.Unlock()
+	its.First = b.first.Load()
+	its.CopyPosition, its.CopyBytes = b.synced.Load(), b.copy.Mark().End
+	return its
 }
 
 // end ends all that is under way, after the core's end.

@@ -204,6 +204,15 @@ func TestRequests(t *testing.T) {
 		same(t, "a reply", it.came(t), at+2)
 	}
 	same(t, "it serves", m.IsServing(), true)
+	its := m.LogNumbers()
+	for end := time.Now().Add(time.Minute); its.Answered != its.Position && time.Now().Before(end); its = m.LogNumbers() {
+		time.Sleep(time.Millisecond) // the last entry's answer is counted after its reply is sent
+	}
+	isOdd := its.Position < 2 || its.Position > 50 || its.Answered != its.Position || its.First != 1 ||
+		its.CopyPosition > its.Position || its.CopyBytes < 50*48 || len(its.Rotten) != 0
+	if isOdd {
+		t.Errorf("%+v", its)
+	}
 	same(t, "the end", m.end(), nil)
 	same(t, "a late one", m.ask(60).came(t), programEnded)
 	again := began(t, engine, filepath.Join(folder, "r0"), "r0").serves()

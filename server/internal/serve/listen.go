@@ -15,18 +15,18 @@ import (
 // Listen is the program tb-listen. It returns the exit status.
 func Listen(arguments []string) int {
 	defer report.Guard()
-	hasOutput := fillStandardFiles()
+	hasOutput := FillStandardFiles()
 	signals := Signals()
 	if len(arguments) > 0 && arguments[0] == "status" {
 		return status.Main(arguments[1:])
 	}
-	c, err := config.Parse(arguments)
+	c, err := config.Listener.Parse(arguments)
 	log := report.New(config.Program, c.IsJSON)
 	var page *config.Page
 	var usage *config.Usage
 	switch {
 	case errors.As(err, &page):
-		return show(page.Text, hasOutput, log)
+		return Show(page.Text, hasOutput, log)
 	case errors.As(err, &usage):
 		os.Stderr.WriteString(usage.Text)
 		return 2
@@ -43,8 +43,8 @@ func Listen(arguments []string) int {
 	return code
 }
 
-// show prints a page on standard output.
-func show(text string, hasOutput bool, log *report.Log) int {
+// Show prints a page on standard output.
+func Show(text string, hasOutput bool, log *report.Log) int {
 	if !hasOutput {
 		log.Say(report.Error, "standard output is closed")
 		return 1
@@ -56,10 +56,10 @@ func show(text string, hasOutput bool, log *report.Log) int {
 	return 0
 }
 
-// fillStandardFiles opens the null device in place of standard files that are closed: otherwise what is
+// FillStandardFiles opens the null device in place of standard files that are closed: otherwise what is
 // opened next takes their numbers, and gets what is meant for them. It reports whether standard output
 // was open.
-func fillStandardFiles() bool {
+func FillStandardFiles() bool {
 	hasOutput := true
 	for {
 		file, err := syscall.Open(os.DevNull, syscall.O_RDWR, 0)

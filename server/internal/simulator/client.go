@@ -6,7 +6,8 @@ import (
 	"telovamish.org/tbclient"
 )
 
-const patience = 3 * second // for which a client waits for a reply
+// patiences are those of clients, in which they wait for a reply: less or more than a replica does.
+var patiences = [...]int64{3 * second, 3 * second, 8 * second}
 
 // call is a request of a client, when it was made, and its reply if it returned. It is sent until one
 // comes: the same bytes, to any replica.
@@ -19,14 +20,8 @@ type call struct {
 	isOver   bool // nobody waits for it: it returned, or the run ended
 	try      int  // how often it was sent
 	at       *machine
-	by       life // that has answered it
+	isRight  bool // the machine that has answered it had the right log up to there
 	requests []*replica.Request
-}
-
-// life is a life of a machine.
-type life struct {
-	machine *machine
-	number  int
 }
 
 // client has one request at a time.
@@ -120,7 +115,7 @@ func (k *call) send() {
 			k.requests = append(k.requests, at.take(k))
 		}
 	})
-	c.after(patience, func() { k.again(try) })
+	c.after(patiences[c.number%len(patiences)], func() { k.again(try) })
 }
 
 // again sends a call once more, after the one that had no reply.
@@ -156,7 +151,7 @@ func (k *call) lost() {
 }
 
 // replied takes what a replica answers. It comes some time later.
-func (k *call) replied(reply, why string, by life) {
+func (k *call) replied(reply, why string, by *machine) {
 	c := k.client
 	if why != "" {
 		try := k.try
@@ -165,14 +160,16 @@ func (k *call) replied(reply, why string, by life) {
 	}
 	asked, got := frames.Header(k.frame).Asker(), frames.Header(reply).Asker()
 	c.see(asked == got, "client %d got a reply to another request", c.id)
+	isRight := by.differs == 0 || by.server.position < by.differs
+	c.isMisled = c.isMisled || !isRight
 	c.after(c.most(50*milli), func() {
 		if k.isOver {
-			c.see(k.reply == reply || k.reply == "" || c.wasEvicted(), "client %d got two replies to one request", c.id)
+			c.see(k.reply == reply || k.reply == "" || c.wasEvicted() || c.isMisled, "client %d got two replies to one request", c.id)
 			return
 		}
-		k.isOver, k.ended, k.reply, k.by = true, c.now, reply, by
+		k.isOver, k.ended, k.reply, k.isRight = true, c.now, reply, isRight
 		c.tell("client %d: request %d, %s, got %s from %s, commit %d", c.id, frames.Header(reply).Number(),
-			frames.Header(reply).Operation(), frames.Header(reply).Status(), by.machine.name, frames.Header(reply).Commit())
+			frames.Header(reply).Operation(), frames.Header(reply).Status(), by.name, frames.Header(reply).Commit())
 		k.try++
 		k.leave()
 		c.returned(k)
@@ -192,7 +189,7 @@ func (c *client) returned(k *call) {
 		c.session = 0
 	default:
 		c.session = 0
-		c.see(isRegister || c.wasEvicted() || c.injected[nodeLoses], "client %d got status %s", c.id, header.Status())
+		c.see(isRegister || c.wasEvicted() || c.isMisled, "client %d got status %s", c.id, header.Status())
 	}
 	c.after(c.most(300*milli), c.goOn)
 }

@@ -55,10 +55,10 @@ type engine struct {
 
 	awayUntil, fullUntil, electsUntil int64
 	trimmedPosition, trimmedPlace     int64
+	gonePlace                         int64     // up to which a reader is told that the log was trimmed
 	rots                              func(row) // what happens to the next entry
 	woken                             func()    // has readers look
 	isQuiet                           bool
-	isOnce                            bool // no entry is appended twice
 }
 
 func newEngine(s *schedule, kind kind, nodes int) *engine {
@@ -72,7 +72,7 @@ func newEngine(s *schedule, kind kind, nodes int) *engine {
 // append appends an entry once, as a rule. It returns its place, and when that is known.
 func (e *engine) append(name entryName, data []byte) (place, known int64) {
 	place, ok := e.places[name]
-	isTwice := ok && e.kind == etcd && !e.isQuiet && !e.isOnce && e.happens(200)
+	isTwice := ok && e.kind == etcd && !e.isQuiet && e.happens(200)
 	if !ok || isTwice {
 		e.last++
 		if !ok {
@@ -190,6 +190,26 @@ func (n *node) gives(it row) (row, bool) {
 	return it, data != nil
 }
 
+// isLost reports whether a node has lost the entry at a place.
+func (e *engine) isLost(place int64) bool {
+	for _, it := range e.nodes {
+		if data, ok := it.rotten[place]; ok && data == nil {
+			return true
+		}
+	}
+	return false
+}
+
+// isRotten reports whether a node's disk has changed or lost an entry.
+func (e *engine) isRotten(name string) bool {
+	for _, it := range e.nodes {
+		if it.name == name {
+			return len(it.rotten) > 0
+		}
+	}
+	return false
+}
+
 // turnAt is the row after which the entries after a place come.
 func (e *engine) turnAt(place int64) (turn uint64) {
 	for _, it := range e.rows {
@@ -201,9 +221,13 @@ func (e *engine) turnAt(place int64) (turn uint64) {
 	return turn
 }
 
-// trim removes the entries up to a place, and reports before that.
-func (e *engine) trim(position, place int64) {
+// trim removes the entries up to a place, and reports before that. If it is cut short, nothing tells a reader
+// that they are gone.
+func (e *engine) trim(position, place int64, isCut bool) {
 	e.trimmedPosition, e.trimmedPlace = position, place
+	if !isCut {
+		e.gonePlace = place
+	}
 	left := []row{}
 	for _, it := range e.rows {
 		if it.place > place {

@@ -93,7 +93,7 @@ func (w *world) hurt(f aFault) {
 	case clockStarts:
 		w.startWrong(f)
 	case logTrimmed:
-		w.trim()
+		w.trim(f.coin)
 	case diskLost, diskRots:
 		w.loseDisk(m, f)
 	}
@@ -143,7 +143,7 @@ func (w *world) startWrong(f aFault) {
 }
 
 // trim removes what all listed replicas have synced, as `tb-replica trim` does.
-func (w *world) trim() {
+func (w *world) trim(isCut bool) {
 	if len(w.engine.names) < len(w.machines) {
 		return
 	}
@@ -158,7 +158,7 @@ func (w *world) trim() {
 	}
 	count := least.reported
 	if count > 0 && count <= len(least.disk) && least.disk[count-1].place > w.engine.trimmedPlace {
-		w.engine.trim(int64(count), least.disk[count-1].place)
+		w.engine.trim(int64(count), least.disk[count-1].place, isCut)
 	}
 }
 
@@ -172,7 +172,7 @@ func (w *world) loseDisk(m *machine, f aFault) {
 		return
 	}
 	m.crash(f.scale(second/10, 3*second))
-	m.disk, m.synced, m.head = nil, 0, nil
+	m.disk, m.synced, m.head, m.differs = nil, 0, nil, 0
 }
 
 // drawPlan draws what happens in a run.
@@ -188,11 +188,6 @@ func (w *world) drawPlan() plan {
 			at: at, kind: faultKind(w.drawn.Intn(int(faultKinds))), who: w.drawn.Intn(1 << 20),
 			size: w.between(0, 1000), coin: w.drawn.Intn(2) == 0,
 		})
-	}
-	for at := range p.faults {
-		if p.faults[at].kind == nodeLoses && !w.options.HasLosses {
-			p.faults[at].kind = nodeRots
-		}
 	}
 	sort.SliceStable(p.faults, func(a, b int) bool { return p.faults[a].at < p.faults[b].at })
 	return p

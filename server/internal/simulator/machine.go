@@ -1,11 +1,14 @@
 package simulator
 
 import (
-	"encoding/json"
+	"bytes"
 	"fmt"
+	"sort"
+	"strconv"
 	"strings"
 
 	"telovamish.org/server/internal/entries"
+	"telovamish.org/server/internal/faults"
 	"telovamish.org/server/internal/replica"
 )
 
@@ -41,10 +44,13 @@ type machine struct {
 	number int
 	life   int
 
-	disk   []record // what the system has of the copy
-	synced int      // how many of these the disk holds
-	head   []byte   // that the copy's folder has
-	ahead  int64    // by which its clock is ahead
+	disk     []record // what the system has of the copy
+	synced   int      // how many of these the disk holds
+	head     []byte   // that the copy's folder has
+	differs  uint64   // from which position on it has another log, because its node has lost an entry; 0 if not
+	isRotten bool     // it has ended by that, and has the copy yet
+	given    int      // how often it was given a peer's copy
+	ahead    int64    // by which its clock is ahead
 
 	core     *replica.Core
 	isUp     bool
@@ -53,8 +59,10 @@ type machine struct {
 	reading  uint64
 	readTurn uint64
 	place    int64 // up to which it has read
+	told     int64 // up to which the core knows of that
 	isPumped bool
 	timer    int64
+	window   int // bytes that may be under way to its server
 	server   *process
 	ends     []string
 	reported int // entries that the last report has as synced; -1 if there is none
@@ -114,7 +122,7 @@ func (m *machine) start() {
 	m.core = replica.New(replica.Settings{
 		Name: m.name, Address: m.name, Writer: writer, Server: "tbd", Taken: taken, Nodes: names,
 		Head:     entries.Head{ClientsMax: uint64(m.clientsMax), Profile: 1, ID: m.name},
-		Patience: 5e9, Ahead: 10e9,
+		Patience: patienceOfCore, Ahead: 10e9, Window: m.window,
 	})
 	m.step(&replica.Tick{})
 }
@@ -128,6 +136,7 @@ func (m *machine) scan() (*replica.Taken, bool) {
 				return nil, false
 			}
 			m.disk = m.disk[:at]
+			m.cut()
 			break
 		}
 		entry, err := entries.ParseTrusted(it.data)
@@ -171,9 +180,6 @@ func (m *machine) do(action replica.Action) {
 		m.head = it.Head
 	case *replica.Read:
 		m.read(it)
-	case *replica.LookElsewhere:
-		m.order = append(m.order[1:], m.order[0])
-		m.wake(0)
 	case *replica.Append:
 		m.append(it, false)
 	case *replica.ReadNode:
@@ -187,6 +193,7 @@ func (m *machine) do(action replica.Action) {
 		m.readCopy(it.Position)
 	case *replica.Keep:
 		m.disk = append(m.disk, record{position: it.Position, place: it.Place, data: it.Data})
+		m.checkTaken(m, it)
 	case *replica.SyncCopy:
 		m.sync()
 	case *replica.WriteReport:
@@ -215,9 +222,7 @@ func (m *machine) end(status int, line string) {
 		m.see(len(m.clients) == 0, "%s ended and %d requests got no answer", m.name, len(m.clients))
 	}
 	m.checkEnd(m, status, line)
-	if status == replica.Rotten.Status() {
-		m.rotten[m] = m.life
-	}
+	m.isRotten = status == faults.Rotten.Status()
 	m.isUp, m.core = false, nil
 	life := m.life
 	m.after(second, func() {
@@ -230,19 +235,38 @@ func (m *machine) end(status int, line string) {
 
 // operate is what CLUSTER.md has an operator do after a fault.
 func (m *machine) operate(status int) {
-	if name := nameOf(status); name == replica.Damaged || name == replica.Trimmed || name == replica.Rotten {
-		var best *machine
-		for _, it := range m.machines {
-			if it != m && !it.isDamaged() && m.rotten[it] == 0 && (best == nil || it.synced > best.synced) {
-				best = it
-			}
-		}
-		m.disk, m.synced = nil, 0
-		if best != nil {
-			m.disk = append([]record{}, best.disk[:best.synced]...)
-			m.synced, m.head = len(m.disk), best.head
+	if name := nameOf(status); name == faults.Damaged || name == faults.Trimmed || name == faults.Rotten {
+		m.isRotten = false
+		m.disk, m.synced, m.differs = nil, 0, 0
+		if peer := m.peer(); peer != nil {
+			m.disk = append([]record{}, peer.disk[:peer.synced]...)
+			m.synced, m.head, m.differs = len(m.disk), peer.head, peer.differs
+			m.cut()
 		}
 		m.tell("the operator gives %s a peer's copy of %d entries", m.name, m.synced)
+	}
+}
+
+// peer is one whose copy nothing is known against: that which has most, and the next time the next one.
+func (m *machine) peer() *machine {
+	var peers []*machine
+	for _, it := range m.machines {
+		if it != m && !it.isDamaged() && !it.isRotten {
+			peers = append(peers, it)
+		}
+	}
+	if len(peers) == 0 {
+		return nil
+	}
+	sort.SliceStable(peers, func(a, b int) bool { return peers[a].synced > peers[b].synced })
+	m.given++
+	return peers[(m.given-1)%len(peers)]
+}
+
+// cut is that the copy has become shorter.
+func (m *machine) cut() {
+	if m.differs > uint64(len(m.disk)) {
+		m.differs = 0
 	}
 }
 
@@ -255,7 +279,7 @@ func (m *machine) isDamaged() bool {
 	return false
 }
 
-func nameOf(status int) replica.FaultName {
+func nameOf(status int) faults.Name {
 	for name := range allowed {
 		if name.Status() == status {
 			return name
@@ -275,6 +299,7 @@ func (m *machine) crash(away int64) {
 	m.clients = nil
 	if len(m.disk) > m.synced {
 		m.disk = m.disk[:m.synced+m.drawn.Intn(len(m.disk)-m.synced+1)]
+		m.cut()
 	}
 	life := m.life
 	m.after(away, func() {
@@ -344,7 +369,7 @@ func (m *machine) replyTo(action replica.Action, ok bool) replica.Event {
 		return &replica.ReportsRead{Names: e.names}
 	case *replica.ReadTrimmed:
 		if !ok {
-			return &replica.TrimmedRead{}
+			return &replica.TrimmedRead{Failed: noLog}
 		}
 		return &replica.TrimmedRead{Position: uint64(e.trimmedPosition), Place: e.trimmedPlace}
 	case *replica.ReadClock:
@@ -399,14 +424,14 @@ func (m *machine) appended(name entryName, place int64) {
 		m.step(&replica.AppendLost{Number: name.number, Why: noLog})
 		return
 	}
-	m.step(&replica.Appended{Number: name.number, Place: place, IsNext: place == m.place+1})
+	m.step(&replica.Appended{Number: name.number, Place: place, IsNext: place == m.told+1})
 }
 
 func (m *machine) read(it *replica.Read) {
 	if it.IsElsewhere {
 		m.order = append(m.order[1:], m.order[0])
 	}
-	m.reading, m.place = it.Reading, it.After
+	m.reading, m.place, m.told = it.Reading, it.After, it.After
 	m.readTurn = m.engine.turnAt(it.After)
 	m.wake(0)
 }
@@ -424,7 +449,7 @@ func (m *machine) wake(pause int64) {
 func (m *machine) pump() {
 	m.isPumped = false
 	e := m.engine
-	if m.place < e.trimmedPlace {
+	if m.place < e.gonePlace {
 		m.step(&replica.ReadGone{Reading: m.reading, Text: "the log was trimmed"})
 		return
 	}
@@ -438,9 +463,9 @@ func (m *machine) pump() {
 	if it.place > m.place {
 		m.place = it.place
 	}
-	reading := m.reading
-	m.wake(m.most(2 * milli))
 	if it.name != "" {
+		m.told = m.place
+		m.wake(m.most(2 * milli))
 		place := it.place
 		if e.kind == postgresql { // only what each reported last is read
 			if string(e.reports[it.name]) != string(it.data) {
@@ -451,8 +476,17 @@ func (m *machine) pump() {
 		m.step(&replica.ReportRead{Name: it.name, Data: it.data, Place: place})
 		return
 	}
-	m.step(&replica.EntryRead{Reading: reading,
-		Item: replica.Item{Place: it.place, Data: it.data, Node: node.name}})
+	reading := m.reading
+	event := &replica.EntryRead{Reading: reading, Item: replica.Item{Place: it.place, Data: it.data, Node: node.name}}
+	m.isPumped = true // what is under way comes, though another reading may have begun meanwhile
+	m.after(m.most(5*milli), m.here(func() {
+		m.isPumped = false
+		if m.reading == reading {
+			m.told = m.place
+		}
+		m.wake(m.most(2 * milli))
+		m.step(event)
+	}))
 }
 
 // readNode reads one node's own entries, until no more come.
@@ -490,22 +524,36 @@ func (m *machine) writeReport(data []byte) {
 
 // reportedIn is the position that a report has as synced.
 func reportedIn(data []byte) int {
-	var said struct{ Position int }
-	if err := json.Unmarshal(data, &said); err != nil {
+	_, after, _ := bytes.Cut(data, []byte(`"position":`))
+	digits, _, _ := bytes.Cut(after, []byte(`,`))
+	position, err := strconv.Atoi(string(digits))
+	if err != nil {
 		panic(err)
 	}
-	return said.Position
+	return position
 }
 
 // answer brings clients their replies.
 func (m *machine) answer(answers []replica.Answered) {
 	for _, it := range answers {
 		call := m.clients[it.Request]
+		m.checkWhy(it.Why)
 		m.see(call != nil, "%s answers a request twice, or one that was cancelled: %s", m.name, it.Why)
 		if call != nil {
 			delete(m.clients, it.Request)
-			call.replied(string(it.Reply), it.Why, life{m, m.life})
+			call.replied(string(it.Reply), it.Why, m)
 		}
+	}
+}
+
+// checkWhy is that a request is refused only for a cause.
+func (m *machine) checkWhy(why string) {
+	switch why {
+	case "":
+	case "ProgramEnded":
+		m.see(m.core.IsOver(), "%s goes on, and tells a client of its end", m.name)
+	case "LogFull":
+		m.see(m.injected[engineFull], "%s tells a client that the log is full", m.name)
 	}
 }
 
@@ -641,7 +689,7 @@ func (m *machine) first() int {
 // isServing reports whether clients may connect.
 func (m *machine) isServing() bool { return m.isUp && m.core != nil && m.core.HasBegun() }
 
-func hasFault(line string) replica.FaultName {
+func hasFault(line string) faults.Name {
 	name, _, _ := strings.Cut(line, ":")
-	return replica.FaultName(name)
+	return faults.Name(name)
 }

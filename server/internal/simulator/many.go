@@ -2,10 +2,14 @@ package simulator
 
 import (
 	"fmt"
+	"runtime/debug"
 	"strings"
 	"sync"
 	"sync/atomic"
 )
+
+// garbage is how much more than what is used may be there before it is collected: a run leaves little.
+const garbage = 1000 // per cent
 
 // RunMany runs seeds by some goroutines, and returns how many failed. Each that fails is passed on, in the
 // order in which they end; no more are run after one for which that returns true.
@@ -17,6 +21,7 @@ func RunMany(first, count int64, jobs int, options Options, failed func(seed int
 		working sync.WaitGroup
 		isOver  int32
 	)
+	defer debug.SetGCPercent(debug.SetGCPercent(garbage))
 	for ; jobs > 0; jobs-- {
 		working.Add(1)
 		go func() {

@@ -29,7 +29,7 @@ func (w *world) history() *history {
 		h.replyOf[string(frame)] = append(h.replyOf[string(frame)], string(reply))
 	}
 	for _, it := range w.engine.history {
-		entry, err := entries.Parse(it.data)
+		entry, err := entries.ParseTrusted(it.data)
 		if err != nil || entry.Number != last[entry.Writer]+1 {
 			continue
 		}
@@ -71,9 +71,9 @@ func (w *world) judgeCalls(h *history) {
 }
 
 // isAcknowledged reports whether a call got a reply that counts. One of a replica whose node lost an
-// entry may be wrong: it ends within one entry of another writer.
+// entry may be wrong after that: it ends within one entry of another writer.
 func (w *world) isAcknowledged(it *call) bool {
-	return it.reply != "" && frames.Header(it.reply).Status() == tbclient.StatusReply && it.by.number > w.rotten[it.by.machine]
+	return it.isRight && it.reply != "" && frames.Header(it.reply).Status() == tbclient.StatusReply
 }
 
 func has(list []string, wanted string) bool {

@@ -4,6 +4,7 @@ package simulator
 
 import (
 	"flag"
+	"strings"
 	"testing"
 
 	"telovamish.org/server/internal/replica"
@@ -14,36 +15,52 @@ var (
 	stories = flag.Bool("stories", false, "tell the story of the seed that finds a bug")
 )
 
-// planted are wrong cores, each with what is wrong.
-var planted = map[string]replica.Bug{
-	"an append is tried again under a new name":               replica.RenamesARetry,
-	"a reply goes to another pair of its entry":               replica.AnswersThePairBefore,
-	"a place is never freed":                                  replica.KeepsAPlace,
-	"an entry that is there twice is taken twice":             replica.TakesTwice,
-	"a request is told done before the log has it":            replica.AnswersBeforeTheLog,
-	"an entry that a disk has changed is taken":               replica.TakesAChangedEntry,
-	"what waits stays when a replica ends":                    replica.ForgetsAtTheEnd,
-	"a replica alone goes by its own clock":                   replica.GoesByItsOwnClock,
-	"an own entry is taken while one before it is read again": replica.TakesAmidReading,
-	"an entry is passed over when it was read late":           replica.TakesLate,
-	"moments follow a clock that is set ahead":                replica.TrustsAJump,
-	"what an ended reading brings is taken":                   replica.KeepsAnOldReader,
-	"a number that is missing is no fault":                    replica.SkipsAGap,
-	"what writers had is not compared":                        replica.ComparesNothing,
-	"what the server had no room for is not given later":      replica.FeedsNothingLate,
-	"requests are told of an end that is none":                replica.AnswersWhenTheServerIsLost,
-	"a log that begins after the copy is read":                replica.ReadsATrimmedLog,
-	"a clock that is ahead of others is no fault":             replica.GoesByAnAheadClock,
-	"no clock is sent to who asks":                            replica.AnswersNoHello,
-	"nodes are asked for entries that were trimmed":           replica.SurveysWhatWasTrimmed,
-	"a restarted server is fed from where the old one ended":  replica.FeedsFromTheEnd,
-	"a request that was cancelled is answered":                replica.KeepsTheCancelled,
-	"an entry is not read elsewhere":                          replica.LooksNowhereElse,
+// planted are wrong cores, each with what is wrong, the first seed that finds it, and how it is judged there.
+var planted = map[string]struct {
+	bug    replica.Bug
+	seed   int64
+	judged string
+}{
+	"an append is tried again under a new name":               {replica.RenamesARetry, 1, "another replica has the name"},
+	"a reply goes to another pair of its entry":               {replica.AnswersThePairBefore, 2, "got a reply to another request"},
+	"a place is never freed":                                  {replica.KeepsAPlace, 0, "things of requests"},
+	"an entry that is there twice is taken twice":             {replica.TakesTwice, 35, "takes what the log does not have"},
+	"a request is told done before the log has it":            {replica.AnswersBeforeTheLog, 1, "takes what the log does not have"},
+	"an entry that a disk has changed is taken":               {replica.TakesAChangedEntry, 10, "takes what the log does not have"},
+	"what waits stays when a replica ends":                    {replica.ForgetsAtTheEnd, 49, "got no answer"},
+	"a replica alone goes by its own clock":                   {replica.GoesByItsOwnClock, 70, "a moment that is far ahead"},
+	"an own entry is taken while one before it is read again": {replica.TakesAmidReading, 41, "takes what the log does not have"},
+	"an entry is passed over when it was read late":           {replica.TakesLate, 0, "takes what the log does not have"},
+	"moments follow a clock that is set ahead":                {replica.TrustsAJump, 1, "a moment that is far ahead"},
+	"what an ended reading brings is taken":                   {replica.KeepsAnOldReader, 0, "has no reply"},
+	"a number that is missing is no fault":                    {replica.SkipsAGap, 123, "which has the right one"},
+	"what writers had is not compared":                        {replica.ComparesNothing, 49, "which has the right one"},
+	"what the server had no room for is not given later":      {replica.FeedsNothingLate, 0, "does not serve"},
+	"requests are told of an end that is none":                {replica.AnswersWhenTheServerIsLost, 10, "goes on, and tells a client of its end"},
+	"a log that begins after the copy is read":                {replica.ReadsATrimmedLog, 1656, "more of the log than there is"},
+	"a clock that is ahead of others is no fault":             {replica.GoesByAnAheadClock, 71, "does not serve"},
+	"no clock is sent to who asks":                            {replica.AnswersNoHello, 0, "has no reply"},
+	"nodes are asked for entries that were trimmed":           {replica.SurveysWhatWasTrimmed, 3816, "things of requests"},
+	"a restarted server is fed from where the old one ended":  {replica.FeedsFromTheEnd, 0, "gave its server entry"},
+	"a request that was cancelled is answered":                {replica.KeepsTheCancelled, 1, "or one that was cancelled"},
+	"an entry is not read elsewhere":                          {replica.LooksNowhereElse, 0, "fits at none of"},
+}
+
+func TestPlantedBugsOfChosenSeeds(t *testing.T) {
+	defer func() { replica.Planted = replica.NoBug }()
+	for name, row := range planted {
+		replica.Planted = row.bug
+		wrong := strings.Join(Run(row.seed, Options{}), "; ")
+		replica.Planted = replica.NoBug
+		if right := Run(row.seed, Options{}); !strings.Contains(wrong, row.judged) || len(right) > 0 {
+			t.Errorf("%s: seed %d has %q with it, and %q without", name, row.seed, wrong, right)
+		}
+	}
 }
 
 func TestPlantedBugsAreFound(t *testing.T) {
-	for name, bug := range planted {
-		t.Run(name, func(t *testing.T) { find(t, bug, Options{}) })
+	for name, row := range planted {
+		t.Run(name, func(t *testing.T) { find(t, row.bug, Options{}) })
 	}
 }
 
@@ -51,15 +68,9 @@ func TestPlantedBugsOfMachinesAreFound(t *testing.T) {
 	t.Run("a copy is cut one entry short", func(t *testing.T) { find(t, replica.NoBug, Options{Bug: CutsTheCopyShort}) })
 }
 
-// needsLosses are the bugs that show only where a node has lost an entry.
-var needsLosses = map[replica.Bug]bool{
-	replica.SkipsAGap: true, replica.ComparesNothing: true, replica.SurveysWhatWasTrimmed: true,
-}
-
 // find looks for a seed that fails with a bug, again and again, and not without it.
 func find(t *testing.T, bug replica.Bug, options Options) {
 	defer func() { replica.Planted = replica.NoBug }()
-	options.HasLosses = needsLosses[bug]
 	for next := int64(0); next < *within; next++ {
 		found := int64(-1)
 		replica.Planted = bug
@@ -78,7 +89,7 @@ func find(t *testing.T, bug replica.Bug, options Options) {
 			story = Explain(found, options)
 		}
 		replica.Planted = replica.NoBug
-		if right := Run(found, Options{HasLosses: options.HasLosses}); len(again) > 0 && len(right) == 0 {
+		if right := Run(found, Options{}); len(again) > 0 && len(right) == 0 {
 			t.Logf("seed %d: %.150s%s", found, again[0], story)
 			return
 		}

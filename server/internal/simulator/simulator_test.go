@@ -42,7 +42,7 @@ func TestEachFaultIsDrawn(t *testing.T) {
 	var drawn [faultKinds]bool
 	engines, machines := map[kind]bool{}, map[int]bool{}
 	for seed := int64(0); seed < 300; seed++ {
-		w := newWorld(seed, Options{HasLosses: true}, nil)
+		w := newWorld(seed, Options{}, nil)
 		engines[w.engine.kind], machines[len(w.machines)] = true, true
 		for _, it := range w.plan.faults {
 			drawn[it.kind] = true

@@ -8,7 +8,10 @@ import (
 	"fmt"
 	"math/rand"
 	"strings"
+	"time"
 
+	"telovamish.org/server/internal/entries"
+	"telovamish.org/server/internal/faults"
 	"telovamish.org/server/internal/replica"
 )
 
@@ -31,7 +34,6 @@ const (
 // Options are those of a run.
 type Options struct {
 	Bug       Bug
-	HasLosses bool                        // nodes may lose entries too, not only change them
 	NewServer func(clientsMax int) Server // of the model's, if there is none
 }
 
@@ -47,7 +49,11 @@ type world struct {
 	clientsMax int
 	wrong      []string
 	injected   [faultKinds]bool
-	rotten     map[*machine]int // the last life that ended because its node had lost an entry
+	logs       []entries.Hash // of the log up to each position, as far as machines have taken it
+	places     []int64        // of the entry at each of these
+	counted    int            // rows of the engine's history up to there
+	numbers    map[entries.Writer]uint64
+	isMisled   bool // a client got a reply of a machine whose node had lost an entry
 	isQuiet    bool
 	isOver     bool
 	steps      int
@@ -55,7 +61,8 @@ type world struct {
 
 // newWorld draws a run.
 func newWorld(seed int64, options Options, story *strings.Builder) *world {
-	w := &world{options: options, bug: options.Bug, rotten: map[*machine]int{}}
+	w := &world{options: options, bug: options.Bug, logs: make([]entries.Hash, 1),
+		places: make([]int64, 1), numbers: map[entries.Writer]uint64{}}
 	w.drawn, w.story = rand.New(rand.NewSource(seed)), story
 	w.clientsMax = [...]int{8, 8, 8, 3}[w.drawn.Intn(4)]
 	w.engine = newEngine(&w.schedule, kind(w.drawn.Intn(2)), [...]int{3, 3, 5}[w.drawn.Intn(3)])
@@ -66,7 +73,7 @@ func newWorld(seed int64, options Options, story *strings.Builder) *world {
 	}
 	for count := w.between(3, 5); count > 0; count-- {
 		w.machines = append(w.machines, &machine{world: w, number: len(w.machines),
-			name: fmt.Sprintf("m%d", len(w.machines)+1), reported: -1})
+			name: fmt.Sprintf("m%d", len(w.machines)+1), reported: -1, window: [...]int{0, 0, 600}[w.drawn.Intn(3)]})
 	}
 	w.plan = w.drawPlan()
 	return w
@@ -102,15 +109,18 @@ func (w *world) serving() *machine {
 	return found[w.drawn.Intn(len(found))]
 }
 
-// allowed are the faults that a machine may end by, each with what may cause it.
-var allowed = map[replica.FaultName][]faultKind{
-	replica.NoLog:    nil, // at its start, at any time
-	replica.LogFull:  {engineFull},
-	replica.Ahead:    {clockJumps, clockStarts},
-	replica.Rotten:   {nodeRots, nodeLoses, twoNodesRot},
-	replica.BadEntry: {twoNodesRot},
-	replica.Trimmed:  {diskLost, diskRots},
-	replica.Damaged:  {diskRots},
+// patienceOfCore is that of each replica.
+const patienceOfCore = 5 * time.Second
+
+// allowed are the faults that a machine may end by, each with what may cause it. One ends as Rotten only if
+// what it took is not the log.
+var allowed = map[faults.Name][]faultKind{
+	faults.NoLog:   nil, // at its start, at any time
+	faults.LogFull: {engineFull},
+	faults.Ahead:   {clockJumps, clockStarts},
+	faults.Rotten:  {nodeLoses},
+	faults.Trimmed: {diskLost, diskRots},
+	faults.Damaged: {diskRots},
 }
 
 // checkEnd is that a machine ends by itself only if a fault of the run is a cause for that.
@@ -119,10 +129,11 @@ func (w *world) checkEnd(m *machine, status int, line string) {
 		return
 	}
 	causes, ok := allowed[hasFault(line)]
-	isCaused := ok && hasFault(line) == replica.NoLog
+	isCaused := ok && hasFault(line) == faults.NoLog
 	for _, it := range causes {
 		isCaused = isCaused || w.injected[it]
 	}
+	isCaused = isCaused && (hasFault(line) != faults.Rotten || m.differs > 0)
 	w.see(isCaused && hasFault(line).Status() == status, "%s ended by status %d, %q", m.name, status, line)
 }
 
@@ -147,7 +158,6 @@ func (w *world) run() {
 	for _, it := range w.plan.faults {
 		it := it
 		last = it.at
-		w.engine.isOnce = w.engine.isOnce || it.kind == nodeLoses
 		w.after(it.at, func() { w.hurt(it) })
 	}
 	w.until(last + second)
@@ -165,19 +175,53 @@ func (w *world) run() {
 	}
 }
 
-// isLostEverywhere reports whether no machine has the log's beginning: all that have the entry that a node
+// isLostEverywhere reports whether no machine has the log's beginning: all that had the entry that a node
 // lost are gone, so no peer's copy is right.
 func (w *world) isLostEverywhere() bool {
-	if !w.injected[nodeLoses] || len(w.rotten) == 0 {
-		return false
-	}
-	logs := w.history().logs
 	for _, it := range w.machines {
-		if taken, ok := it.scan(); ok && int(taken.Position) < len(logs) && taken.Digest == logs[taken.Position] {
+		if it.differs == 0 {
 			return false
 		}
 	}
 	return true
+}
+
+// logAt is the hash of the log up to a position.
+func (w *world) logAt(position uint64) (entries.Hash, bool) {
+	for ; uint64(len(w.logs)) <= position && w.counted < len(w.engine.history); w.counted++ {
+		entry, err := entries.ParseTrusted(w.engine.history[w.counted].data)
+		if err == nil && entry.Number == w.numbers[entry.Writer]+1 {
+			w.numbers[entry.Writer] = entry.Number
+			w.logs = append(w.logs, w.logs[len(w.logs)-1].Next(entry.Pairs))
+			w.places = append(w.places, w.engine.history[w.counted].place)
+		}
+	}
+	if uint64(len(w.logs)) <= position {
+		return entries.Hash{}, false
+	}
+	return w.logs[position], true
+}
+
+// checkTaken is that a machine takes what the log has; if its node has lost an entry, until the entry of a
+// writer which had read that one.
+func (w *world) checkTaken(m *machine, it *replica.Keep) {
+	if m.differs == 0 {
+		log, ok := w.logAt(it.Position)
+		if ok && log == m.core.State().Log {
+			return
+		}
+		w.see(ok && w.engine.isLost(w.places[it.Position]), "%s takes what the log does not have at position %d", m.name, it.Position)
+		m.tell("%s has another log from position %d on", m.name, it.Position)
+		m.differs = it.Position
+		return
+	}
+	entry, err := entries.ParseTrusted(it.Data)
+	if err != nil || entry.Log.Position < m.differs {
+		return
+	}
+	log, ok := w.logAt(entry.Log.Position)
+	w.see(!ok || log != entry.Log.Hash, "%s has another log from position %d on, and takes entry %d of writer %.4s, "+
+		"which has the right one", m.name, m.differs, entry.Number, entry.Writer)
 }
 
 func (w *world) until(end int64) {
@@ -247,6 +291,9 @@ func (w *world) finish() {
 		if it.isUp && it.core != nil {
 			w.see(it.core.Held() == 0, "%s keeps %d things of requests", it.name, it.core.Held())
 			w.see(len(it.clients) == 0, "%s has not answered %d requests", it.name, len(it.clients))
+			for name := range it.core.Rotten() {
+				w.see(w.engine.isRotten(name), "%s calls node %s rotten, which is not", it.name, name)
+			}
 		}
 	}
 	w.judge()

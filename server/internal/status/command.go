@@ -42,6 +42,15 @@ type Line struct {
 	Syncs       *int64                      `json:"syncs"`
 	FileBytes   *int64                      `json:"file_bytes"`
 	ClockLag    float64                     `json:"clock_lag_seconds"`
+
+	// of a replica
+	LogPosition  *int64           `json:"log_position"`
+	LogAnswered  int64            `json:"log_answered"`
+	LogFirst     int64            `json:"log_first"`
+	LogAhead     float64          `json:"log_ahead_seconds"`
+	CopyPosition int64            `json:"copy_position"`
+	CopyBytes    int64            `json:"copy_bytes"`
+	Rotten       map[string]int64 `json:"rotten_entries"`
 }
 
 // Command is `tb-listen status`: it prints the state of a host, and returns the exit status.
@@ -149,6 +158,14 @@ func (l *Line) String() string {
 	row("syncs", known(l.Syncs))
 	row("file", known(l.FileBytes)+" bytes")
 	row("clock", fmt.Sprintf("moments are %g s behind it", l.ClockLag))
+	if l.LogPosition != nil {
+		row("log", fmt.Sprintf("position %d, answered up to %d, begins at %d, %g s ahead of the clock",
+			*l.LogPosition, l.LogAnswered, l.LogFirst, l.LogAhead))
+		row("copy", fmt.Sprintf("position %d, %d bytes", l.CopyPosition, l.CopyBytes))
+		for _, node := range sorted(l.Rotten) {
+			row("rotten", fmt.Sprintf("%s: %d entries", node, l.Rotten[node]))
+		}
+	}
 	return page.String()
 }
 

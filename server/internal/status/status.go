@@ -30,6 +30,29 @@ type Numbers struct {
 // IsReady reports whether requests are served.
 func (n *Numbers) IsReady() bool { return n.Counts.HasBegun() && n.Of.IsServing() }
 
+// Log are the numbers of the agreed log, if the backend is over one.
+func (n *Numbers) Log() (backend.LogNumbers, bool) {
+	if it, ok := n.Of.(backend.OverLog); ok {
+		return it.LogNumbers(), true
+	}
+	return backend.LogNumbers{}, false
+}
+
+func addLog(line *object, its backend.LogNumbers) {
+	whole := func(number uint64) string { return strconv.FormatUint(number, 10) }
+	line.add("log_position", whole(its.Position))
+	line.add("log_answered", whole(its.Answered))
+	line.add("log_first", whole(its.First))
+	line.add("log_ahead_seconds", seconds(its.Ahead))
+	line.add("copy_position", whole(its.CopyPosition))
+	line.add("copy_bytes", strconv.FormatInt(its.CopyBytes, 10))
+	var rotten object
+	for _, node := range sorted(its.Rotten) {
+		rotten.add(node, strconv.Itoa(its.Rotten[node]))
+	}
+	line.add("rotten_entries", rotten.String())
+}
+
 // Line is all of them, as a line of JSON.
 func (n *Numbers) Line() []byte {
 	state := "starting"
@@ -57,6 +80,9 @@ func (n *Numbers) Line() []byte {
 	line.add("syncs", syncs)
 	line.add("file_bytes", size)
 	line.add("clock_lag_seconds", seconds(n.Of.Lag()))
+	if its, ok := n.Log(); ok {
+		addLog(&line, its)
+	}
 	return append([]byte(line.String()), '\n')
 }
 

@@ -131,3 +131,39 @@ func FuzzParse(f *testing.F) {
 		}
 	})
 }
+
+// overLog is a fake over an agreed log.
+type overLog struct{ fake }
+
+func (overLog) LogNumbers() backend.LogNumbers {
+	return backend.LogNumbers{Position: 40, Answered: 39, First: 12, Ahead: 2 * time.Second, CopyPosition: 38,
+		CopyBytes: 4096, Rotten: map[string]int{"m2:2379": 3, "m1:2379": 1}}
+}
+
+func TestALineOfAReplica(t *testing.T) {
+	it := numbersOf(fake{isServing: true})
+	it.Of = overLog{fake{isServing: true}}
+	it.Counts.Begin()
+	text := it.Line()
+	want := `"clock_lag_seconds": 1.5, "log_position": 40, "log_answered": 39, "log_first": 12, ` +
+		`"log_ahead_seconds": 2.0, "copy_position": 38, "copy_bytes": 4096, ` +
+		`"rotten_entries": {"m1:2379": 1, "m2:2379": 3}}` + "\n"
+	if !strings.HasSuffix(string(text), want) {
+		t.Errorf("%s", text)
+	}
+	line, err := Parse(text)
+	if err != nil {
+		t.Fatal(err)
+	}
+	want = `log          position 40, answered up to 39, begins at 12, 2 s ahead of the clock
+copy         position 38, 4096 bytes
+rotten       m1:2379: 1 entries
+rotten       m2:2379: 3 entries
+`
+	if got := line.String(); !strings.HasSuffix(got, want) {
+		t.Errorf("%s", got)
+	}
+	if line, _ = Parse(numbersOf(fake{}).Line()); strings.Contains(line.String(), "copy") {
+		t.Errorf("a listener has no copy: %s", line)
+	}
+}

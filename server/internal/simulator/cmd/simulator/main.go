@@ -1,6 +1,6 @@
 // Command simulator runs replicas over seeds, in virtual time.
 //
-//	simulator [-first SEED] [-seeds N] [-jobs N] [-stop] [-losses]
+//	simulator [-first SEED] [-seeds N] [-jobs N] [-stop]
 //
 // Each seed that fails is shortened, and its run printed as a story. The last line is
 // 'N passed, M failed in S s'.
@@ -21,9 +21,8 @@ func main() {
 	seeds := flag.Int64("seeds", 1000, "how many seeds are run")
 	jobs := flag.Int("jobs", runtime.NumCPU(), "how many are run at a time")
 	stop := flag.Bool("stop", false, "end at the first that fails")
-	losses := flag.Bool("losses", false, "nodes may lose entries too")
 	flag.Parse()
-	options := simulator.Options{HasLosses: *losses}
+	options := simulator.Options{}
 	if *jobs < 1 || *seeds < 1 || flag.NArg() > 0 {
 		flag.Usage()
 		os.Exit(2)
