@@ -1,63 +1,35 @@
 """What has to hold in the end: the agreed script, the replies of each replica, and the totals."""
-import asyncio
+
 import hashlib
 import os
 import subprocess
 import time
 
-from tb_host.entries import Entry
-from tb_host.local_copy import records_of
-from tb_host.log import Access, LogGone, Written, opened
+from .entries import entries_of_copy, pairs_of
 
 
 def script_of(cluster):
     """The agreed script, as the engine has it."""
-    return [Entry.from_bytes(it).pairs for it in cluster.script()]
+    return [pairs_of(it) for it in cluster.script()]
 
 
 def is_gone(cluster, place):
-    """Whether who reads from this place on learns that the log does not have it any more."""
-    try:
-        _read(cluster, place, 1)
-    except LogGone:
-        return True
-    return False
+    """Whether the log has nothing up to a place any more, and says so."""
+    _, trimmed = cluster.trimmed()
+    return trimmed > place and cluster.first_place() > trimmed
 
 
 def is_kept(cluster, folder):
     """Whether what the log has after the place where it was trimmed is what a copy has there."""
-    script = script_of_copy(folder)
-    position, found = _read(cluster, None, 5)
-    kept = script[position : position + 5]
+    position, _ = cluster.trimmed()
+    found = script_of(cluster)[:5]
+    kept = script_of_copy(folder)[position : position + 5]
     return position > 0 and found == kept and len(kept) == 5
-
-
-def _read(cluster, place, count):
-    """Reads a number of entries from a place on; None for those that were trimmed. Returns the
-    position before them, and their pairs."""
-
-    async def reads():
-        it = opened(cluster.log(), Access())
-        try:
-            position, trimmed = await it.trimmed()
-            found = []
-            async for item in it.read(trimmed if place is None else place):
-                if isinstance(item, Written):
-                    found.append(Entry.from_bytes(item.data).pairs)
-                if len(found) == count:
-                    return position, found
-        finally:
-            await it.close()
-
-    async def in_time():
-        return await asyncio.wait_for(reads(), 30)
-
-    return asyncio.run(in_time())
 
 
 def script_of_copy(folder):
     """The agreed script, as a replica's copy has it."""
-    return [Entry.from_bytes(it.entry).pairs for it in records_of(folder)]
+    return [pairs_of(it) for it in entries_of_copy(folder)]
 
 
 def replies_to(script, cluster):

@@ -6,9 +6,8 @@ import tempfile
 
 import pytest
 
-from .processes import HERE, Cluster, missing
-
-WAY = "-B", f"{HERE}/wrong_replica.py"
+from .processes import Cluster, missing
+from .processes import wrong as wrongly
 
 
 def pytest_runtest_setup(item):
@@ -21,12 +20,12 @@ def pytest_runtest_setup(item):
 
 @pytest.fixture
 def cluster_of(program):
-    """Makes clusters that run, and end with the test. `wrong` is a kind of wrong_replica.py."""
+    """Makes clusters that run, and end with the test. `wrong` is what a replica does wrong."""
     with contextlib.ExitStack() as stack:
 
         def made(kind=Cluster, wrong=None, **options):
             folder = stack.enter_context(tempfile.TemporaryDirectory(prefix="cluster-"))
-            words = [*WAY, wrong] if wrong else None
+            words = wrongly(wrong) if wrong else None
             it = kind(folder, program=program, replica=words, **options)
             stack.callback(it.end)
             it.start()

@@ -7,7 +7,7 @@ import signal
 import time
 
 from . import rot
-from .processes import HERE, until
+from .processes import until, wrong
 
 
 class Faults:
@@ -193,7 +193,7 @@ class Faults:
         it = cluster.replicas[at]
         it.kill()
         right = it.words
-        it.words = cluster.replica_words(at, ["-B", f"{HERE}/wrong_replica.py", "clock_ahead"])
+        it.words = cluster.replica_words(at, wrong("clock_ahead"))
         it.start()
         self.ends(at, 27, "its clock is an hour ahead")
         it.words = right

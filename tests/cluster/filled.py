@@ -1,13 +1,11 @@
 """Many requests in a log, in entries of up to 1 MiB, by a writer that waits for no reply."""
 
-import asyncio
-import os
 import time
 
 from tb_client.frames import request_frame
-from tb_host.entries import MOMENT, NOTHING, PAIRS_MAX, Claim, Entry
-from tb_host.log import Access, opened
 
+from .entries import MOMENT, PAIRS_MAX
+from .processes import appended
 from .traffic import PAYEE, PAYER, Operation, Session, Socket, Transfer, tb
 
 
@@ -36,15 +34,4 @@ def entries(frames):
 def fill(cluster, count):
     """Puts a number of requests into the log. Returns how many entries they are."""
     with Session.register(Socket([("127.0.0.1", it) for it in cluster.tcp], 30)) as session:
-        return asyncio.run(_append(cluster, entries(requests(session, count))))
-
-
-async def _append(cluster, pairs):
-    log, writer, number = opened(cluster.log(), Access()), os.urandom(16), 0
-    nothing = Claim(0, NOTHING)
-    try:
-        for number, it in enumerate(pairs, 1):
-            await log.append(writer, number, Entry(writer, number, nothing, nothing, it).to_bytes())
-    finally:
-        await log.close()
-    return number
+        return len(appended(cluster, cluster.log(), entries(requests(session, count))))

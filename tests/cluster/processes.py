@@ -2,26 +2,27 @@
 
 import collections
 import contextlib
+import functools
 import glob
+import json
 import os
 import shutil
 import signal
 import socket
+import struct
 import subprocess
 import sys
+import threading
 import time
 
 from ..conftest import found
 
 HERE = os.path.dirname(os.path.abspath(__file__))
 TOP = os.path.dirname(os.path.dirname(HERE))
-CLIENT = f"{TOP}/clients/python/src"
-HOST = f"{TOP}/apps/host"
-ENVIRONMENT = {**os.environ, "PYTHONPATH": f"{HOST}/src:{CLIENT}"}
+OUT = f"{TOP}/server/out"
 PYTHON = "/usr/bin/python3"  # Debian's, which sees its packages
-# The replica in Python, or the program of TB_REPLICA. A wrong one is in Python in any case.
-IN_PYTHON = [PYTHON, "-B", f"{HOST}/tb-replica"]
-REPLICA = [os.environ["TB_REPLICA"]] if "TB_REPLICA" in os.environ else IN_PYTHON
+REPLICA = os.environ.get("TB_REPLICA") or f"{OUT}/tb-replica"
+PACKAGE = "telovamish.org/server"
 QUOTA = 8 << 30  # bytes that etcd takes at most, as docs/use/CLUSTER.md sets it
 # The server with its replies in a file: those of its last start. A status above 128 is that of a
 # signal. If rates count and no reply is compared, the server runs as it is.
@@ -50,6 +51,47 @@ def free_ports(count):
     return [it.getsockname()[1] for it in held]
 
 
+def built(name, package, *options):
+    """A program for tests, of a package of server/."""
+    words = [f"{TOP}/server/build", "build", *options, "-o", f"{OUT}/{name}"]
+    environment = {**os.environ, "PACKAGES": f"{PACKAGE}/{package}"}
+    subprocess.run(words, check=True, timeout=600, env=environment)
+    return f"{OUT}/{name}"
+
+
+@functools.lru_cache
+def wrong_program():
+    return built("tb-wrong", "cmd/tb-replica", "-tags", "planted")
+
+
+def wrong(kind):
+    """The words of a replica that does one thing wrong, or by the wrong clock, as
+    server/internal/replicated/wrong_planted.go has it."""
+    return ["env", f"TB_WRONG={kind}", wrong_program()]
+
+
+@functools.lru_cache
+def appending():
+    return built("appending", "internal/agreed/appending")
+
+
+def appended(cluster, log, entries, seconds=0):
+    """Appends entries of these pairs to a log, the last one again and again for some seconds, and
+    returns how many milliseconds each took."""
+    words = [appending(), "--user", cluster.log_user or "", "--seconds", str(seconds), log]
+    pipe = subprocess.PIPE
+    times = []
+    with subprocess.Popen(words, stdin=pipe, stdout=pipe) as process:
+        reading = threading.Thread(target=lambda: times.extend(map(float, process.stdout)))
+        reading.start()
+        for pairs in entries:
+            process.stdin.write(struct.pack("<I", len(pairs)) + pairs)
+        process.stdin.close()
+        reading.join()
+    assert process.returncode == 0, process.returncode
+    return times
+
+
 class Process:
     """A process that is killed, stopped and started again."""
 
@@ -61,7 +103,7 @@ class Process:
         with open(self.log, "ab") as log:
             self.since = log.tell()
             self.process = subprocess.Popen(
-                self.words, stdin=subprocess.DEVNULL, stdout=log, stderr=log, env=ENVIRONMENT
+                self.words, stdin=subprocess.DEVNULL, stdout=log, stderr=log
             )
 
     def runs(self):
@@ -159,7 +201,7 @@ class Machines:
         self.folder, self.count, self.clients_max = folder, count, clients_max
         self.program, self.sync = program, sync
         self.keeps_replies = keeps_replies
-        self.words = replica or [f"{HOST}/tb-replica"]
+        self.words = replica or [REPLICA]
         self.tcp = free_ports(count)
         self.replicas = [self.replica(it) for it in range(count)]
 
@@ -182,8 +224,7 @@ class Machines:
     def replica_words(self, at, words, more=()):
         given = ["--log", self.log(at), "--copy", self.copy(at), "--name", f"r{at}", *more]
         given += ["--tcp", f"127.0.0.1:{self.tcp[at]}", "--connections", "200"]
-        program = REPLICA if [PYTHON, "-B", *words] == IN_PYTHON else [PYTHON, "-B", *words]
-        return [*program, *given, "--", *self.command(at)]
+        return [*words, *given, "--", *self.command(at)]
 
     def start(self):
         self.start_engine()
@@ -201,7 +242,7 @@ class Machines:
     def part(self, *words, seconds=60):
         """Runs a part of tb-replica, as status. Returns its status, and what it printed."""
         ran = subprocess.run(
-            [*REPLICA, *words],
+            [REPLICA, *words],
             capture_output=True,
             text=True,
             timeout=seconds,
@@ -346,20 +387,36 @@ class Cluster(Machines):
     def metadata(self, _):
         return []
 
-    def script(self):
-        """The entries of the log as most nodes have them, read without the replicas' code."""
+    def ranged(self, port, key, end=b"", is_own=False):
+        """The keys of a range, as the cluster or one node has them."""
         import etcd3.etcdrpc as rpc
 
+        with self.channel(port) as channel:
+            request = rpc.RangeRequest(key=key, range_end=end, serializable=is_own)
+            more = self.metadata(channel)
+            return rpc.KVStub(channel).Range(request, 60, more, wait_for_ready=True).kvs
+
+    def entries(self):
+        """The entries of the log by their places, as most nodes have them, read without the
+        replicas' code."""
         entries = collections.defaultdict(collections.Counter)
         for port in self.serves:
-            with self.channel(port) as channel:
-                request = rpc.RangeRequest(key=b"bank/log/", range_end=b"bank/log0")
-                request.serializable = True
-                more = self.metadata(channel)
-                found = rpc.KVStub(channel).Range(request, 60, more, wait_for_ready=True)
-                for it in found.kvs:
-                    entries[it.create_revision][it.value] += 1
-        return [entries[it].most_common(1)[0][0] for it in sorted(entries)]
+            for it in self.ranged(port, b"bank/log/", b"bank/log0", is_own=True):
+                entries[it.create_revision][it.value] += 1
+        return {it: entries[it].most_common(1)[0][0] for it in sorted(entries)}
+
+    def script(self):
+        return list(self.entries().values())
+
+    def first_place(self):
+        """The place of the first entry that the log has."""
+        return next(iter(self.entries()))
+
+    def trimmed(self):
+        """The position and the place up to which the log was trimmed."""
+        (kept,) = self.ranged(self.serves[0], b"bank/trimmed")
+        said = json.loads(kept.value)
+        return said["position"], said["place"]
 
 
 class Postgres(Machines):

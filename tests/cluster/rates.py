@@ -1,7 +1,6 @@
 """How fast a cluster is, compared with the listener over a ledger in a file and with only the
 engine, on the same machine."""
 
-import asyncio
 import contextlib
 import os
 import statistics
@@ -12,11 +11,10 @@ import time
 
 from tb_client import Operation
 from tb_client.frames import request_frame
-from tb_host.entries import MOMENT, NOTHING, Claim, Entry
-from tb_host.log import Access, opened
 
+from .entries import MOMENT
 from .load import transfers
-from .processes import HERE, TOP, Process, free_ports, slowed, until
+from .processes import HERE, TOP, Process, appended, free_ports, slowed, until
 
 LISTENER = os.environ.get("LISTENER") or f"{TOP}/server/out/tb-listen"
 LOADS = (("24 clients with single transfers", 24, 1), ("1 client with batches of 8190", 1, 8190))
@@ -56,26 +54,10 @@ def engine_alone(cluster, clients, batch, seconds):
         for it in range(1, clients + 1)
     )
     pairs = b"".join(MOMENT.pack(1) + it for it in frames)
-    times = sorted(asyncio.run(_appended(cluster, pairs, seconds)))
+    log = f"{cluster.log()}_alone"
+    times = sorted(it / 1000 for it in appended(cluster, log, [pairs], seconds))
     halves = (1000 * times[len(times) * part // 100] for part in (50, 99))
     return clients * batch * len(times) / sum(times), *halves
-
-
-async def _appended(cluster, pairs, seconds):
-    """How long each append of an entry took, in seconds."""
-    log = opened(f"{cluster.log()}_alone", Access(user=cluster.log_user))
-    writer, times, nothing = os.urandom(16), [], Claim(0, NOTHING)
-    data = Entry(writer, 1, nothing, nothing, pairs).to_bytes()
-    end = time.monotonic() + seconds
-    try:
-        await log.head(b"rates")
-        while time.monotonic() < end:
-            began = time.monotonic()
-            await log.append(writer, len(times) + 1, data)
-            times.append(time.monotonic() - began)
-    finally:
-        await log.close()
-    return times
 
 
 def sync_alone(folder, count=500):

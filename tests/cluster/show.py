@@ -3,8 +3,9 @@ rotten.
 
     /usr/bin/python3 -m tests.cluster.show [--seconds N]
 
-Needs etcd-server, python3-etcd3 and tbd. Prints a line every two seconds and for each fault,
-what replicas say of rotten nodes, and the totals at the end. Exit status 1: they differ.
+Needs etcd-server, python3-etcd3, tbd and what server/build makes. Prints a line every two seconds
+and for each fault, what replicas say of rotten nodes, and the totals at the end. Exit status 1:
+they differ.
 """
 
 import argparse

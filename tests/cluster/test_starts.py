@@ -5,10 +5,9 @@ import time
 
 import pytest
 
-from .conftest import WAY
 from .ends import agreed
 from .faults import last
-from .processes import until
+from .processes import until, wrong
 from .traffic import Traffic
 
 pytestmark = [
@@ -23,7 +22,7 @@ def test_starts_that_are_refused(cluster_of):
     third = cluster.replicas[2]
     third.kill()
     right = third.words
-    third.words = cluster.replica_words(2, [*WAY, "clock_ahead"])
+    third.words = cluster.replica_words(2, wrong("clock_ahead"))
     third.start()
     assert third.process.wait(60) == 27, last(third)
     third.words = [*right[:-1], "8"]
@@ -57,7 +56,7 @@ def test_outage(cluster_of):
     ended = [it.end() for it in cluster.replicas]
     assert not any(ended), ended
     third, before = cluster.replicas[2], len(cluster.script())
-    right, third.words = third.words, cluster.replica_words(2, [*WAY, "clock_ahead"])
+    right, third.words = third.words, cluster.replica_words(2, wrong("clock_ahead"))
     third.start()
     until(lambda: "waits: no other" in third.said(third.since), 90, "it says that it waits")
     time.sleep(5)
@@ -86,7 +85,7 @@ def test_way_back_of_a_log_that_is_ahead(cluster_of, show):
     for it in cluster.replicas:
         it.end()
     third = cluster.replicas[2]
-    right, third.words = third.words, cluster.replica_words(2, [*WAY, "clock_ahead"], ["--alone"])
+    right, third.words = third.words, cluster.replica_words(2, wrong("clock_ahead"), ["--alone"])
     third.start()
     cluster.until_listens(2)
     traffic.start()
