@@ -9,6 +9,7 @@ import threading
 import time
 
 from certificates import server_context
+from relay import Lying, Relay
 from runner import Ended
 from server import PATIENCE, Connections, Failed, Server
 
@@ -48,8 +49,9 @@ def is_timed(value):
 class Run:
     """One scenario with one runner, with times that are `factor` times as long."""
 
-    def __init__(self, scenario, begins, runner, features, over, certificates):
-        self.scenario, self.runner = scenario, runner
+    def __init__(self, scenario, begins, runner, features, over, certificates, listening=None):
+        """With `listening`, which makes a listener in a folder, in front of that."""
+        self.scenario, self.runner, self.listening = scenario, runner, listening
         self.all_steps = [
             *(step for name in scenario.get("begin", ()) for step in begins[name]),
             *scenario["steps"],
@@ -73,19 +75,34 @@ class Run:
                 name: Server(name, folder, over, server_context(self.certificates, kind.get("tls")))
                 for name, kind in kinds.items()
             }
-            frames = self.scenario.get("frames", {})
-            self.connections = Connections(servers, frames, self.kill, self.runner.waited)
-            self.connections.ignored = self.scenario.get("ignored", ())
             for name in kinds:
                 if kinds[name].get("listens") is False:
                     servers[name].unlisten()
             try:
-                self.steps(slower(self.all_steps, factor))
+                with self.connected(servers) as self.connections:
+                    self.connections.ignored = self.scenario.get("ignored", ())
+                    self.steps(slower(self.all_steps, factor))
             finally:
-                self.connections.close()
                 for server in servers.values():
                     server.close()
         return self.unrepresentable
+
+    @contextlib.contextmanager
+    def connected(self, servers):
+        """The connections that the kit's servers will have."""
+        given = servers, self.scenario.get("frames", {}), self.kill, self.runner.waited
+        with contextlib.ExitStack() as held:
+            if self.listening is None:
+                connections = Connections(*given)
+            else:
+                folder = held.enter_context(tempfile.TemporaryDirectory(prefix="kit"))
+                listener = self.listening(folder)
+                held.callback(listener.kill)
+                listener.start()
+                actions = [it for step in self.all_steps for it in step.get("server", ())]
+                connections = Relay(listener.path, actions, *given)
+            held.callback(connections.close)
+            yield connections
 
     def steps(self, steps):
         for place, step in enumerate(steps, 1):
@@ -103,6 +120,8 @@ class Run:
             self.file(step)
         elif step.get("kill"):
             self.runner.start()
+        elif "others" in step:
+            self.connections.others(step["others"])
         else:
             self.connections.run(step["server"])
 
@@ -114,16 +133,17 @@ class Run:
         def serve():
             try:
                 self.connections.run(step.get("server", ()))
-            except Failed as why:
-                fault.append(str(why))
+            except (Failed, Lying) as why:
+                fault.append(why)
             except (OSError, KeyError, ValueError) as why:
-                fault.append(f"{type(why).__name__}: {why}")
+                fault.append(Failed(f"{type(why).__name__}: {why}"))
             if fault:
                 self.connections.close()  # so that the call ends
                 if not is_answered.wait(LAST_WORD):
                     self.runner.strike()
 
         server, began = threading.Thread(target=serve), time.monotonic()
+        self.connections.begin_call(step["call"])
         self.runner.send(self.filled(step["call"]))
         server.start()
         answer = None
@@ -131,17 +151,21 @@ class Run:
             answer = self.runner.answer(CALL if self.is_timed else PATIENCE, server.is_alive)
         except Ended as why:
             if not self.was_killed:
-                fault.append(str(why))
+                fault.append(Failed(why))
         is_answered.set()
         took = time.monotonic() - began
         server.join()
+        if fault and isinstance(fault[0], Lying):
+            raise fault[0]
         if fault:
-            raise Failed(fault[0] + (f"; the runner answers {short(answer)}" if answer else ""))
+            more = f"; the runner answers {short(answer)}" if answer else ""
+            raise Failed(f"{fault[0]}{more}")
         if self.was_killed:
             self.was_killed = False
             self.runner.start()
             return
-        self.test(step.get("wants", {"ok": None}), answer)
+        wants = step.get("wants", {"ok": None})
+        self.test(self.connections.wanted(step["call"], wants), answer)
         least, most = step.get("at_least", 0), step.get("at_most", took)
         if not least <= took <= most:
             raise Failed(f"the call took {took:.3f} s: {least:g} to {most:g} are wanted")

@@ -49,8 +49,10 @@ sys.path.insert(0, HERE)
 
 import certificates  # noqa: E402
 from driver import CALL, Run, Skipped  # noqa: E402
-from made import oracle, sequences  # noqa: E402
+from listening import LISTENER, TBD, Listening, Wrong  # noqa: E402
+from made import lying, oracle, sequences  # noqa: E402
 from made.scenarios import scenarios  # noqa: E402
+from relay import Lying  # noqa: E402
 from runner import Ended, Runner  # noqa: E402
 from server import Failed  # noqa: E402
 
@@ -94,7 +96,8 @@ class Kit:
     def run_of(self, scenario, runner, hello):
         features = set(hello["features"]) - ({"tls"} if not self.paths else set())
         over = self.given.over or ("unix" if "unix" in features else "tcp")
-        return Run(scenario, self.begins, runner, features, over, self.paths)
+        listening = self.given.listening
+        return Run(scenario, self.begins, runner, features, over, self.paths, listening)
 
     def one(self, row, runner, hello):
         """Runs a scenario. Whether the runner may go on."""
@@ -102,11 +105,19 @@ class Kit:
         run = self.run_of(scenario, runner, hello)
         try:
             count = self.tried(run, runner)
+            if self.given.lying:
+                raise Failed("a real server does that too")
         except Skipped as feature:
             with self.lock:
                 self.skipped.setdefault(str(feature), []).append(scenario["name"])
             return True
-        except (Failed, Ended) as why:
+        except Lying as why:
+            if not self.given.lying:
+                self.fail(scenario["name"], f"no real server does that: {why}")
+            with self.lock:
+                self.passed += self.given.lying
+            return False
+        except (Failed, Ended, Wrong) as why:
             self.fail(
                 scenario["name"],
                 f"{why}\n    {scenario['says']}",
@@ -216,6 +227,21 @@ def words():
         choices=("unix", "tcp"),
         help="the kind of sockets; else unix where the client has them",
     )
+    parser.add_argument(
+        "--listener",
+        metavar="PATH",
+        nargs="?",
+        const=LISTENER,
+        help="in front of this tb-listen (LISTENER, or server/out/tb-listen)",
+    )
+    parser.add_argument(
+        "--program", metavar="TBD", default=TBD, help="the listener's tbd (TBD, or crates/tbd/out)"
+    )
+    parser.add_argument(
+        "--lying",
+        action="store_true",
+        help="in front of a listener: see that no real server plays the others",
+    )
     parser.add_argument("--first", action="store_true", help="stop where one has failed")
     parser.add_argument("--verbose", action="store_true", help="print scenarios that pass too")
     parser.add_argument(
@@ -230,6 +256,13 @@ def words():
         parser.error("--drawn and --more must be 1 or more, and --seed must be 0 or more")
     if given.steps is not None and (given.drawn != 1 or not re.fullmatch(STEPS, given.steps)):
         parser.error("--steps is none, or places like 2,5, with --drawn 1")
+    if given.lying and not given.listener:
+        parser.error("--lying is for a listener: with --listener")
+    if given.listener and (given.drawn or given.more):
+        parser.error("drawn scenarios have a server that may lie: not with --listener")
+    given.listening = None
+    if given.listener:
+        given.listening = functools.partial(Listening, [given.program], listener=given.listener)
     return parser, given
 
 
@@ -258,6 +291,9 @@ def main():
             fnmatch.fnmatch(it[key], pattern) for key in ("name", "group") for pattern in given.only
         )
     ]
+    left_out = []
+    if given.listening:
+        chosen, left_out = for_listeners(chosen, given.lying)
     if not chosen:
         parser.error("no scenario has such a name")
     if given.show:
@@ -274,13 +310,38 @@ def main():
             hello = Runner(given.command, folder)
             said = hello.start()["ok"]
             hello.end()
+            tried(given.listening, folder)
         except (OSError, Ended, KeyError, TypeError) as why:
             parser.error(f"the runner does not start: {why}")
+        except Wrong as why:
+            parser.error(str(why))
         if said.get("protocol") != 1:
             parser.error(f"the runner speaks protocol {said.get('protocol')}, not 1")
         began, kit = time.monotonic(), Kit(given, begins, certificates.made(folder))
         kit.run(chosen)
+    print(*left_out, sep="\n", end="\n" if left_out else "")
     return report(kit, said, len(chosen), time.monotonic() - began)
+
+
+def for_listeners(rows, are_lying):
+    """The scenarios that a real server plays; or those that it does not. And lines on the rest."""
+    reasons = {it["name"]: lying.reason(it["name"]) for it in rows}
+    lines = []
+    for reason in sorted({it for it in reasons.values() if it and not are_lying}):
+        names = sorted(name for name, it in reasons.items() if it == reason)
+        lines.append(f"not over a listener, {reason}: {len(names)} ({', '.join(names)})")
+    return [it for it in rows if bool(reasons[it["name"]]) == are_lying], lines
+
+
+def tried(listening, folder):
+    """Starts and ends a listener, if the kit is to be in front of one."""
+    if listening:
+        it = listening(folder)
+        try:
+            it.start()
+            it.end()
+        finally:
+            it.kill()
 
 
 def report(kit, said, chosen, seconds):

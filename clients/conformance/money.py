@@ -18,91 +18,29 @@ import contextlib
 import os
 import random
 import shlex
-import signal
-import subprocess
 import sys
 import tempfile
 import time
 
 sys.dont_write_bytecode = True
 HERE = os.path.dirname(os.path.abspath(__file__))
-TOP = os.path.dirname(os.path.dirname(HERE))
 sys.path.insert(0, HERE)
 
+from listening import TBD, TOP, Listening, Wrong  # noqa: E402
 from runner import Ended, Runner  # noqa: E402
 
 PYTHON = f"{TOP}/clients/python"
-TBD = f"{TOP}/crates/tbd/out/tbd"
 STAND_IN = f"{sys.executable} -SE {PYTHON}/tests/stand_in_tbd.py"
 CALL = 60.0  # seconds that a call may take, with a server that is started again meanwhile
 KINDS = ("client", "server", "listener")
-
-
-class Wrong(Exception):
-    """Money was lost or moved twice, or a call failed."""
-
-
-class Listening:
-    """The listener and its server, which keep their ledger in a file."""
-
-    def __init__(self, server, folder):
-        self.server, self.folder, self.process = server, folder, None
-
-    def start(self):
-        """Starts them. The server before may still hold the file for a moment: then again."""
-        listener = [
-            f"{TOP}/server/out/tb-listen",
-            "--ahead",
-            "60",
-            "--unix",
-            f"{self.folder}/ledger.sock",
-            "--",
-        ]
-        said = ""
-        deadline = time.monotonic() + CALL
-        while time.monotonic() < deadline:
-            self.process = subprocess.Popen(
-                [*listener, *self.server, "run", f"{self.folder}/ledger.journal", "64"],
-                stderr=subprocess.PIPE,
-                text=True,
-            )
-            line = self.process.stderr.readline()
-            while line and "listens on" not in line:
-                said = line.strip()
-                line = self.process.stderr.readline()
-            if line:
-                return
-            self.process.wait()
-            self.process.stderr.close()
-            time.sleep(0.02)
-        raise Wrong(f"the listener does not start: {said}")
-
-    def kill(self):
-        if self.process is not None:
-            self.process.kill()
-            self.process.wait()
-            self.process.stderr.close()
-
-    def kill_server(self):
-        """Kills the listener's child, if it has one at the moment."""
-        with contextlib.suppress(OSError):
-            with open(f"/proc/{self.process.pid}/task/{self.process.pid}/children") as it:
-                for number in it.read().split():
-                    os.kill(int(number), signal.SIGKILL)
-
-    def end(self):
-        self.process.terminate()
-        status = self.process.wait(CALL)
-        self.process.stderr.close()
-        if status:
-            raise Wrong(f"the listener ended with status {status}")
 
 
 class Money:
     def __init__(self, given, folder):
         self.given, self.folder, self.random = given, folder, random.Random(given.seed)
         self.runner = Runner(given.command, folder)
-        self.listening = Listening(shlex.split(given.server), folder)
+        ahead = ("--ahead", "60")
+        self.listening = Listening(shlex.split(given.server), folder, options=ahead)
         self.path = f"{folder}/session.json"
         self.killed = dict.fromkeys(KINDS, 0)
         self.made, self.total = 0, 0
@@ -200,17 +138,21 @@ class Money:
         """Kills the server or the listener within a step, which goes on."""
         self.runner.send(step)
         time.sleep(self.random.random() * self.given.span)
-        if kind == "server":
-            self.listening.kill_server()
-        else:
-            self.listening.kill()
-            self.listening.start()
-        self.killed[kind] += 1
+        self.kill(kind)
         answer = self.runner.answer(CALL)
         if "ok" not in answer:
             raise Wrong(f"{step['do']} is answered {answer}")
         if step["do"] == "retry":
             self.accepted(answer["ok"])
+
+    def kill(self, kind):
+        """Kills one of the two. The server may be none for a moment."""
+        if kind == "server":
+            self.killed[kind] += self.listening.kill_server()
+            return
+        self.listening.kill()
+        self.listening.start()
+        self.killed[kind] += 1
 
     def is_made(self, number):
         return bool(self.ask("lookup_transfers", [str(1000 + number)])["records"])
@@ -271,7 +213,7 @@ class SharedMoney(Money):
         self.begin_all(numbers)
         if kind:
             time.sleep(self.random.random() * self.given.span)
-            self.kill(kind, numbers)
+            self.kill_amid(kind, numbers)
         for number in numbers:
             results = self.call({"do": "end", "call": str(number)})["results"]
             if any(it["result"] != "exists" for it in results):
@@ -285,17 +227,14 @@ class SharedMoney(Money):
             line = {"do": "begin", "call": str(number), "shared": "s"}
             self.call({**line, "operation": "create_transfers", "items": [sale]})
 
-    def kill(self, kind, numbers):
+    def kill_amid(self, kind, numbers):
+        if kind != "client":
+            self.kill(kind)
+            return
         self.killed[kind] += 1
-        if kind == "client":
-            self.runner.kill()
-            self.begin()
-            self.begin_all(numbers)
-        elif kind == "server":
-            self.listening.kill_server()
-        else:
-            self.listening.kill()
-            self.listening.start()
+        self.runner.kill()
+        self.begin()
+        self.begin_all(numbers)
 
 
 def server_name(command):

@@ -179,6 +179,21 @@ class Connections:
             return frame[5:].encode("ascii")
         return bytes.fromhex(frame)
 
+    def expected(self, text):
+        """The bytes that a client has to send."""
+        return self.bytes_of(text)
+
+    def others(self, requests):
+        """Requests of other clients, which a real server executes: the kit only says what became
+        of them."""
+
+    def begin_call(self, call):
+        """A call of the client begins."""
+
+    def wanted(self, call, wants):
+        """What a call has to return, after what it was answered."""
+        return wants
+
     def patiently(self, it, step):
         """What a step over a connection gives that waits for the client."""
         patience = Patience(PATIENCE, self.waited)
@@ -268,7 +283,7 @@ class Connections:
 
     def do_drain(self, name, action):
         """Reads until the client closes its side: nothing, or the beginning of these bytes."""
-        wanted, data, it = self.bytes_of(action["of"]), b"", self.open.pop(name)
+        wanted, data, it = self.expected(action["of"]), b"", self.open.pop(name)
         try:
             while more := self.taken(it, 1 << 16):
                 data += more
@@ -297,7 +312,7 @@ class Connections:
     def do_read(self, text, action):
         """Reads exactly these bytes. `any` has the places that may hold anything; `first` only a
         number of them."""
-        wanted = self.bytes_of(text)[: action.get("first")]
+        wanted = self.expected(text)[: action.get("first")]
         got = self.received(self.connection(action), len(wanted), action)
         compared = bytearray(got)
         for begin, end in action.get("any", ()):

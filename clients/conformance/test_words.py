@@ -121,10 +121,10 @@ class WrongClients(unittest.TestCase):
 
     def test_from_one_of_them_on(self):
         everyone = {program: said for program, _, said in self.said("--list")}
-        for program, status, said in self.said("--list", "--from", "21"):
+        for program, status, said in self.said("--list", "--from", "6"):
             names = everyone[program].splitlines()
-            self.assertEqual((status, said.splitlines()), (0, names[20:]), program)
-            self.assertTrue(names[0].startswith("1 ") and names[20].startswith("21 "), names)
+            self.assertEqual((status, said.splitlines()), (0, names[5:]), program)
+            self.assertTrue(names[0].startswith("1 ") and names[5].startswith("6 "), names)
         for program, status, said in self.said("--from", "99"):
             self.assertEqual((status, said), (1, "no wrong client is there from number 99 on\n"))
 
@@ -197,14 +197,14 @@ class Drawn(unittest.TestCase):
 
 
 class Throughput(unittest.TestCase):
-    """What measures the clients in Go and Node, by a server's relative path."""
+    """What measures the clients, by a server's relative path."""
 
-    def begun(self, words, server):
-        """What it says of a server that does not start, or first of one that does."""
+    def begun(self, words):
+        """What it prints at first, and what it leaves."""
         room = tempfile.mkdtemp()
         self.addCleanup(shutil.rmtree, room)
         it = subprocess.Popen(
-            [*words, *server],
+            [sys.executable, "-B", "clients/throughput.py", *words],
             cwd=TOP,
             env={**os.environ, "TMPDIR": room},
             stdout=subprocess.PIPE,
@@ -213,27 +213,23 @@ class Throughput(unittest.TestCase):
             start_new_session=True,
         )
         try:
-            said = it.stdout.read() if server[-1] == "no/such/tbd" else it.stdout.readline()
+            said = it.stdout.read() if "no/such/tbd" in words else it.stdout.readline()
         finally:
             os.killpg(it.pid, signal.SIGKILL)
             it.wait()
             it.stdout.close()
         return said, os.listdir(room)
 
-    def test_in_go(self):
-        words = [sys.executable, "-B", "clients/go/throughput.py", "--server"]
-        said, left = self.begun(words, ["no/such/tbd"])
+    def test_a_server_that_does_not_start(self):
+        said, left = self.begun(["--server", "no/such/tbd"])
         self.assertRegex(said, "the server does not start: .*no/such/tbd")
         self.assertEqual(left, [])
 
-    @unittest.skipUnless(shutil.which("node"), "there is no Node")
-    def test_in_node(self):
-        words = ["node", "clients/node/throughput.js"]
-        said, left = self.begun(words, ["no/such/tbd"])
-        self.assertRegex(said, "the listener ended: .*no/such/tbd")
-        self.assertEqual(left, [])
-        said, _ = self.begun(words, [sys.executable, "-SE", STAND_IN])
-        self.assertIn("| | 1 connection, requests/s |", said)
+    def test_a_column_for_each_language_and_clone(self):
+        words = ["--server", f"{sys.executable} -SE {STAND_IN}", "--languages", "python,go"]
+        said, _ = self.begun([*words, "--before", TOP])
+        heads = "python | python before | go | go before"
+        self.assertEqual(said, f"| transfers a second | {heads} |\n")
 
 
 class Java(unittest.TestCase):

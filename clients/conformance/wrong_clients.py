@@ -1,19 +1,20 @@
 #!/usr/bin/env python3
 """Sees that the kit catches wrong clients: a client with one thing wrong, each in turn.
 
-    clients/conformance/wrong_clients.py python|go|java|node [--only PATTERN] [--from N] [--list]
-        [--scenarios PATTERN] [--over unix|tcp] [--jobs N] [--texts]
+    clients/conformance/wrong_clients.py python|go|java|node|c|rust [--only PATTERN] [--from N]
+        [--list] [--scenarios PATTERN] [--over unix|tcp] [--jobs N] [--texts]
     clients/conformance/wrong_clients.py python --drawn N [--seed N] ..
 
 wrong_clients.toml says what is wrong, by edits of a client's sources, which are made in a copy.
 The kit has to fail for it; the client as it is has to pass. Prints which scenario caught it, and
 'N of M wrong clients are caught'. Status 1 where one is not. With --drawn those that say so have to
 fail among so many scenarios that are drawn, without the stored ones. Java's need that
-clients/java/build.sh has run.
+clients/java/build.sh has run, those of C and Rust that clients/c was made.
 """
 import argparse
 import concurrent.futures
 import fnmatch
+import os
 import re
 import shutil
 import subprocess
@@ -33,6 +34,7 @@ TABLE = tomllib.loads((HERE / "wrong_clients.toml").read_text(encoding="utf-8"))
 SECONDS = 1800  # that the kit may take for one wrong client
 JAVA = ["java", "-XX:TieredStopAtLevel=1", "-XX:+UseSerialGC", "-Xshare:auto", "-cp"]
 JAVA_BUILT = f"{CLIENTS}/java/out/classes:{CLIENTS}/java/out/test-classes"
+EMBED = os.environ.get("TB_EMBED_A") or f"{CLIENTS.parent}/crates/tb_embed/out/libtb_embed.a"
 NODE = ["index.js", "names.js", "lib", "conformance-runner.js"]
 
 Edits = Sequence[
@@ -76,6 +78,27 @@ def node(folder: Path, texts: Texts) -> list[str]:
     return ["node", f"{folder}/conformance-runner.js"]
 
 
+def c(folder: Path, texts: Texts) -> list[str]:
+    """Only the edited files are compiled."""
+    shutil.copytree(CLIENTS / "c", folder / "c")
+    shutil.copytree(CLIENTS / "embed", folder / "embed")
+    write(folder / "c/src", texts)
+    made(["make", "-s", f"TB_EMBED_A={EMBED}", "WARN=", "out/conformance"], folder / "c")
+    return [f"{folder}/c/out/conformance"]
+
+
+def rust(folder: Path, texts: Texts) -> list[str]:
+    """Over the client in C as it was made."""
+    left_out = shutil.ignore_patterns("out")
+    for name in ("rust", "embed"):
+        shutil.copytree(CLIENTS / name, folder / name, ignore=left_out)
+    write(folder / "rust/src", texts)
+    archives = ["env", f"TB_EMBED_A={EMBED}", f"TB_CLIENT_A={CLIENTS}/c/out/libtb_client.a"]
+    words = ["cargo", "build", "-q", "--offline", "--target-dir", "out", "--example"]
+    made([*archives, *words, "conformance"], folder / "rust")
+    return [f"{folder}/rust/out/debug/examples/conformance"]
+
+
 class Client(NamedTuple):
     """Where the files of its edits are, and what makes an edited one: its runner."""
 
@@ -88,6 +111,8 @@ LANGUAGES = {
     "go": Client(CLIENTS / "go", go),
     "java": Client(CLIENTS / "java/src/main/java/org/telovamish/tbclient", java),
     "node": Client(CLIENTS / "node", node),
+    "c": Client(CLIENTS / "c/src", c),
+    "rust": Client(CLIENTS / "rust/src", rust),
 }
 
 

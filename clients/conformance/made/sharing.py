@@ -72,6 +72,11 @@ def server(*actions):
     return {"server": list(actions)}
 
 
+def others(*items):
+    """Transfers that another client made before."""
+    return {"others": [[NAMES[TRANSFERS], list(items)]] if items else []}
+
+
 # What the server does
 
 
@@ -537,25 +542,30 @@ def evicted():
     chain = [transfer(20, flags=["linked"]), transfer(21)]
     refused_chain = [row(0, "exists"), row(1, "linked_event_failed")]
     same = [transfer_bytes({**it, "timestamp": "9"}).hex() for it in chain]
-    other = [same[0], transfer_bytes({**chain[1], "amount": "5"}).hex()]
-    for name, what, found, wants in (
-        ("done", "is there: each event exists.", same, ((0, "exists"), (1, "exists"))),
+    rest = {**chain[1], "amount": "5"}
+    other = [same[0], transfer_bytes(rest).hex()]
+    half = others(chain[0], transfer(22))
+    for name, what, found, wants, before in (
+        ("done", "is there: each event exists.", same, ((0, "exists"), (1, "exists")), others()),
         (
             "other",
             "is there with another content: its results as they are.",
             other,
             ((0, "exists"), (1, "linked_event_failed")),
+            others(chain[0], rest),
         ),
         (
             "half",
             "is there in part: its results as they are.",
             same[:1],
             ((0, "exists"), (1, "linked_event_failed")),
+            half,
         ),
     ):
         yield (
             f"evicted-chain-{name}",
             f"Lost and then evicted: a chain that is refused since its first event exists {what}",
+            before,
             ask(
                 TRANSFERS,
                 chain,
@@ -578,6 +588,7 @@ def evicted():
     yield (
         "evicted-chain-never-lost",
         "Evicted without a loss before: a chain whose first event exists was refused as it is.",
+        half,
         ask(
             TRANSFERS,
             chain,

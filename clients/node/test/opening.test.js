@@ -229,13 +229,13 @@ test("a ledger that is closed while it is read again", async (t) => {
   const { folder, file, open } = placed(t);
   const once = path.join(folder, "once");
   const program = script(folder, "slow", `test -e ${once} && read it`, `touch ${once}`,
-    `exec python3 -SE '${STAND_IN}' "$@"`);
+    `FAIL=SIGKILL:read:3 exec python3 -SE '${STAND_IN}' "$@"`);
   const ledger = await open({ program });
   await ledger.createAccounts(ACCOUNTS);
-  killAll(serving(file));
+  const [killed] = serving(file); // by itself, when it has read the transfer
   const call = ledger.createTransfers([sale()]);
   const refused = assert.rejects(call, tb.ReplyLost);
-  await until(() => serving(file).length > 0);
+  await until(() => serving(file).some((it) => it !== killed));
   await ledger.close();
   await refused;
   assert.deepEqual(serving(file), []);

@@ -8,9 +8,7 @@ import time
 import unittest
 
 import tb_client as tb
-from test_request_faults import header
-from test_sockets import register
-from test_tb_client import wrong_replies
+from helpers.records import header, register, wrong_replies
 from tb_client import Session, Socket
 
 

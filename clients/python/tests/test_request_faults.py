@@ -1,16 +1,8 @@
 """Faults of a request's header, as the client names them before it sends the request."""
-import struct
 import unittest
 
 import tb_client as tb
-
-
-def header(
-    client=1, session=1, number=1, operation=130, zeros=b"\0" * 3, length=0, rest=b"\0" * 12
-):
-    return client.to_bytes(16, "little") + struct.pack(
-        "<QIB3sI12s", session, number, operation, zeros, length, rest
-    )
+from helpers.records import header
 
 
 class Frames(unittest.TestCase):

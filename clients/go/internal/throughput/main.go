@@ -1,7 +1,9 @@
-// Throughput measures this client, for throughput.py.
+//go:build unix
+
+// Throughput measures this client, for clients/throughput.py.
 //
-//	throughput measure PATH CONNECTIONS ITEMS SECONDS    requests of ITEMS transfers: prints how many a second
-//	throughput serve PATH                                a server that accepts all and keeps nothing
+//	throughput measure sessions|shared PATH CALLERS ITEMS SECONDS    prints transfers a second, and CPU microseconds for each
+//	throughput serve PATH                                            a server that accepts all and keeps nothing
 package main
 
 import (
@@ -15,6 +17,7 @@ import (
 	"strconv"
 	"sync"
 	"sync/atomic"
+	"syscall"
 	"time"
 
 	"telovamish.org/tbclient"
@@ -22,6 +25,10 @@ import (
 
 // The bytes of a frame's header, and of a record.
 const headerSize, recordSize = 48, 128
+
+const warm = 500 * time.Millisecond
+
+var errUsage = errors.New("throughput measure sessions|shared PATH CALLERS ITEMS SECONDS, or throughput serve PATH")
 
 func main() {
 	if err := run(os.Args[1:]); err != nil {
@@ -32,41 +39,86 @@ func main() {
 
 func run(words []string) error {
 	switch {
-	case len(words) == 5 && words[0] == "measure":
+	case len(words) == 6 && words[0] == "measure":
 		var numbers [3]int
 		for at := range numbers {
 			var err error
-			if numbers[at], err = strconv.Atoi(words[2+at]); err != nil {
+			if numbers[at], err = strconv.Atoi(words[3+at]); err != nil {
 				return err
 			}
 		}
-		return measure(words[1], numbers[0], numbers[1], time.Duration(numbers[2])*time.Second)
+		return measure(words[1], words[2], numbers[0], numbers[1], time.Duration(numbers[2])*time.Second)
 	case len(words) == 2 && words[0] == "serve":
 		return serve(words[1])
 	}
-	return errors.New("throughput measure PATH CONNECTIONS ITEMS SECONDS, or throughput serve PATH")
+	return errUsage
 }
 
-// measure sends requests on a number of connections at once, each with a session of its own.
-func measure(path string, connections, items int, span time.Duration) error {
-	var (
-		ctx   = context.Background()
-		count atomic.Int64
-		fault = make(chan error, connections)
-		begin = make(chan struct{})
-		all   sync.WaitGroup
-	)
-	for at := 0; at < connections; at++ {
-		session, err := begun(ctx, path)
-		if err != nil {
-			return err
+// A call sends some transfers, and returns when they are made.
+type call func(ctx context.Context, transfers []tbclient.Transfer) (tbclient.TransferResults, error)
+
+// callers are so many calls: each of a session on a connection of its own, or all of one client.
+func callers(ctx context.Context, kind, path string, count int) ([]call, error) {
+	var all []call
+	if _, err := begun(ctx, path); err != nil {
+		return nil, err
+	}
+	switch kind {
+	case "sessions":
+		for len(all) < count {
+			session, err := begun(ctx, path)
+			if err != nil {
+				return nil, err
+			}
+			all = append(all, session.CreateTransfers)
 		}
-		all.Add(1)
-		go func() {
-			defer all.Done()
-			<-begin
-			for end := time.Now().Add(span); time.Now().Before(end); count.Add(1) {
-				results, err := session.CreateTransfers(ctx, sales(items))
+	case "shared":
+		client, err := tbclient.Connect(path)
+		if err != nil {
+			return nil, err
+		}
+		for len(all) < count {
+			all = append(all, client.CreateTransfers)
+		}
+	default:
+		return nil, errUsage
+	}
+	return all, nil
+}
+
+// measure prints what so many callers get done.
+func measure(kind, path string, count, items int, span time.Duration) error {
+	all, err := callers(context.Background(), kind, path, count)
+	if err != nil {
+		return err
+	}
+	if _, err := repeat(all, items, warm); err != nil {
+		return err
+	}
+	began, used := time.Now(), cpuTime()
+	calls, err := repeat(all, items, span)
+	if err != nil {
+		return err
+	}
+	made := float64(calls * int64(items))
+	fmt.Println(made/time.Since(began).Seconds(), float64((cpuTime()-used).Microseconds())/made)
+	return nil
+}
+
+// repeat has all callers call until a time has passed, and returns how often they did.
+func repeat(all []call, items int, span time.Duration) (int64, error) {
+	var (
+		count atomic.Int64
+		fault = make(chan error, len(all))
+		done  sync.WaitGroup
+		end   = time.Now().Add(span)
+	)
+	for _, it := range all {
+		done.Add(1)
+		go func(it call) {
+			defer done.Done()
+			for ; time.Now().Before(end); count.Add(1) {
+				results, err := it(context.Background(), sales(items))
 				if err == nil {
 					err = results.Err()
 				}
@@ -75,18 +127,24 @@ func measure(path string, connections, items int, span time.Duration) error {
 					return
 				}
 			}
-		}()
+		}(it)
 	}
-	began := time.Now()
-	close(begin)
-	all.Wait()
+	done.Wait()
 	select {
 	case err := <-fault:
-		return err
+		return 0, err
 	default:
+		return count.Load(), nil
 	}
-	fmt.Printf("%.1f\n", float64(count.Load())/time.Since(began).Seconds())
-	return nil
+}
+
+// cpuTime is what this process has taken.
+func cpuTime() time.Duration {
+	var used syscall.Rusage
+	if err := syscall.Getrusage(syscall.RUSAGE_SELF, &used); err != nil {
+		panic(err)
+	}
+	return time.Duration(used.Utime.Nano() + used.Stime.Nano())
 }
 
 // begun is a session on a connection of its own, and the two accounts.
