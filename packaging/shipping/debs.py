@@ -12,11 +12,10 @@ from .programs import LIBRARY, Record
 from .running import Failed, run
 from .table import Program
 
-PACKAGES = 7
+PACKAGES = 8
 # The commands of Python packages: a module and its function.
 SCRIPTS = {
     "telovamish": ("telovamish.early", "main"),
-    "tb-replica": ("tb_host.early", "replica"),
     "tb-sql": ("tb_sql.early", "main"),
 }
 SCRIPT = """#!/usr/bin/python3
@@ -110,12 +109,13 @@ def changelog(version: str, epoch: int) -> str:
 def stage(
     tree: Path, top: Path, built: Path, dist: Path, record: Record, table: dict[str, Program]
 ) -> None:
-    """The tree that debhelper packages."""
+    """The tree that debhelper packages. Wheels and the site are in dist."""
     top.mkdir()
     shutil.copytree(tree / "packaging/debian", top / "debian", symlinks=True)
     shutil.copytree(built, top / "bin", ignore=shutil.ignore_patterns("*.a"))
     libraries(tree, top, built, record.version)
     pages(tree, top, record)
+    shutil.copytree(dist / "site", top / "site")
     scripts(top, dist)
     listener(tree, top)
     manuals.write(table, top / "man", record.version, record.date[:10])

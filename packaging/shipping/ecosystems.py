@@ -17,7 +17,7 @@ HOOKS = (
     "import sys; from setuptools import build_meta as it;"
     " into = sys.argv[1]; it.build_sdist(into); it.build_wheel(into)"
 )
-WHEELS = ("clients/python", "apps/telovamish", "apps/host", "apps/books")
+WHEELS = ("clients/python", "apps/telovamish", "apps/books")
 
 
 def moment(epoch: int) -> str:

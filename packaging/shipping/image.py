@@ -1,7 +1,8 @@
-"""An image of the Open Container Initiative: tbd, tb-listen and the libraries that tbd needs.
+"""An image of the Open Container Initiative: tbd, tb-listen, tb-replica and the libraries that tbd
+needs.
 
-There is no shell in it, and nothing of Python, so no tb-replica. It is an archive of an image
-layout with one layer, the same bytes whenever it is made. docs/use/OPERATING.md shows its use."""
+There is no shell in it. It is an archive of an image layout with one layer, the same bytes whenever
+it is made. docs/use/OPERATING.md shows its use."""
 
 import gzip
 import hashlib

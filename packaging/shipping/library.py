@@ -29,4 +29,5 @@ def words(kit: Path, out: Path) -> list[str | Path]:
 
 def build() -> None:
     folder = ROOT / "crates" / NAME
+    (folder / "out").mkdir(exist_ok=True)
     run(words(heap().parent.parent, folder / "out" / LIBRARY), cwd=folder)

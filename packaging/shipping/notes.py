@@ -10,10 +10,11 @@ PACKAGES = """| Package | For |
 | `telovamish_{0}_amd64.deb` | the proved programs: `tbs`, `tb_script`, `tbd` |
 | `telovamish-tools_{0}_all.deb` | `telovamish`: statements, a terminal, audits |
 | `telovamish-server_{0}_amd64.deb` | `tb-listen`, its units |
-| `telovamish-replica_{0}_all.deb` | `tb-replica`, its unit |
+| `telovamish-replica_{0}_amd64.deb` | `tb-replica`, its unit |
 | `telovamish-books_{0}_all.deb` | `tb-sql`: SQL and pages |
 | `python3-telovamish-client_{0}_all.deb`, `tb_client-{0}-py3-none-any.whl` | the Python client |
-| `telovamish-{0}.oci.tar` | an image with `tbd` and `tb-listen` |
+| `telovamish-doc_{0}_all.deb`, `site/` | these pages and the API of each client, as HTML |
+| `telovamish-{0}.oci.tar` | an image with `tbd`, `tb-listen` and `tb-replica` |
 | `libtelovamish-dev_{0}_amd64.deb` | the server inside a program in C or C++ |
 | `tbclient-{0}.jar`, `tb-client-{0}.tgz`, `tbclient@v{0}.zip` | clients for Java, Node and Go |
 """

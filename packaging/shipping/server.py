@@ -6,9 +6,10 @@ from pathlib import Path
 
 from .running import Failed, run
 
-NAMES = ("tb-listen",)
+NAMES = ("tb-listen", "tb-replica")
 DIRECTORIES = "{{if not .Standard}}{{.Dir}}{{end}}"
-LICENCES = {"Expat": "MIT", "Go": "BSD-3-Clause"}  # Debian's names, and those of SPDX
+# Debian's names, and those of SPDX
+LICENCES = {"Expat": "MIT", "Go": "BSD-3-Clause", "BSD-3-clause": "BSD-3-Clause"}
 
 
 @dataclass(frozen=True)
@@ -41,11 +42,12 @@ def test(program: Path) -> None:
 def linked(tree: Path) -> list[Linked]:
     """The packages whose parts are in the programs: Go's runtime and library, and others."""
     packages = " ".join(f"telovamish.org/server/cmd/{it}" for it in NAMES)
-    words = ["env", f"PACKAGES={packages}", tree / "server/build", "list", "-deps"]
+    words = ["env", f"PACKAGES={packages}", f"{tree}/server/build", "list", "-deps"]
     folders = run([*words, "-f", DIRECTORIES]).split()
     others = {it for it in folders if it.startswith("/usr/share/gocode/")}
     others.add(str(Path(run(["go", "env", "GOROOT"]).strip(), "bin").resolve()))
-    owners = {run(["dpkg-query", "-S", it]).split(":")[0] for it in others}
+    listed = run(["dpkg-query", "-S", *sorted(others)]).splitlines()
+    owners = {it for line in listed for it in line.partition(": ")[0].split(", ")}
     return [of_debian(it) for it in sorted(owners)]
 
 

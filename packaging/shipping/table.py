@@ -10,14 +10,14 @@ import re
 import subprocess
 import sys
 import tomllib
-from collections.abc import Callable, Iterator
+from collections.abc import Iterator
 from contextlib import contextmanager
 from dataclasses import dataclass, field, replace
 from pathlib import Path
-from typing import Any, NoReturn
+from typing import Any
 
 ROOT = Path(__file__).resolve().parents[2]
-SOURCES = ("apps/telovamish/src", "apps/host/src", "apps/books/src", "clients/python/src")
+SOURCES = ("apps/telovamish/src", "apps/books/src", "clients/python/src")
 
 
 @dataclass(frozen=True)
@@ -58,14 +58,6 @@ class Program:
     options: list[Option] = field(default_factory=list)
 
 
-class Caught(Exception):
-    """Carries a parser that was about to parse."""
-
-    def __init__(self, parser: argparse.ArgumentParser) -> None:
-        super().__init__(parser.prog)
-        self.parser = parser
-
-
 @contextmanager
 def importable() -> Iterator[None]:
     """The packages of the clone, while this lasts."""
@@ -75,23 +67,6 @@ def importable() -> Iterator[None]:
         yield
     finally:
         sys.path[:] = before
-
-
-def caught(call: Callable[[], object]) -> argparse.ArgumentParser:
-    """The parser that a call makes: it is taken when it would parse."""
-
-    def take(parser: argparse.ArgumentParser, *_: object, **__: object) -> NoReturn:
-        raise Caught(parser)
-
-    kept = argparse.ArgumentParser.parse_args
-    argparse.ArgumentParser.parse_args = take  # type: ignore
-    try:
-        call()
-    except Caught as it:
-        return it.parser
-    finally:
-        argparse.ArgumentParser.parse_args = kept  # type: ignore
-    raise ValueError("no parser was made")
 
 
 def of_argparse(parser: argparse.ArgumentParser) -> list[Option]:
@@ -123,17 +98,6 @@ def of_books() -> tuple[list[Form], list[Option]]:
     return forms, of_argparse(top)
 
 
-def of_host(module: str, parts: list[str]) -> tuple[list[Form], list[Option]]:
-    """The replica: the part that serves has the program's own options."""
-    loaded = importlib.import_module(module)
-    served = caught(lambda: loaded.run("", []))
-    forms = [Form("[OPTIONS] --log LOG --copy FOLDER -- COMMAND [WORD ..]", "")]
-    for part in parts:
-        parser = caught(lambda name=part: loaded.run(name, []))  # type: ignore[misc]
-        forms.append(Form(words_of(parser), "", of_argparse(parser)))
-    return forms, of_argparse(served)
-
-
 HEAD = re.compile(r"  ((?:-\w, )?--[\w-]+)(?: ([A-Z][A-Z:]*))?(?: {2,}(.*))?")
 
 
@@ -154,13 +118,20 @@ def of_help(page: str) -> list[Option]:
     return found
 
 
-def of_server(name: str) -> list[Option]:
-    """The options of a program of server/, which is built for that if it is not there."""
+def help_of(name: str, *form: str) -> str:
+    """The help of a program of server/, or of a form of it. It is built for that if it is not
+    there."""
     program = ROOT / "server" / "out" / name
     if not program.exists():
         subprocess.run([ROOT / "server" / "build"], check=True)
-    words = [str(program), "--help"]
-    return of_help(subprocess.run(words, capture_output=True, text=True, check=True).stdout)
+    words = [str(program), *form, "--help"]
+    return subprocess.run(words, capture_output=True, text=True, check=True).stdout
+
+
+def of_parts(name: str, parts: list[str]) -> list[Form]:
+    """Forms of a program of server/, each with the words and the options of its own help."""
+    pages = [help_of(name, it) for it in parts]
+    return [Form(it.splitlines()[0].partition(f" {name} ")[2], "", of_help(it)) for it in pages]
 
 
 def of_rows(rows: list[dict[str, Any]]) -> list[Form]:
@@ -208,9 +179,8 @@ def of_row(name: str, row: dict[str, Any]) -> Program:
     elif parser == "tb_sql.commands":
         forms, options = of_books()
     elif parser == "server":
-        forms, options = of_rows(row["forms"]), of_server(name)
-    elif parser:
-        forms, options = of_host(parser, row["parts"])
+        forms = of_rows(row["forms"]) + of_parts(name, row.get("parts", []))
+        options = of_help(help_of(name))
     else:
         forms = of_rows(row["forms"])
         options = [Option(**it) for it in row.get("options", [])]

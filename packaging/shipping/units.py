@@ -1,16 +1,14 @@
-"""systemd's units of the package, with its paths and configuration: the listener's of server, the
-replica's of apps/host."""
+"""systemd's units of the packages, with their paths and configuration."""
 
 import re
 from pathlib import Path
 
 from .table import ROOT
 
-FOLDERS = (ROOT / "server" / "systemd", ROOT / "apps" / "host" / "systemd")
+FOLDER = ROOT / "server" / "systemd"
 # What a unit has for a copy by hand, and what the package has.
 COMMON = (
     (r"^# .*Copy it to /etc/systemd/system.*$", "# See /etc/telovamish."),
-    (r"^Environment=PYTHONPATH=.*\n", ""),
     (r"file:/opt/ledger/docs", "file:/usr/share/doc/telovamish/docs"),
     (r"^User=ledger$", "User=telovamish"),
     (r"^Group=ledger$", "Group=telovamish"),
@@ -31,7 +29,7 @@ LISTEN = (
 )
 REPLICA = (
     (
-        r"/usr/bin/python3 -m tb_host\.machines.*?--status",
+        r"/usr/bin/tb-replica .*?--status",
         "/usr/bin/tb-replica \\\\\n    $LOG_OPTIONS --copy /var/lib/telovamish $OPTIONS \\\\\n"
         "    --status",
     ),
@@ -48,7 +46,7 @@ REPLACED = {
 
 def source(name: str) -> Path:
     """The file of a unit."""
-    return next(it / name for it in FOLDERS if (it / name).exists())
+    return FOLDER / name
 
 
 def packaged(name: str) -> str:
@@ -65,5 +63,5 @@ def packaged(name: str) -> str:
 def write(folder: Path) -> None:
     """Writes all units. One that has no row here is an error."""
     folder.mkdir(parents=True, exist_ok=True)
-    for path in (it for of in FOLDERS for it in sorted(of.iterdir())):
+    for path in sorted(FOLDER.iterdir()):
         (folder / path.name).write_text(packaged(path.name))

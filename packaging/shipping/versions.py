@@ -7,8 +7,6 @@ from pathlib import Path
 PLACES = {
     "apps/books/pyproject.toml": r'^version = "(.*)"$',
     "apps/books/src/tb_sql/__init__.py": r'^__version__ = "(.*)"$',
-    "apps/host/pyproject.toml": r'^version = "(.*)"$',
-    "apps/host/src/tb_host/__init__.py": r'^__version__ = "(.*)"$',
     "apps/telovamish/pyproject.toml": r'^version = "(.*)"$',
     "apps/telovamish/src/telovamish/__init__.py": r'^__version__ = "(.*)"$',
     "clients/java/pom.xml": r"^  <version>(.*)</version>$",

@@ -96,6 +96,8 @@ def test_programs_have_the_options_of_their_help_or_parser() -> None:
     assert "--metrics" in completion.flags(PROGRAMS["tb-listen"].options)
     assert "--json" in completion.flags(completion.own_options(PROGRAMS["tb-listen"], "status"))
     assert "--copy" in completion.flags(PROGRAMS["tb-replica"].options)
+    own = completion.own_options(PROGRAMS["tb-replica"], "trim")
+    assert {"--log", "--forget"} <= set(completion.flags(own))
     assert {it.name() for it in PROGRAMS["tb-sql"].forms} == {"ask", "check", "load", "serve"}
     run = next(it for it in PROGRAMS["telovamish"].forms if it.name() == "run")
     assert {"--file", "--connect", "--json"} <= set(completion.flags(run.options))
@@ -159,6 +161,7 @@ def test_the_bill_lists_crates_and_their_licences(tmp_path: Path) -> None:
     granted = "Permission is hereby granted, free of charge, to any person"
     (kit / "byteorder/LICENSE-MIT").write_text(granted)
     (tmp_path / "tb-listen").write_bytes(b"a listener")
+    (tmp_path / "tb-replica").write_bytes(b"a replica")
     bill.write(ROOT, kit, RECORD, tmp_path, tmp_path / "bill.json")
     rows = {it["name"]: it for it in json.loads((tmp_path / "bill.json").read_text())["packages"]}
     assert rows["crate-byteorder"]["licenseDeclared"] == "MIT"
@@ -166,7 +169,7 @@ def test_the_bill_lists_crates_and_their_licences(tmp_path: Path) -> None:
     assert rows["tbd"]["checksums"][0]["checksumValue"] == "0" * 64
     assert rows["tb-listen"]["checksums"][0]["checksumValue"][:8] == "f256cb16"
     go = [it for name, it in rows.items() if name.startswith("golang-")]
-    assert {it["licenseDeclared"] for it in go} == {"BSD-3-Clause", "MIT"}
+    assert {it["licenseDeclared"] for it in go} == {"Apache-2.0", "BSD-3-Clause", "MIT"}
 
 
 @pytest.mark.parametrize(

@@ -23,7 +23,7 @@ def sums(dist: Path) -> str:
 
 
 def wheels(dist: Path, room: Path, version: str) -> None:
-    """pip installs the four wheels into an environment, and the four sdists build."""
+    """pip installs the three wheels into an environment, and the three sdists build."""
     room.mkdir()
     run([PYTHON, "-m", "venv", "--system-site-packages", str(room / "env")])
     pip = [str(room / "env/bin/python"), "-m", "pip", "install", "--no-index", "--no-deps"]
@@ -31,11 +31,10 @@ def wheels(dist: Path, room: Path, version: str) -> None:
     for name in ("telovamish", "tb-sql"):
         said = run([str(room / "env/bin" / name), "--version"])
         check(said.strip() == f"{name} {version}", said)
-    run([str(room / "env/bin/tb-replica"), "--help"])
     unpacked = room / "sdist"
     words = [*pip, "--no-build-isolation", "--target", str(unpacked)]
     run([*words, *dist.glob("*.tar.gz")])
-    for name in ("tb_client", "tb_host", "tb_sql", "telovamish"):
+    for name in ("tb_client", "tb_sql", "telovamish"):
         check((unpacked / name / "__init__.py").exists(), f"{name} is not in its sdist")
 
 

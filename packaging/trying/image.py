@@ -99,7 +99,7 @@ def runs(path: Path, room: Path) -> str:
     """The image makes a ledger, serves it, is asked for its state, and ends with status 0."""
     it = Image(path, room)
     programs = sorted(at.name for at in it.root.rglob("bin/*"))
-    check(programs == ["tb-listen", "tbd"], f"it has {programs}")
+    check(programs == ["tb-listen", "tb-replica", "tbd"], f"it has {programs}")
     missing = it.served()
     check(missing.wait(60) == 1, "it serves without a ledger")
     made = it.ran("/usr/bin/tbd", "run", LEDGER, "64", "1")

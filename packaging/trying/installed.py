@@ -11,6 +11,7 @@ import pexpect
 from shipping import completion
 from shipping.programs import sha256
 from shipping.running import Failed, run
+from shipping.site import dead
 from shipping.table import Program
 
 from .root import Root
@@ -234,6 +235,14 @@ def versions_and_help(root: Root, programs: dict[str, Program], version: str) ->
             wrong += [] if is_right else [f"{line}: {said[:100]}"]
     check(not wrong, "not as owed: " + "; ".join(wrong))
     return f"{right} lines"
+
+
+def site(root: Root) -> str:
+    """No link of an installed page leads nowhere."""
+    folder = root.inside("/usr/share/doc/telovamish-doc/html")
+    check((folder / "index.html").is_file(), "no index.html")
+    check(not dead(folder), dead(folder))
+    return f"{len(list(folder.rglob('*.html')))} files of HTML"
 
 
 def lintian(debs: list[Path]) -> None:
