@@ -5,15 +5,15 @@ of TELOVAMISH in apps/telovamish/tests, of OPERATING over installed packages by 
 those of the clients' pages by their own tests.
 """
 
-import argparse
 import json
 import re
 import shlex
 import sqlite3
+import subprocess
 
 import pytest
 
-from ..cluster.processes import free_ports
+from ..cluster.processes import REPLICA, free_ports
 from ..conftest import ROOT
 from .clones import blocks, lines, until
 
@@ -159,31 +159,26 @@ def test_the_live_audit(books):
         assert json.loads(it.stdout.readline()) == {"profile": 1, "clients_max": 2}
 
 
-class Parsed(Exception):
-    """The words of a command were right."""
-
-
 def replica_lines():
     found = [it for block in blocks("docs/use/CLUSTER.md", "sh") for it in lines(block)]
     return [it for it in found if it.startswith("tb-replica")]
 
 
 @pytest.mark.parametrize("line", replica_lines())
-def test_the_words_of_tb_replica(line, monkeypatch, tmp_path):
-    """Each line of CLUSTER has words that the command takes."""
-    from tb_host import machines
-
-    parse = argparse.ArgumentParser.parse_args
-
-    def parsed(*given):
-        parse(*given)
-        raise Parsed
-
-    monkeypatch.setattr(argparse.ArgumentParser, "parse_args", parsed)
+def test_the_words_of_tb_replica(line):
+    """Each line of CLUSTER has words that the program takes: only what is wrong at their end is
+    refused."""
     words = shlex.split(" ".join(PLACE.get(it, it) for it in line.split()))[1:]
-    part = words[0] if words[0] in machines.PARTS else ""
-    with pytest.raises(Parsed):
-        machines.run(part, words[1:] if part else words)
+    if words[0].startswith("-"):
+        words = [*words[: words.index("--")], "--", "tbd", "run", "64"]
+        wanted = "COMMAND does not end in follow CLIENTS_MAX [PROFILE]"
+    elif "--" in words:
+        words = words[: words.index("--")]
+        wanted = "the following arguments are required: COMMAND"
+    else:
+        words, wanted = [*words, "surplus"], "unrecognized arguments: surplus"
+    ran = subprocess.run([REPLICA, *words], capture_output=True, text=True, timeout=60)
+    assert (ran.returncode, ran.stderr.splitlines()[-1]) == (2, f"tb-replica: error: {wanted}")
 
 
 def test_a_backup_of_operating(clone):

@@ -18,11 +18,11 @@ from ..conftest import ROOT
 from .clones import blocks, lines, pages
 
 APPS = {"telovamish": "apps/telovamish", "tb-sql": "apps/books"}
-APPS |= {"tb-listen": "server/out", "tb-replica": "apps/host"}
+APPS |= {"tb-listen": "server/out", "tb-replica": "server/out"}
 # Commands of the shell, the system, other languages and the kit; and what a block has made.
 OTHERS = """for done export sleep cmp mv install man editor curl rsync sh grep tail apt systemctl
     journalctl runuser cc
-    rustc javac java go npm node tsc pip mypy sqlite3 etcdctl cd rt make tbs tbd
+    rustc cargo javac java go npm node tsc pip mypy sqlite3 etcdctl cd rt make tbs tbd
     $OUT/first $OUT/first_rs $OUT/script"""
 
 

@@ -13,7 +13,7 @@ import pytest
 
 from ..conftest import ROOT
 from .clones import Clone, until
-from .test_links import pages
+from .clones import pages
 
 MOVES = re.compile(r"create_?transfers", re.I)
 BLOCK = re.compile(r"^```(\w+)\n(.*?)^```$", re.M | re.S)

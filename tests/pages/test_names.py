@@ -37,12 +37,13 @@ ABSENT = re.compile(r"/out(?:/|$)|^crates/NAME")
 FILE = re.compile(r"`([\w./-]+\.(?:antt|rt|py|rs|h|md|txt))`")
 OPTION = re.compile(r"(?<![\w-])--[a-z][a-z-]*")
 STRING = re.compile(r'"(--[a-z][a-z-]*)"')
-NAMED = re.compile(r'\bname: "([a-z][a-z-]*)"')
+NAMED = re.compile(r'\b[nN]ame: "([a-z][a-z-]*)"')
 # The files that have the options of the programs that users start.
 OPTIONS = (
     "crates/*/src/help.rt",
     "server/internal/config/config.go",
-    "apps/host/src/tb_host/*.py",
+    "server/internal/manage/arguments.go",
+    "server/internal/replicated/options.go",
     "apps/telovamish/src/telovamish/*.py",
     "apps/books/src/tb_sql/commands.py",
 )
