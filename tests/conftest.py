@@ -9,7 +9,7 @@ import sys
 import pytest
 
 ROOT = pathlib.Path(__file__).resolve().parent.parent
-for folder in ("tools", "tools/testing", "clients/python/src", "apps/host/src"):
+for folder in ("tools", "tools/testing", "clients/python/src"):
     sys.path.append(str(ROOT / folder))
 
 pytest_plugins = ["marks"]
@@ -72,5 +72,4 @@ def pytest_addoption(parser):
     parser.addoption("--seconds", type=int, default=10, help="of each load (rates)")
     parser.addoption("--requests", type=int, default=100_000, help="before a start over them")
     parser.addoption("--every", type=int, default=1, help="refuse the first call, each N-th")
-    parser.addoption("--seeds", type=int, default=10_000, help="how many the simulator runs")
-    parser.addoption("--first-seed", type=int, default=0, help="the first of them")
+    parser.addoption("--soak", type=int, default=1800, help="seconds of a load (soak)")

@@ -3,6 +3,7 @@ PATH, or server/out/tb-listen, in front of tbd."""
 
 import contextlib
 import os
+import resource
 import signal
 import tempfile
 from collections.abc import Callable, Iterator
@@ -28,6 +29,15 @@ def programs(program: Callable[[str], Path]) -> None:
 def interrupts() -> None:
     """A shell's background ignores SIGINT, and programs would inherit that."""
     signal.signal(signal.SIGINT, signal.default_int_handler)
+
+
+@pytest.fixture
+def many_files() -> Iterator[None]:
+    """This process and those that it starts may open enough files."""
+    before = resource.getrlimit(resource.RLIMIT_NOFILE)
+    resource.setrlimit(resource.RLIMIT_NOFILE, (before[1], before[1]))
+    yield
+    resource.setrlimit(resource.RLIMIT_NOFILE, before)
 
 
 @pytest.fixture

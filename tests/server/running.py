@@ -33,6 +33,7 @@ NOTES = (
     "tb_listen: tbd: cut ",
     "tb_listen: has stopped: ",
 )
+MIB = 1 << 20
 SECONDS = 20  # that a start, an end or a line may take
 Address = Union[str, tuple[str, int]]
 
@@ -49,6 +50,14 @@ def children(process: int) -> list[int]:
 def state_of(process: int) -> str:
     """The letter that the system has for a process's state."""
     return Path(f"/proc/{process}/stat").read_text().rpartition(")")[2].split()[0]
+
+
+def resident(process: subprocess.Popen[str], name: str = "VmRSS") -> int:
+    """Bytes of memory that a process has now, or (VmHWM) had at most."""
+    text = Path(f"/proc/{process.pid}/status").read_text()
+    found = re.search(rf"^{name}:\s+(\d+) kB$", text, re.M)
+    assert found
+    return int(found[1]) << 10
 
 
 def is_gone(process: int) -> bool:

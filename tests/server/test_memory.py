@@ -2,33 +2,15 @@
 
 import contextlib
 import os
-import re
-import resource
 import select
 import signal
 import time
-from pathlib import Path
 
-import pytest
+from .running import MIB, resident
 from .wire import answer, header, register
 
-KIB, MIB = 1 << 10, 1 << 20
+KIB = 1 << 10
 MANY = 1000
-
-
-def resident(process, name="VmRSS"):
-    """Bytes of memory that a process has now, or (VmHWM) had at most."""
-    text = Path(f"/proc/{process.pid}/status").read_text()
-    return int(re.search(rf"^{name}:\s+(\d+) kB$", text, re.M)[1]) * KIB
-
-
-@pytest.fixture
-def many_files():
-    """This process and those that it starts may open enough files."""
-    before = resource.getrlimit(resource.RLIMIT_NOFILE)
-    resource.setrlimit(resource.RLIMIT_NOFILE, (before[1], before[1]))
-    yield
-    resource.setrlimit(resource.RLIMIT_NOFILE, before)
 
 
 def test_idle_connections(start, many_files):

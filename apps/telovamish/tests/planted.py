@@ -110,7 +110,7 @@ def copied(folder: str) -> pathlib.Path:
     """The command and its tests in a folder as deep as theirs, so that they find the client."""
     app = pathlib.Path(folder) / "apps" / APP.name
     shutil.copytree(APP, app, ignore=shutil.ignore_patterns("__pycache__", ".*"))
-    for name in ("clients", "examples", "crates", "docs", "tools", "apps/books", "apps/host"):
+    for name in ("clients", "examples", "crates", "docs", "tools", "apps/books"):
         (pathlib.Path(folder) / name).symlink_to(APP.parents[1] / name)
     return app
 
