@@ -3,10 +3,10 @@
 
 Installs the Debian packages of tools/packages.txt that are missing (as root; another user gets
 their names and a failure), runs `rt ci`, and builds the programs of server/. Over these come
-formats, types, the tests of tests/, telovamish, books and the host, and those of server/ and of the
-four clients. After the proofs two lanes of parts run next to each other; what a part prints goes
-out when it has ended. Tests that failed there are run once more, alone, and named if they then
-pass. A test that is skipped has failed.
+formats, types, the tests of tests/, telovamish, books and the host, and those of server/ and of
+five clients; tb_embed's library is built for that in C. After the proofs two lanes of parts run
+next to each other; what a part prints goes out when it has ended. Tests that failed there are run
+once more, alone, and named if they then pass. A test that is skipped has failed.
 
 At the end it says which tests it left out: those marked slow, which `make slow` runs. The last line
 is 'N passed, M failed' over all parts; a part that cannot be run counts as one failure.
@@ -39,14 +39,16 @@ def tests(name: str, folder: str, *words: str) -> Part:
     return Part(name, folder, [*PYTEST, "not slow", *words], pytest_counts)
 
 
-CLIENTS = ["python", "go", "java", "node"]
+CLIENTS = ["python", "go", "java", "node", "c"]
 DRAWN = "200"  # schedules for each client
 CALLERS = ["conformance_runner.py", "examples/program.py", "examples/sockets.py"]
 CALLERS += ["../embed/python/tb_embed.py", "../embed/python/tb_caller.py"]
-TYPES = ["env", "MYPYPATH=src:../../apps/host/src", "mypy", "--follow-imports=silent", *CALLERS]
+TYPES = ["env", "MYPYPATH=src", "mypy", "--follow-imports=silent", *CALLERS]
 FORMATS, LANGUAGES = [PYTHON, "tools/formats.py"], ["C", "Java", "JavaScript", "Rust"]
-PACKAGES = ["clients/python", "apps/telovamish", "apps/host", "apps/books"]
+PACKAGES = ["clients/python", "apps/telovamish", "apps/books"]
 GO = "server/cmd server/internal bench/listener"
+SIMULATOR = ["env", "PACKAGES=telovamish.org/server/internal/simulator", "./build", "test", "-v"]
+PLANTED = ["-tags", "planted", "-run", "ChosenSeeds"]
 PARTS = [
     Part("proofs", ".", ["rt", "ci"], closing_line),
     Part("programs of server", "server", ["./build"], by_status),
@@ -61,7 +63,6 @@ PARTS = [
     tests("packages", ".", "-n", "2", "packaging/tests"),
     tests("telovamish", "apps/telovamish", "-n", "2", "tests"),
     Part("books", ".", [PYTHON, "tools/covered.py", "apps/books", "-n", "2"], closing_line),
-    tests("host", "apps/host", "-n", "3", "tests"),
     tests("client in Python", "clients/python", "-n", "2", "tests"),
     tests("embedded in Python", "clients/embed/python"),
     tests("conformance kit", "clients/conformance", "-n", "2"),
@@ -72,9 +73,13 @@ PARTS = [
     Part("vet of server", "server", ["./build", "vet"], by_status),
     Part("vet of the load", "bench/listener", ["go", "vet", "."], by_status),
     Part("server", "server", ["./build", "test", "-race", "-v"], go_counts),
+    Part("seeds of the simulator", "server", [*SIMULATOR, "-run", "TestSeeds"], go_counts),
+    Part("its planted bugs", "server", [*SIMULATOR, *PLANTED], go_counts),
     Part("fuzzing of Go", "clients/go", ["./fuzz.sh"], closing_line),
     Part("Java", "clients/java", ["./build.sh", "test"], java_counts),
     Part("Node", "clients/node", ["node", "--test"], node_counts),
+    Part("library of tb_embed", "packaging", ["./library"], by_status),
+    Part("C", "clients/c", ["make", "-s", "-j2", "test"], closing_line),
     *(kit(it) for it in CLIENTS),
 ]
 
