@@ -173,6 +173,7 @@ def write(tree: Path, epoch: int, site: Path) -> str:
         count = len(Staged(tree, staged).pages)
         api(tree, staged, room)
         shutil.copyfile(tree / "packaging/site/mkdocs.yml", room / "mkdocs.yml")
+        shutil.copyfile(tree / "packaging/site/site.css", staged / "site.css")
         words = ["mkdocs", "build", "--strict", "--config-file", f"{room}/mkdocs.yml"]
         run([*words, "--site-dir", site], env={"SOURCE_DATE_EPOCH": str(epoch)})
     if wrong := dead(site):
