@@ -26,6 +26,7 @@ var planted = map[string]struct {
 	"a place is never freed":                                  {replica.KeepsAPlace, 0, "things of requests"},
 	"an entry that is there twice is taken twice":             {replica.TakesTwice, 35, "takes what the log does not have"},
 	"a request is told done before the log has it":            {replica.AnswersBeforeTheLog, 1, "takes what the log does not have"},
+	"what is answered before the log has it breaks the order": {replica.AnswersBeforeTheLog, 35, "had returned"},
 	"an entry that a disk has changed is taken":               {replica.TakesAChangedEntry, 10, "takes what the log does not have"},
 	"what waits stays when a replica ends":                    {replica.ForgetsAtTheEnd, 49, "got no answer"},
 	"a replica alone goes by its own clock":                   {replica.GoesByItsOwnClock, 70, "a moment that is far ahead"},

@@ -170,7 +170,10 @@ func (w *world) run() {
 		w.probe()
 		w.until(w.now + quiet)
 	}
-	if len(w.wrong) == 0 && !w.isLostEverywhere() {
+	switch {
+	case len(w.wrong) > 0:
+		w.judgeOrder() // of what clients saw until then
+	case !w.isLostEverywhere():
 		w.finish()
 	}
 }
@@ -210,7 +213,10 @@ func (w *world) checkTaken(m *machine, it *replica.Keep) {
 		if ok && log == m.core.State().Log {
 			return
 		}
-		w.see(ok && w.engine.isLost(w.places[it.Position]), "%s takes what the log does not have at position %d", m.name, it.Position)
+		if !ok || !w.engine.isLost(w.places[it.Position]) {
+			w.see(false, "%s takes what the log does not have at position %d", m.name, it.Position)
+			return
+		}
 		m.tell("%s has another log from position %d on", m.name, it.Position)
 		m.differs = it.Position
 		return
