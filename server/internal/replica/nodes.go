@@ -12,8 +12,9 @@ import (
 )
 
 const (
-	latest    = 30 * second // after which a node that does not answer is waited for no longer
-	nodePause = second / 5  // before the nodes that did not answer are asked again
+	latest    = 30 * second  // after which a node that does not answer is waited for no longer, if it may be missing
+	longest   = 120 * second // after which one is waited for no longer that would decide
+	nodePause = second / 5   // before the nodes that did not answer are asked again
 )
 
 // nodes reads the engine's nodes one by one, when what was read does not fit. An entry that is not what
@@ -52,7 +53,7 @@ type survey struct {
 	mine      entries.Hash
 	isAll     bool     // each node is waited for, for a while; otherwise most of them, of one log
 	isWaiting bool     // for where the log begins
-	isSaid    bool     // that most nodes do not answer
+	isSaid    bool     // which nodes are waited for
 	isOther   bool     // more nodes have another log, if it was not trimmed meanwhile
 	left      []string // nodes that did not answer yet
 	at        int      // the one of them that is asked now
@@ -305,7 +306,7 @@ func (n *nodes) surveyOn() {
 		n.askNode(it.left[it.at], it.base.place)
 	case missing > 0 && (!it.isDecided(len(n.settings.Nodes)) || it.isAll && n.now.Running <= it.until):
 		it.again = n.now.Running + nodePause
-		n.sayWaiting(it)
+		n.stillWaits(it)
 	default:
 		n.judge(it)
 	}
@@ -321,11 +322,16 @@ func (s *survey) isDecided(nodes int) bool {
 	return false
 }
 
-// sayWaiting says once that too few nodes answer: one alone, or one of two, may be the wrong one.
-func (n *nodes) sayWaiting(it *survey) {
-	if n.now.Running > it.until && !it.isSaid {
+// stillWaits says once which nodes are waited for, and ends the replica if they do not answer for long: one
+// node alone, or one of two, may be the wrong one, and a replica that waits serves nobody.
+func (n *nodes) stillWaits(it *survey) {
+	left := strings.Join(it.left, ", ")
+	if n.now.Running > it.until+longest-latest {
+		n.fail(faults.NoLog, "%s did not answer in %d s, and without most nodes nothing shows which log is right up "+
+			"to position %d: start what does not answer, or take a peer's copy", left, longest/second, it.position)
+	} else if n.now.Running > it.until && !it.isSaid {
 		it.isSaid = true
-		n.say(report.Warning, "waits for most nodes of the engine, to compare the log up to position %d", it.position)
+		n.say(report.Warning, "waits for %s, to compare the log of most nodes up to position %d", left, it.position)
 	}
 }
 

@@ -164,32 +164,53 @@ func TestWhereTheLogBeginsIsAskedUntilItIsKnown(t *testing.T) {
 	r.ends(28, "Rotten: B, C have another log")
 }
 
+// waitsFor has the nodes asked for some seconds, or until the replica ends. It returns what was said.
+func (r *rig) waitsFor(seconds int, nodes map[string]logOf) (said string) {
+	r.Helper()
+	for ; seconds > 0 && !r.core.IsOver(); seconds-- {
+		r.wait(time.Second)
+		r.nodesAnswer(TrimmedRead{}, nodes)
+		for _, it := range r.done {
+			if say, ok := it.(*Say); ok {
+				said += say.Text
+			}
+		}
+	}
+	return said
+}
+
 func TestMostNodesAreWaitedFor(t *testing.T) {
-	for name, late := range map[string][]string{"one answers": {"B", "C"}, "one of two is wrong": {"C"}} {
+	for name, row := range map[string]struct {
+		late    []string
+		returns bool
+	}{
+		"one answers":                      {[]string{"B", "C"}, true},
+		"one of two is wrong":              {[]string{"C"}, true},
+		"one answers, and stays alone":     {[]string{"B", "C"}, false},
+		"one of two is wrong, and it ends": {[]string{"C"}, false},
+	} {
 		t.Run(name, func(t *testing.T) {
 			r, whole := doubted(t)
 			nodes := map[string]logOf{"A": whole.without(5), "B": whole, "C": whole}
-			for _, it := range late {
+			for _, it := range row.late {
 				nodes[it] = nil
 			}
 			r.nodesAnswer(TrimmedRead{}, nodes)
-			said := ""
-			for seconds := 0; seconds < 60; seconds++ {
-				r.wait(time.Second)
-				r.nodesAnswer(TrimmedRead{}, nodes)
-				for _, it := range r.done {
-					if say, ok := it.(*Say); ok {
-						said += say.Text
-					}
-				}
+			said := r.waitsFor(119, nodes)
+			left := strings.Join(row.late, ", ")
+			want := "waits for " + left + ", to compare the log of most nodes up to position 3"
+			if r.core.IsOver() || r.core.State().Position != 3 || said != want {
+				t.Fatalf("%d entries are taken: %q", r.core.State().Position, said)
 			}
-			if r.core.State().Position != 3 || strings.Count(said, "waits for most nodes") != 1 {
-				t.Errorf("%d entries are taken: %q", r.core.State().Position, said)
+			if row.returns {
+				nodes["B"], nodes["C"] = whole, whole
+				r.waitsFor(1, nodes)
+				r.ends(28, "Rotten: B, C have another log")
+				return
 			}
-			r.wait(time.Second)
-			nodes["B"], nodes["C"] = whole, whole
-			r.nodesAnswer(TrimmedRead{}, nodes)
-			r.ends(28, "Rotten: B, C have another log")
+			r.waitsFor(2, nodes)
+			r.ends(20, "NoLog: "+left+" did not answer in 120 s, and without most nodes nothing shows which log is right "+
+				"up to position 3: start what does not answer, or take a peer's copy")
 		})
 	}
 }
