@@ -160,6 +160,132 @@ func TestServers(t *testing.T) {
 	}
 }
 
+// TestPasswords has a primary that speaks only TLS, and asks for a certificate and a password.
+func TestPasswords(t *testing.T) {
+	c := start(t)
+	files, other := t.TempDir(), t.TempDir()
+	sign(t, files)
+	sign(t, other)
+	c.close(t, files)
+	right := agreed.Access{User: "bank", PasswordFile: files + "/password", Authority: files + "/ca.crt",
+		Certificate: files + "/it.crt", Key: files + "/it.key", Standbys: 1}
+	open := func(t *testing.T, access agreed.Access) *Log {
+		agreedtest.NoLeak(t)
+		its, err := New(c.addresses, "postgres/bank", access, report.New("test", false))
+		if err != nil {
+			t.Fatal(err)
+		}
+		t.Cleanup(func() { its.Close() })
+		return its
+	}
+	t.Run("all that is asked for", func(t *testing.T) { appends(t, open(t, right)) })
+	for _, row := range refusals(files, other) {
+		t.Run(row.name, func(t *testing.T) {
+			access := right
+			row.change(&access)
+			_, err := connect(within(t), c.addresses[0], "postgres", &access, open(t, access).tls, true)
+			if err == nil || !strings.Contains(err.Error(), row.why) {
+				t.Errorf("got %v", err)
+			}
+		})
+	}
+}
+
+// refusal is what is wrong with a user's access, and why it is refused.
+type refusal struct {
+	name   string
+	change func(*agreed.Access)
+	why    string
+}
+
+func refusals(files, other string) []refusal {
+	none := "connection requires a valid client certificate"
+	return []refusal{
+		{"no files of TLS", func(a *agreed.Access) { a.Authority, a.Certificate, a.Key = "", "", "" }, none},
+		{"no certificate", func(a *agreed.Access) { a.Certificate, a.Key = "", "" }, none},
+		{"a certificate that another authority signed", func(a *agreed.Access) {
+			a.Certificate, a.Key = other+"/it.crt", other+"/it.key"
+		}, "tls: unknown certificate authority"},
+		{"a server that another authority signed", func(a *agreed.Access) { a.Authority = other + "/ca.crt" },
+			"certificate signed by unknown authority"},
+		{"a wrong password", func(a *agreed.Access) { a.PasswordFile = files + "/names" },
+			`password authentication failed for user "bank"`},
+		{"no password", func(a *agreed.Access) { a.PasswordFile = "" }, "password authentication failed"},
+		{"another user", func(a *agreed.Access) { a.User = "postgres" }, "no pg_hba.conf entry for host"},
+	}
+}
+
+// appends appends an entry, and reads it.
+func appends(t *testing.T, log *Log) {
+	t.Helper()
+	ctx := within(t)
+	headed(ctx, t, log)
+	if _, err := log.Append(ctx, []byte("w"), 1, []byte("TBENTRY2")); err != nil {
+		t.Fatal(err)
+	}
+	enough := errors.New("enough")
+	if err := log.Read(ctx, 0, func(agreed.Item) error { return enough }); err != enough {
+		t.Error(err)
+	}
+}
+
+// sign makes an authority, and what it signed for the loopback interface.
+func sign(t *testing.T, folder string) {
+	t.Helper()
+	for name, text := range map[string]string{"names": "subjectAltName=IP:127.0.0.1\n", "password": "it's \\ secret\n"} {
+		if err := os.WriteFile(filepath.Join(folder, name), []byte(text), 0o600); err != nil {
+			t.Fatal(err)
+		}
+	}
+	key := "-newkey ec -pkeyopt ec_paramgen_curve:prime256v1 -nodes "
+	for _, words := range []string{
+		"req -x509 " + key + "-keyout ca.key -out ca.crt -subj /CN=authority",
+		"req " + key + "-keyout it.key -out it.csr -subj /CN=it",
+		"x509 -req -in it.csr -CA ca.crt -CAkey ca.key -CAcreateserial -out it.crt -extfile names",
+	} {
+		it := exec.Command("openssl", strings.Fields(words)...)
+		it.Dir = folder
+		if said, err := it.CombinedOutput(); err != nil {
+			t.Fatalf("openssl %s: %v: %s", words, err, said)
+		}
+	}
+}
+
+// close has the primary take only the standby and the user bank, who needs TLS, a certificate and a password.
+func (c *cluster) close(t *testing.T, files string) {
+	t.Helper()
+	for from, to := range map[string]string{"ca.crt": "ca.crt", "it.crt": "server.crt", "it.key": "server.key"} {
+		data, err := os.ReadFile(filepath.Join(files, from))
+		if err != nil {
+			t.Fatal(err)
+		}
+		c.write(t, to, data)
+	}
+	c.asks(t, `SET synchronous_commit = local; CREATE USER bank PASSWORD E'it''s \\ secret'; GRANT pg_monitor TO bank;
+GRANT CREATE ON SCHEMA public TO bank`)
+	for _, it := range []string{"ssl_ca_file = 'ca.crt'", "ssl = on"} {
+		c.asks(t, "ALTER SYSTEM SET "+it)
+	}
+	c.write(t, "pg_hba.conf", []byte(`host replication postgres 127.0.0.1/32 trust
+hostssl all bank 127.0.0.1/32 scram-sha-256 clientcert=verify-ca
+`))
+	c.asks(t, "SELECT pg_reload_conf()")
+}
+
+// write writes a file of the primary.
+func (c *cluster) write(t *testing.T, name string, data []byte) {
+	t.Helper()
+	path := filepath.Join(c.folder, "primary", name)
+	if err := os.WriteFile(path, data, 0o600); err != nil {
+		t.Fatal(err)
+	}
+	if c.owner != nil {
+		if err := os.Chown(path, int(c.owner.Uid), int(c.owner.Gid)); err != nil {
+			t.Fatal(err)
+		}
+	}
+}
+
 func within(t *testing.T) context.Context {
 	ctx, end := context.WithTimeout(context.Background(), 2*agreedtest.Wait)
 	t.Cleanup(end)
