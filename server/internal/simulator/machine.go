@@ -342,7 +342,10 @@ func (m *machine) reach() (pause int64, ok bool) {
 	return m.most(toReach), true
 }
 
-var noLog = replica.Failure{Kind: replica.FailedNoLog, Text: "no node answers in time"}
+var (
+	noLog = replica.Failure{Kind: replica.FailedNoLog, Text: "no node answers in time"}
+	full  = replica.Failure{Kind: replica.FailedFull, Text: "the quota is reached"}
+)
 
 // ask asks the engine something that changes nothing.
 func (m *machine) ask(action replica.Action) {
@@ -357,7 +360,9 @@ func (m *machine) replyTo(action replica.Action, ok bool) replica.Event {
 		if !ok {
 			return &replica.StartRead{Failed: noLog}
 		}
-		if e.head == nil {
+		if e.head == nil && e.isFull() {
+			return &replica.StartRead{Failed: full}
+		} else if e.head == nil {
 			e.head = it.Head
 		}
 		return &replica.StartRead{Head: e.head, KeptHead: m.head, Folder: m.name, Last: e.last,
@@ -375,11 +380,11 @@ func (m *machine) replyTo(action replica.Action, ok bool) replica.Event {
 	case *replica.ReadClock:
 		return &replica.ClockRead{Clock: began + m.now, IsKnown: ok && e.kind == postgresql}
 	}
-	full := &replica.FullRead{}
+	read := &replica.FullRead{}
 	if e.isFull() {
-		full.Text = "its quota is reached"
+		read.Text = full.Text
 	}
-	return full
+	return read
 }
 
 // append has the engine append an entry. Whether it does may stay unknown.
@@ -393,7 +398,7 @@ func (m *machine) append(it *replica.Append, isLost bool) {
 		case !ok:
 			m.step(lost)
 		case e.isFull():
-			lost.Why = replica.Failure{Kind: replica.FailedFull, Text: "the quota is reached"}
+			lost.Why = full
 			m.step(lost)
 		case e.elects() || !m.isQuiet && m.happens(appendIsLate):
 			if m.drawn.Intn(2) == 0 {
