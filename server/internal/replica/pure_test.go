@@ -18,6 +18,8 @@ var pure = map[string]bool{
 	"telovamish.org/server/internal/report": true,
 }
 
+var readsClock = map[string]bool{"Wall": true, "Running": true} // of moments
+
 var ofTime = map[string]bool{"Duration": true, "Second": true, "Millisecond": true, "Nanosecond": true}
 
 // TestTheCoreIsAStateMachine finds no clock, goroutine, channel or lock in it.
@@ -39,8 +41,10 @@ func TestTheCoreIsAStateMachine(t *testing.T) {
 			case *ast.GoStmt, *ast.ChanType, *ast.SelectStmt:
 				what = "has a goroutine or a channel"
 			case *ast.SelectorExpr:
-				if of, ok := node.X.(*ast.Ident); ok && of.Name == "time" && !ofTime[node.Sel.Name] {
-					what = "uses time." + node.Sel.Name
+				of, ok := node.X.(*ast.Ident)
+				isClock := ok && (of.Name == "time" && !ofTime[node.Sel.Name] || of.Name == "moments" && readsClock[node.Sel.Name])
+				if isClock {
+					what = "uses " + of.Name + "." + node.Sel.Name
 				}
 			}
 			if what != "" {
