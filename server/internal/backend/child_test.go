@@ -98,7 +98,7 @@ func (l lines) want(t *testing.T, want string) {
 		if !strings.Contains(got, want) {
 			t.Errorf("%q, not %q", got, want)
 		}
-	case <-time.After(10 * time.Second):
+	case <-time.After(limit):
 		t.Fatalf("no line with %q", want)
 	}
 }
@@ -126,7 +126,7 @@ func TestAServerThatIsStartedAgain(t *testing.T) {
 	}
 	text, err := os.ReadFile(file + ".words")
 	want := "run " + file + " 64 --progress\nrun " + file + " 64 --progress --existing\n"
-	if err != nil || string(text) != want {
+	if err != nil || !strings.HasPrefix(string(text), want) { // and a third, if the test was slow
 		t.Errorf("%q, %v", text, err)
 	}
 }
@@ -195,7 +195,7 @@ func TestWhatItStarted(t *testing.T) {
 		t.Fatal(err)
 	}
 	pid := strings.TrimSpace(string(text))
-	for until := time.Now().Add(10 * time.Second); ; time.Sleep(10 * time.Millisecond) {
+	for until := time.Now().Add(limit); ; time.Sleep(10 * time.Millisecond) {
 		stat, err := os.ReadFile("/proc/" + pid + "/stat")
 		if err != nil || strings.Contains(string(stat), ") Z ") {
 			return
@@ -304,11 +304,10 @@ os.write(1, b'a' * 3); os.read(0, 1)`
 
 func (c *commits) untilAsleep(t *testing.T, p *process.Process) {
 	t.Helper()
-	for i := 0; !isAsleep(p.Pid()); i++ {
-		if i > 5000 {
+	for until := time.Now().Add(limit); !isAsleep(p.Pid()); time.Sleep(time.Millisecond) {
+		if time.Now().After(until) {
 			t.Fatal("it does not wait")
 		}
-		time.Sleep(time.Millisecond)
 	}
 }
 

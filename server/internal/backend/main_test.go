@@ -5,7 +5,10 @@ import (
 	"os/signal"
 	"syscall"
 	"testing"
+	"time"
 )
+
+const limit = 2 * time.Minute // that something may take on a busy machine
 
 func TestMain(m *testing.M) {
 	signal.Ignore(syscall.SIGPIPE, syscall.SIGXFSZ) // as a host does

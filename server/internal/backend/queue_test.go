@@ -121,7 +121,7 @@ func got(t *testing.T, from chan string) string {
 	select {
 	case it := <-from:
 		return it
-	case <-time.After(10 * time.Second):
+	case <-time.After(limit):
 		t.Fatal("no answer")
 		return ""
 	}

@@ -23,6 +23,21 @@ import (
 	"telovamish.org/server/internal/report"
 )
 
+const (
+	limit = 2 * time.Minute        // that something may take on a busy machine
+	brief = 200 * time.Millisecond // that a test waits for a limit to pass
+)
+
+// until waits for what holds soon.
+func until(t testing.TB, what string, holds func() bool) {
+	t.Helper()
+	for end := time.Now().Add(limit); !holds(); time.Sleep(time.Millisecond) {
+		if time.Now().After(end) {
+			t.Fatal("not in time: ", what)
+		}
+	}
+}
+
 // fake is a backend whose requests a test sees, and answers.
 type fake struct {
 	asked chan *backend.Request
@@ -129,7 +144,7 @@ func call(t testing.TB, path string) net.Conn {
 	if err != nil {
 		t.Fatal(err)
 	}
-	it.SetDeadline(time.Now().Add(20 * time.Second))
+	it.SetDeadline(time.Now().Add(limit))
 	t.Cleanup(func() { it.Close() })
 	return it
 }
@@ -194,17 +209,18 @@ func TestWhatAClosedConnectionGets(t *testing.T) {
 		name, want string
 		sends      []byte
 		ends       bool
+		idle, slow time.Duration
 	}{
-		{"a fault", "tb_listen: Reserved\n", wrong, false},
-		{"no end of a header", "tb_listen: Short\n", request(1, 0)[:47], true},
-		{"no end of a body", "tb_listen: Short\n", request(1, 16)[:63], true},
-		{"no end of a long body", "tb_listen: Short\n", request(1, 16000)[:9000], true},
-		{"nothing", "", nil, true},
-		{"a header that takes too long", "tb_listen: Idle\n", request(1, 0)[:1], false},
-		{"a body that takes too long", "tb_listen: Slow\n", request(1, 16)[:63], false},
-		{"a long body that takes too long", "tb_listen: Slow\n", request(1, 16000)[:9000], false},
+		{"a fault", "tb_listen: Reserved\n", wrong, false, limit, limit},
+		{"no end of a header", "tb_listen: Short\n", request(1, 0)[:47], true, limit, limit},
+		{"no end of a body", "tb_listen: Short\n", request(1, 16)[:63], true, limit, limit},
+		{"no end of a long body", "tb_listen: Short\n", request(1, 16000)[:9000], true, limit, limit},
+		{"nothing", "", nil, true, limit, limit},
+		{"a header that takes too long", "tb_listen: Idle\n", request(1, 0)[:1], false, brief, limit},
+		{"a body that takes too long", "tb_listen: Slow\n", request(1, 16)[:63], false, limit, brief},
+		{"a long body that takes too long", "tb_listen: Slow\n", request(1, 16000)[:9000], false, limit, brief},
 	} {
-		_, path := listening(t, newFake(), func(c *config.Config) { c.Idle, c.Slow = 200*time.Millisecond, 200*time.Millisecond })
+		_, path := listening(t, newFake(), func(c *config.Config) { c.Idle, c.Slow = row.idle, row.slow })
 		it := call(t, path)
 		send(t, it, row.sends)
 		if row.ends {
@@ -302,29 +318,29 @@ func TestAReplyThatIsReadSlowly(t *testing.T) {
 // TestWhoDoesNotRead is closed amid the reply, without a line.
 func TestWhoDoesNotRead(t *testing.T) {
 	of := newFake()
-	l, path := listening(t, of, func(c *config.Config) { c.Slow = 200 * time.Millisecond })
+	l, path := listening(t, of, func(c *config.Config) { c.Slow = 5 * brief })
 	it := call(t, path)
 	send(t, it, request(1, 8190*16))
 	long := make([]byte, frames.RequestMax)
 	copy(long, replyTo(<-of.whole))
 	(<-of.asked).From.Answered(long, "")
-	time.Sleep(500 * time.Millisecond)
+	want := []counts.Named{{Name: "Slow", Count: 1}}
+	until(t, "it is closed", func() bool { return reflect.DeepEqual(l.counts.ClosedByFault(), want) })
 	if got := rest(t, it); len(got) >= len(long) || bytes.Contains([]byte(got), []byte("tb_listen")) {
 		t.Errorf("%d bytes", len(got))
-	}
-	if want := []counts.Named{{Name: "Slow", Count: 1}}; !reflect.DeepEqual(l.counts.ClosedByFault(), want) {
-		t.Error(l.counts.ClosedByFault())
 	}
 }
 
 // TestMemoryIsShared has long requests wait for memory, and one that stalls make room.
 func TestMemoryIsShared(t *testing.T) {
 	one := int64(len(request(1, 8190*16)) + frames.RequestMax)
-	_, path := listening(t, echoing{newFake()}, func(c *config.Config) { c.Memory = one })
-	stalls := call(t, path)
+	l, path := listening(t, echoing{newFake()}, func(c *config.Config) { c.Memory = one })
+	stalls, began := call(t, path), time.Now()
 	send(t, stalls, request(1, 8190*16)[:100_000])
-	time.Sleep(100 * time.Millisecond)
-	it, began := call(t, path), time.Now()
+	until(t, "it has the memory", func() bool {
+		return l.some(func(c *conn) bool { return c.holds.Load() != 0 }) != nil
+	})
+	it := call(t, path)
 	send(t, it, request(1, 8190*16))
 	if _, err := io.ReadFull(it, make([]byte, frames.HeaderSize)); err != nil {
 		t.Fatal(err)
@@ -354,19 +370,17 @@ func TestAPlaceIsFree(t *testing.T) {
 	}
 	gone.Close()
 	r.From.Answered(replyTo(<-of.whole), "")
-	for until := time.Now().Add(10 * time.Second); ; time.Sleep(10 * time.Millisecond) {
+	until(t, "a place is free", func() bool {
 		it := call(t, path)
 		it.Write(request(1, 0))
 		select {
 		case r := <-of.asked:
 			r.From.Answered(replyTo(<-of.whole), "")
-			return
-		case <-time.After(100 * time.Millisecond):
+			return true
+		case <-time.After(brief):
+			return false
 		}
-		if time.Now().After(until) {
-			t.Fatal("no place is free")
-		}
-	}
+	})
 }
 
 // FuzzStream sends any bytes in any pieces: what is asked for is what a reader by the rules would cut out.
@@ -473,9 +487,5 @@ func TestAFaultOfThisProgram(t *testing.T) {
 			t.Error(got)
 		}
 	}
-	for until := time.Now().Add(10 * time.Second); l.counts.Connections.Load() > 0; time.Sleep(time.Millisecond) {
-		if time.Now().After(until) {
-			t.Fatal("a place is not free")
-		}
-	}
+	until(t, "the places are free", func() bool { return l.counts.Connections.Load() == 0 })
 }

@@ -95,7 +95,7 @@ func TestManyReaders(t *testing.T) {
 		held = append(held, it)
 	}
 	for _, it := range held[readers:] {
-		it.SetReadDeadline(time.Now().Add(5 * time.Second))
+		it.SetReadDeadline(time.Now().Add(2 * time.Minute))
 		if _, err := it.Read(make([]byte, 1)); err != io.EOF {
 			t.Error(err)
 		}
@@ -109,7 +109,7 @@ func TestManyReaders(t *testing.T) {
 			page.Body.Close()
 			return
 		}
-		if i > 100 {
+		if i > 5000 {
 			t.Fatal(err)
 		}
 		time.Sleep(20 * time.Millisecond)
