@@ -3,6 +3,7 @@
 const assert = require("node:assert/strict");
 const { execFileSync, spawn, spawnSync } = require("node:child_process");
 const dns = require("node:dns");
+const { once } = require("node:events");
 const {
   mkdtempSync,
   promises: fs,
@@ -20,6 +21,7 @@ const { after, test } = require("node:test");
 const tls = require("node:tls");
 
 const tb = require("../index.js");
+const { SECONDS } = require("../helpers/keepers.js");
 
 const folder = mkdtempSync(path.join(tmpdir(), "tb-client-"));
 const servers = [];
@@ -239,7 +241,9 @@ test("of several addresses the one is named whose fault is told", async () => {
   }
 });
 
-test("a server that was starting, and is silent then: its word is told", async () => {
+test("a server that was starting, and is silent then: its word is told", async (t) => {
+  const now = performance.now.bind(performance);
+  t.mock.method(performance, "now", () => now() / 20); // time to connect twice, on a busy machine
   let count = 0;
   const place = await listening("begins.sock", (it) => {
     count += 1;
@@ -282,16 +286,17 @@ test("a path that is too long for a socket is not cut to that of another one", a
 });
 
 test("a flood while nothing is asked ends the connection: the next call makes one", async () => {
-  let count = 0;
+  const came = [];
   const place = await listening("flood.sock", (it) => {
-    count += 1;
+    came.push(it);
     answers(it);
-    if (count === 1) it.on("data", () => setTimeout(() => it.write(Buffer.alloc(1 << 16)), 5));
   });
   const session = await tb.Session.register(new tb.Socket(place), { attempts: 1 });
-  await new Promise((resolve) => setTimeout(resolve, 40));
+  const closed = once(came[0], "close", { signal: AbortSignal.timeout(1000 * SECONDS) });
+  came[0].write(Buffer.alloc(1 << 16));
+  await closed;
   assert.deepEqual(await session.lookupAccounts([1n]), []);
-  assert.equal(count, 2);
+  assert.equal(came.length, 2);
   session.close();
 });
 
