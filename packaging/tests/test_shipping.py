@@ -198,6 +198,43 @@ def test_the_library_is_built_over_what_ci_left() -> None:
     assert not any(it.startswith("avl_tree=") for it in words)
 
 
+CHANGED = [
+    "kit/bin/rattle",
+    "crates/tb_embed/src/lib.rt",
+    "crates/tb_embed/proofs/more.antt",
+    "left.rlib",
+    "crates/tb_embed/out/libtb_embed.a",
+]
+
+
+@pytest.mark.parametrize("name", CHANGED)
+def test_a_library_of_the_same_files_is_kept(
+    name: str, tmp_path: Path, monkeypatch: pytest.MonkeyPatch
+) -> None:
+    for it in ("kit/bin/rattle", "left.rlib", "crates/tb_embed/src/lib.rt"):
+        (tmp_path / it).parent.mkdir(parents=True, exist_ok=True)
+        (tmp_path / it).write_text("as it was")
+    builds = []
+
+    def run(_: object, cwd: Path) -> None:
+        builds.append(cwd)
+        (cwd / "out/libtb_embed.a").write_text("built")
+
+    monkeypatch.setattr(library, "ROOT", tmp_path)
+    monkeypatch.setattr(library, "heap", lambda: tmp_path / "kit/c/liblibc_c.a")
+    monkeypatch.setattr(library, "left", lambda: {"left": tmp_path / "left.rlib"})
+    monkeypatch.setattr(library, "words", lambda kit, out: [])
+    monkeypatch.setattr(library, "run", run)
+    library.build()
+    library.build()
+    assert builds == [tmp_path / "crates/tb_embed"]
+    (tmp_path / name).parent.mkdir(exist_ok=True)
+    (tmp_path / name).write_text("changed")
+    library.build()
+    library.build()
+    assert len(builds) == 2
+
+
 def test_release_notes_are_of_the_changelog(tmp_path: Path) -> None:
     notes.write(ROOT, RECORD, tmp_path / "notes")
     text = (tmp_path / "notes").read_text()
