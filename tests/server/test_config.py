@@ -41,7 +41,7 @@ WRONG = {
         "is no number of seconds from 0 to 10000000000",
     ),
 }
-VALUES = {"HOST:PORT": "127.0.0.1:1", "N": "1", "SECONDS": "1", "USER": "0"}
+VALUES = {"HOST:PORT": "127.0.0.1:1", "N": "1", "SECONDS": "1", "BYTES": "4194304"}
 ONCE = {
     "--unix": "PATH",
     "--tcp": "HOST:PORT",
@@ -53,11 +53,13 @@ ONCE = {
     "--connections-per-peer": "N",
     "--sessions-per-range": "N",
     "--requests-per-second": "N",
+    "--memory": "BYTES",
     "--status": "PATH",
     "--metrics": "HOST:PORT",
     "--idle": "SECONDS",
     "--slow": "SECONDS",
     "--ahead": "SECONDS",
+    "--config": "FILE",
 }
 
 
@@ -131,7 +133,7 @@ def help_page():
 
 def test_the_help_page_has_each_option():
     options = dict(re.findall(r"^  (--\S+) (\S+)", help_page(), re.M))
-    assert options.items() >= {**ONCE, "--allow-uid": "USER"}.items()
+    assert options == {**ONCE, "--allow-uid": "USER"}
 
 
 @pytest.mark.parametrize(

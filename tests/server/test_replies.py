@@ -106,7 +106,10 @@ def test_a_reply_with_another_byte(start, at):
             assert received(it) == b"tb_listen: ProgramEnded\n"
 
 
-@pytest.mark.parametrize("script", ["head -c 48 /dev/zero; sleep 10", "exec cat /dev/zero", "yes"])
+SCRIPTS = ["head -c 48 /dev/zero; sleep 10", "exec cat /dev/zero", "yes; sleep 10"]
+
+
+@pytest.mark.parametrize("script", SCRIPTS)
 def test_replies_without_a_request(start, script):
     listener = start(command=shell(script))
     began = time.monotonic()

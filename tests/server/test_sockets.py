@@ -7,6 +7,7 @@ import os
 import signal
 import socket
 import stat
+import threading
 import time
 import unittest.mock
 
@@ -46,16 +47,31 @@ def test_money_moves_once_for_many_clients(start):
 
 
 def test_a_forked_child_closes_its_copy(start):
-    """A child that closes its copy of a connection leaves that of its parent."""
+    """A child that closes its copy of a connection leaves that of its parent, also if another
+    thread of the parent has the connection's lock."""
     with start().session() as session:
+        held, done = threading.Event(), threading.Event()
+
+        def hold():
+            with session.transport._lock:
+                held.set()
+                done.wait()
+
+        holder = threading.Thread(target=hold)
+        holder.start()
+        held.wait()
         child = os.fork()
         if not child:
+            signal.alarm(20)
             try:
                 session.transport.close()
                 os._exit(0)
             finally:
                 os._exit(4)
-        assert os.waitpid(child, 0)[1] == 0
+        status = os.waitpid(child, 0)[1]
+        done.set()
+        holder.join()
+        assert status == 0
         assert session.lookup_accounts([1]) == []
 
 

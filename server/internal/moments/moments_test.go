@@ -61,6 +61,18 @@ func TestMoments(t *testing.T) {
 	}
 }
 
+func TestAClockThatRunsALittleFast(t *testing.T) {
+	var clocks []times
+	var want []float64
+	for i := 0; i < 20; i++ {
+		clocks = append(clocks, times{100 + float64(i)*1.0005, 5 + float64(i)})
+		want = append(want, float64(int64(clocks[i].wall*1e9))/1e9)
+	}
+	if got, lines := given(0, clocks...); !reflect.DeepEqual(got, want[1:]) || len(lines) > 0 {
+		t.Errorf("%v, not %v; %q", got, want[1:], lines)
+	}
+}
+
 func TestLineOfAClockThatIsAhead(t *testing.T) {
 	_, lines := given(0, times{100, 5}, times{9000, 15})
 	want := "tb_listen: the clock is 8889 s ahead of where it should be, and requests get moments without " +
