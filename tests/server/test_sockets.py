@@ -281,12 +281,20 @@ def test_connections_for_which_there_are_not_enough_files(start):
     assert (listener.end(), len(listener.lines)) == (0, 2)
 
 
-def test_a_command_that_does_not_start(folder):
-    path = folder / "ledger.sock"
-    found = ended("--unix", path, command=("/no/such/program",))
-    why = "/no/such/program does not start: No such file or directory"
-    assert found == (1, f"tb_listen: {why}")
-    assert not path.exists()
+@pytest.mark.parametrize(
+    "command, why",
+    [
+        ("/no/such/program", "No such file or directory"),
+        ("no-such-program", "PATH has no such program"),
+    ],
+)
+def test_a_command_that_does_not_start(launch, folder, command, why):
+    """One line says so, and none that it listens."""
+    listener = launch(command=[command, "run", "64"])
+    assert listener.ended() == 1
+    assert listener.lines == [f"tb_listen: {command} does not start: {why}\n"]
+    assert listener.notes == []
+    assert not os.path.exists(listener.path)
 
 
 def test_nothing_is_open(launch, folder):

@@ -135,30 +135,27 @@ func UserOf(text string) (uint32, error) {
 	return uint32(number), err
 }
 
-// TestFile refuses a pipe or a device in place of a file, which is read again at a SIGHUP: no signal
-// ends a host while it waits for the other end. Of a folder the system says what is wrong.
-func TestFile(name string) error {
+// ReadFile reads a file whole. It refuses a pipe or a device in its place, because files are read again at
+// a SIGHUP: no signal ends a host while it waits for the other end. A report.Ended names the file.
+func ReadFile(name string) ([]byte, error) {
 	found, err := os.Stat(name)
+	if err == nil && !found.Mode().IsRegular() && !found.IsDir() {
+		return nil, report.End(1, "%s is a pipe or a device, not a file", name)
+	}
+	var text []byte
+	if err == nil {
+		text, err = os.ReadFile(name)
+	}
 	if err != nil {
-		return err
+		return nil, report.End(1, "%s: %s", name, report.Why(err))
 	}
-	if !found.Mode().IsRegular() && !found.IsDir() {
-		return report.End(1, "%s is a pipe or a device, not a file", name)
-	}
-	return nil
+	return text, nil
 }
 
 func readRanges(file string) (map[Key]uint64, error) {
-	err := TestFile(file)
-	var text []byte
-	if err == nil {
-		text, err = os.ReadFile(file)
-	}
-	if ended, ok := err.(*report.Ended); ok {
-		return nil, ended
-	}
+	text, err := ReadFile(file)
 	if err != nil {
-		return nil, report.End(1, "%s: %s", file, report.Why(err))
+		return nil, err
 	}
 	if !utf8.Valid(text) {
 		return nil, report.End(1, "%s: is no text", file)
@@ -174,8 +171,11 @@ func readRanges(file string) (map[Key]uint64, error) {
 		if err != nil {
 			return nil, report.End(1, "%s, line %d: %v", file, number+1, err)
 		}
-		if _, ok := ranges[key]; ok || taken[upper] {
-			return nil, report.End(1, "%s, line %d: %s or %s stands there twice", file, number+1, words[1], words[2])
+		if _, ok := ranges[key]; ok {
+			return nil, report.End(1, "%s, line %d: %s %s has a range already", file, number+1, words[0], words[1])
+		}
+		if taken[upper] {
+			return nil, report.End(1, "%s, line %d: %s is another one's range already", file, number+1, words[2])
 		}
 		ranges[key], taken[upper] = upper, true
 	}
@@ -187,12 +187,13 @@ func rangeIn(words []string) (Key, uint64, error) {
 	if len(words) != 3 || words[0] != "certificate" && words[0] != "user" {
 		return Key{}, 0, fmt.Errorf("a line must be `certificate NAME NUMBER` or `user NAME NUMBER`")
 	}
-	upper, err := strconv.ParseUint(words[2], 0, 64)
+	digits, base := words[2], 10
+	if strings.HasPrefix(digits, "0x") {
+		digits, base = digits[2:], 16
+	}
+	upper, err := strconv.ParseUint(digits, base, 64)
 	if err != nil {
-		if isNumber(words[2]) {
-			return Key{}, 0, fmt.Errorf("%s is no number of 64 bits", words[2])
-		}
-		return Key{}, 0, fmt.Errorf("invalid literal for a number: %s", report.Quoted(words[2]))
+		return Key{}, 0, fmt.Errorf("%s is no number of 64 bits", report.Quoted(words[2]))
 	}
 	if words[0] == "certificate" {
 		return Key{Certificate, words[1]}, upper, nil
@@ -202,15 +203,4 @@ func rangeIn(words []string) (Key, uint64, error) {
 		return Key{}, 0, err
 	}
 	return Key{User, strconv.FormatUint(uint64(uid), 10)}, upper, nil
-}
-
-// isNumber reports whether a word is a number, of any size and sign.
-func isNumber(word string) bool {
-	word = strings.TrimLeft(word, "+-")
-	if word == "" {
-		return false
-	}
-	_, err := strconv.ParseUint(word, 0, 64)
-	number, ok := err.(*strconv.NumError)
-	return err == nil || ok && number.Err == strconv.ErrRange
 }

@@ -36,15 +36,17 @@ func written(t *testing.T, text string) string {
 
 func TestFilesThatAreWrong(t *testing.T) {
 	for text, want := range map[string]string{
-		"certificate a":   "line 1: a line must be `certificate NAME NUMBER` or `user NAME NUMBER`",
-		"person a 1":      "line 1: a line must be `certificate NAME NUMBER`",
-		"certificate a x": "line 1: invalid literal",
+		"certificate a":     "line 1: a line must be `certificate NAME NUMBER` or `user NAME NUMBER`",
+		"person a 1":        "line 1: a line must be `certificate NAME NUMBER`",
+		"certificate a x":   "line 1: 'x' is no number of 64 bits",
+		"certificate a 0b1": "'0b1' is no number of 64 bits",
+		"certificate a 0x":  "'0x' is no number of 64 bits",
+		"certificate a -1":  "'-1' is no number of 64 bits",
 		"certificate a " + "1844674407370" + "9551616": "is no number of 64 bits",
-		"certificate a -1":                 "-1 is no number of 64 bits",
-		"user nobody-there 1":              "'nobody-there' is no user of this computer",
-		"certificate a 1\ncertificate a 2": "line 2: a or 2 stands there twice",
-		"certificate a 1\ncertificate b 1": "line 2: b or 1 stands there twice",
-		"\xff":                             "is no text",
+		"user nobody-there 1":                          "'nobody-there' is no user of this computer",
+		"certificate a 1\ncertificate a 2":             "line 2: certificate a has a range already",
+		"certificate a 1\ncertificate b 1":             "line 2: 1 is another one's range already",
+		"\xff":                                         "is no text",
 	} {
 		_, err := New(nil, written(t, text))
 		if err == nil || !strings.Contains(err.Error(), want) {

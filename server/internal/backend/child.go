@@ -94,11 +94,6 @@ func (c *Child) run() error {
 	c.queue.mu.Lock()
 	c.queue.moments = moments
 	c.queue.mu.Unlock()
-	if !c.keeps() {
-		c.mu.Lock()
-		c.serves()
-		c.mu.Unlock()
-	}
 	var restarts process.Restarts
 	for lives := 0; ; lives++ {
 		began := time.Now()
@@ -192,6 +187,9 @@ func (c *Child) begin(p *process.Process, pipe *outgoing) {
 	c.mu.Lock()
 	c.process = p
 	isClosed := c.isClosed
+	if !c.keeps() {
+		c.serves()
+	}
 	c.mu.Unlock()
 	c.queue.begin(pipe, !c.keeps(), isClosed)
 }

@@ -3,8 +3,6 @@ package config
 import (
 	"fmt"
 	"strings"
-
-	"telovamish.org/server/internal/report"
 )
 
 // Kind is a program that has these options: the listener, or another one with options of its own.
@@ -130,11 +128,11 @@ func (a *arguments) parse(words []string) error {
 			return a.Wrong("argument --%s: %v", it.name, err)
 		}
 	}
-	if missing := a.missing(); missing != nil {
-		return a.Wrong("the following arguments are required: %s", strings.Join(missing, ", "))
-	}
 	if len(unknown) > 0 {
 		return a.Wrong("unrecognized arguments: %s", strings.Join(unknown, " "))
+	}
+	if missing := a.missing(); missing != nil {
+		return a.Wrong("the following arguments are required: %s", strings.Join(missing, ", "))
 	}
 	return nil
 }
@@ -162,7 +160,7 @@ func isValue(word string) bool {
 func (a *arguments) take(it *option, value string, hasValue bool) error {
 	switch {
 	case it.isFlag() && hasValue:
-		return fmt.Errorf("ignored explicit argument %s", report.Quoted(value))
+		return fmt.Errorf("it takes no value")
 	case !it.isFlag() && !hasValue:
 		return fmt.Errorf("expected one argument")
 	}

@@ -41,12 +41,12 @@ func TestWrongArguments(t *testing.T) {
 		{[]string{"--", ""}, "an empty word is no COMMAND"},
 		{[]string{"--unix", "", "--", "true"}, "argument --unix: an empty word is no path"},
 		{[]string{"--again", "--", "true"}, "unrecognized arguments: --again"},
-		{[]string{"-x", "--", "true"}, "unrecognized arguments: -x"},
+		{[]string{"-x"}, "unrecognized arguments: -x"},
 		{[]string{"--idl=5", "--", "true"}, "unrecognized arguments: --idl=5"},
 		{[]string{"--idle", "5", "--idle", "5", "--", "true"}, "argument --idle: give it once"},
 		{[]string{"--unix", "a", "--unix=b", "--", "true"}, "argument --unix: give it once"},
 		{[]string{"--unix", "--", "true"}, "argument --unix: expected one argument"},
-		{[]string{"--insecure=1", "--", "true"}, "argument --insecure: ignored explicit argument '1'"},
+		{[]string{"--insecure=1", "--", "true"}, "argument --insecure: it takes no value"},
 		{[]string{"--allow-uid", "no such user", "--", "true"},
 			"argument --allow-uid: 'no such user' is no user of this computer"},
 		{[]string{"--certificate", "a", "--", "true"}, "--certificate and --key need each other"},
@@ -214,14 +214,19 @@ func TestFilesThatAreWrong(t *testing.T) {
 		"idle = 5\nidle = 6\n":             "idle is already defined",
 		"idle = \n":                        ", line 1: ",
 		"connections = 0\n":                ": connections: '0' is no number from 1 to 65535",
-		"connections = true\n":             ": connections: it is true, and takes N",
-		"insecure = 1\n":                   ": insecure: it is 1, and takes true or false",
-		"tcp = [\"a:1\"]\n":                ": tcp: it takes one value",
+		"connections = true\n":             ": connections: it takes N, not true",
+		"insecure = 1\n":                   ": insecure: it takes true or false, not 1",
+		"insecure = \"true\"\n":            ": insecure: it takes true or false, not 'true'",
+		"tcp = [\"a:1\"]\n":                ": tcp: it takes HOST:PORT, not a list",
+		"[unix]\npath = \"a\"\n":           ": unix: it takes PATH, not a table",
+		"idle = 2026-12-01\n":              ": idle: it takes SECONDS, not a time",
+		"command = \"tbd run it 64\"\n":    ": command: it takes a list, as [",
+		"command = [[\"tbd\"]]\n":          ": command: each part of it is a word, not a list",
 		"allow-uid = [\"no such user\"]\n": ": allow-uid: 'no such user' is no user of this computer",
 		"status = \"\"\n":                  ": status: an empty word is no path",
 	} {
 		path := file(t, text)
-		_, err := Listener.Parse([]string{"--config", path, "--", "true"})
+		_, err := Listener.Parse([]string{"--config", path})
 		var ended *report.Ended
 		if !errors.As(err, &ended) || ended.Status != 1 || !strings.HasPrefix(err.Error(), path) ||
 			!strings.Contains(err.Error(), want) || strings.Contains(err.Error(), "\n") {

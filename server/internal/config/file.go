@@ -4,7 +4,6 @@ import (
 	"bytes"
 	"errors"
 	"fmt"
-	"os"
 	"sort"
 	"strconv"
 
@@ -17,26 +16,26 @@ import (
 // fileOptions is what a file of --config may have: each option by its name, and the command. What a value is
 // to be, its option says.
 type fileOptions struct {
-	Unix               any      `toml:"unix"`
-	TCP                any      `toml:"tcp"`
-	Connections        any      `toml:"connections"`
-	Certificate        any      `toml:"certificate"`
-	Key                any      `toml:"key"`
-	ClientCA           any      `toml:"client-ca"`
-	Insecure           any      `toml:"insecure"`
-	AllowUID           any      `toml:"allow-uid"`
-	Clients            any      `toml:"clients"`
-	ConnectionsPerPeer any      `toml:"connections-per-peer"`
-	SessionsPerRange   any      `toml:"sessions-per-range"`
-	RequestsPerSecond  any      `toml:"requests-per-second"`
-	Memory             any      `toml:"memory"`
-	Status             any      `toml:"status"`
-	Metrics            any      `toml:"metrics"`
-	Idle               any      `toml:"idle"`
-	Slow               any      `toml:"slow"`
-	LogJSON            any      `toml:"log-json"`
-	Ahead              any      `toml:"ahead"`
-	Command            []string `toml:"command"`
+	Unix               any `toml:"unix"`
+	TCP                any `toml:"tcp"`
+	Connections        any `toml:"connections"`
+	Certificate        any `toml:"certificate"`
+	Key                any `toml:"key"`
+	ClientCA           any `toml:"client-ca"`
+	Insecure           any `toml:"insecure"`
+	AllowUID           any `toml:"allow-uid"`
+	Clients            any `toml:"clients"`
+	ConnectionsPerPeer any `toml:"connections-per-peer"`
+	SessionsPerRange   any `toml:"sessions-per-range"`
+	RequestsPerSecond  any `toml:"requests-per-second"`
+	Memory             any `toml:"memory"`
+	Status             any `toml:"status"`
+	Metrics            any `toml:"metrics"`
+	Idle               any `toml:"idle"`
+	Slow               any `toml:"slow"`
+	LogJSON            any `toml:"log-json"`
+	Ahead              any `toml:"ahead"`
+	Command            any `toml:"command"`
 }
 
 // values are those of a file, by the names of their options.
@@ -53,17 +52,9 @@ func (f *fileOptions) values() map[string]any {
 
 // readFile takes the options of the file that were not given as arguments.
 func (c *Config) readFile(given map[string]bool) error {
-	err := access.TestFile(c.File)
-	var text []byte
-	if err == nil {
-		text, err = os.ReadFile(c.File)
-	}
-	var ended *report.Ended
-	if errors.As(err, &ended) {
-		return ended
-	}
+	text, err := access.ReadFile(c.File)
 	if err != nil {
-		return report.End(1, "%s: %s", c.File, report.Why(err))
+		return err
 	}
 	return c.takeFile(text, given)
 }
@@ -89,8 +80,27 @@ func (c *Config) takeFile(text []byte, given map[string]bool) error {
 			return report.End(1, "%s: %s: %v", c.File, name, err)
 		}
 	}
-	if len(c.Command) == 0 {
-		c.Command = found.Command
+	if len(c.Command) > 0 || found.Command == nil {
+		return nil
+	}
+	if err := c.takeCommand(found.Command); err != nil {
+		return report.End(1, "%s: command: %v", c.File, err)
+	}
+	return nil
+}
+
+// takeCommand sets the command to a list of words, some of which may be numbers.
+func (c *Config) takeCommand(value any) error {
+	list, ok := value.([]any)
+	if !ok {
+		return fmt.Errorf("it takes a list, as [\"tbd\", \"run\", \"ledger.tbk\", \"64\"], not %s", shown(value))
+	}
+	for _, one := range list {
+		word, isBool, ok := textOf(one)
+		if isBool || !ok {
+			return fmt.Errorf("each part of it is a word, not %s", shown(one))
+		}
+		c.Command = append(c.Command, word)
 	}
 	return nil
 }
@@ -105,12 +115,9 @@ func (c *Config) takeValue(it *option, value any) error {
 		}
 		return nil
 	}
-	text, isBool, err := textOf(value)
-	switch {
-	case err != nil:
-		return err
-	case isBool != it.isFlag():
-		return fmt.Errorf("it is %s, and takes %s", text, kindOf(it))
+	text, isBool, ok := textOf(value)
+	if !ok || isBool != it.isFlag() {
+		return fmt.Errorf("it takes %s, not %s", kindOf(it), shown(value))
 	}
 	return it.set(c, text)
 }
@@ -122,19 +129,36 @@ func kindOf(it *option) string {
 	return it.value
 }
 
-// textOf is a value as an argument would have it.
-func textOf(value any) (text string, isBool bool, err error) {
+// shown is how a line names a value.
+func shown(value any) string {
+	text, _, ok := textOf(value)
+	switch value.(type) {
+	case string:
+		return report.Quoted(short(text, 60))
+	case []any:
+		return "a list"
+	case map[string]any:
+		return "a table"
+	}
+	if ok {
+		return text
+	}
+	return "a time"
+}
+
+// textOf is a value as an argument would have it, if it is no list, table or time.
+func textOf(value any) (text string, isBool, ok bool) {
 	switch it := value.(type) {
 	case string:
-		return it, false, nil
+		return it, false, true
 	case int64:
-		return strconv.FormatInt(it, 10), false, nil
+		return strconv.FormatInt(it, 10), false, true
 	case float64:
-		return strconv.FormatFloat(it, 'f', -1, 64), false, nil
+		return strconv.FormatFloat(it, 'f', -1, 64), false, true
 	case bool:
-		return strconv.FormatBool(it), true, nil
+		return strconv.FormatBool(it), true, true
 	}
-	return "", false, errors.New("it takes one value")
+	return "", false, false
 }
 
 // faultOf is what is wrong with the text of a file, and in which line.

@@ -36,7 +36,11 @@ func (w *Wanting) Unwrap() error { return w.Ended }
 func Start(words []string, onEnd func(*Process)) (*Process, error) {
 	p, err := start(words)
 	if err != nil {
-		why := report.End(1, "%s does not start: %s", words[0], report.Why(err))
+		reason := report.Why(err)
+		if errors.Is(err, exec.ErrNotFound) {
+			reason = "PATH has no such program"
+		}
+		why := report.End(1, "%s does not start: %s", words[0], reason)
 		for _, it := range []syscall.Errno{syscall.EMFILE, syscall.ENFILE, syscall.EAGAIN, syscall.ENOMEM} {
 			if errors.Is(err, it) {
 				return nil, &Wanting{why}

@@ -42,7 +42,7 @@ func TestWrongArguments(t *testing.T) {
 		rest + "--ahead=-1 tbd":               "argument --ahead: '-1' is no number of seconds from 0 to 10000000000",
 		rest + "--standbys 65536 tbd":         "argument --standbys: '65536' is no number from 0 to 65535",
 		rest + "--distrust 0A tbd":            "argument --distrust: '0A' is no writer: 32 digits, as `status` has them",
-		rest + "--alone=1 tbd":                "argument --alone: ignored explicit argument '1'",
+		rest + "--alone=1 tbd":                "argument --alone: it takes no value",
 		rest + "--log-user= tbd":              "argument --log-user: it is empty",
 		rest + "--log-ca= tbd":                "argument --log-ca: an empty word is no path",
 		rest + "--config F tbd follow 64":     "unrecognized arguments: --config",

@@ -142,6 +142,9 @@ func (h *host) addTCP(it net.Listener) error {
 }
 
 func (h *host) bindOptions() error {
+	if h.config.Unix == "" && len(h.config.Users) > 0 {
+		return report.End(2, "error: --allow-uid is for a Unix socket: --unix PATH")
+	}
 	if h.config.Unix != "" {
 		it, err := sockets.ListenUnix(h.config.Unix, len(h.config.Users) > 0)
 		if err != nil {

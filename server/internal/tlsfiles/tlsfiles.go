@@ -5,8 +5,6 @@ import (
 	"crypto/tls"
 	"crypto/x509"
 	"encoding/pem"
-	"errors"
-	"os"
 	"strings"
 
 	"telovamish.org/server/internal/access"
@@ -21,46 +19,48 @@ func Read(c *config.Config) (*tls.Config, error) {
 	}
 	pair, err := readPair(c.Certificate, c.Key)
 	if err != nil {
-		return nil, report.End(1, "%s and %s: %s", c.Certificate, c.Key, why(err))
+		return nil, err
 	}
 	its := &tls.Config{Certificates: []tls.Certificate{pair}, MinVersion: tls.VersionTLS12}
 	if c.ClientCA == "" {
 		return its, nil
 	}
-	text, err := readFile(c.ClientCA)
-	if err == nil {
-		its.ClientCAs = x509.NewCertPool()
-		if !its.ClientCAs.AppendCertsFromPEM(text) {
-			err = errors.New("no certificate or crl found")
-		}
-	}
-	if err != nil {
-		return nil, report.End(1, "%s: %s", c.ClientCA, why(err))
+	if its.ClientCAs, err = readAuthorities(c.ClientCA); err != nil {
+		return nil, err
 	}
 	its.ClientAuth = clientAuth
 	return its, nil
 }
 
-func readFile(name string) ([]byte, error) {
-	if err := access.TestFile(name); err != nil {
+func readAuthorities(name string) (*x509.CertPool, error) {
+	text, err := access.ReadFile(name)
+	if err != nil {
 		return nil, err
 	}
-	return os.ReadFile(name)
+	all := x509.NewCertPool()
+	if !all.AppendCertsFromPEM(text) {
+		return nil, report.End(1, "%s: no certificate or crl found", name)
+	}
+	return all, nil
 }
 
 func readPair(certificate, key string) (tls.Certificate, error) {
-	first, err := readFile(certificate)
+	first, err := access.ReadFile(certificate)
 	if err != nil {
 		return tls.Certificate{}, err
 	}
-	second, err := readFile(key)
+	second, err := access.ReadFile(key)
 	if err != nil {
 		return tls.Certificate{}, err
 	}
 	if isEncrypted(second) {
-		return tls.Certificate{}, errors.New("the key has a passphrase")
+		return tls.Certificate{}, report.End(1, "%s: the key has a passphrase", key)
 	}
-	return tls.X509KeyPair(first, second)
+	pair, err := tls.X509KeyPair(first, second)
+	if err != nil {
+		return pair, report.End(1, "%s and %s: %s", certificate, key, strings.TrimPrefix(err.Error(), "tls: "))
+	}
+	return pair, nil
 }
 
 // isEncrypted reports whether a key has a passphrase, which nobody can be asked for.
@@ -71,18 +71,6 @@ func isEncrypted(key []byte) bool {
 		}
 	}
 	return false
-}
-
-func why(err error) string {
-	var ended *report.Ended
-	if errors.As(err, &ended) {
-		return ended.Line
-	}
-	var at *os.PathError
-	if errors.As(err, &at) {
-		return report.Why(err)
-	}
-	return strings.TrimPrefix(err.Error(), "tls: ")
 }
 
 // Why is why a client did not agree on TLS, in words.

@@ -193,17 +193,17 @@ func TestFilesThatAreWrong(t *testing.T) {
 	}
 	locked := written(t, "ENCRYPTED PRIVATE KEY", []byte("x"))
 	for _, row := range []struct{ certificate, key, authority, want string }{
-		{none, key, "", none + " and " + key + ": No such file or directory"},
-		{certificate, none, "", certificate + " and " + none + ": No such file or directory"},
-		{pipe, key, "", pipe + " and " + key + ": " + pipe + " is a pipe or a device, not a file"},
-		{certificate, locked, "", certificate + " and " + locked + ": the key has a passphrase"},
+		{none, key, "", none + ": No such file or directory"},
+		{certificate, none, "", none + ": No such file or directory"},
+		{pipe, key, "", pipe + " is a pipe or a device, not a file"},
+		{certificate, locked, "", locked + ": the key has a passphrase"},
 		{empty, key, "", empty + " and " + key + ": failed to find any PEM data in certificate input"},
-		{certificate, other, "", "private key does not match public key"},
+		{certificate, other, "", certificate + " and " + other + ": private key does not match public key"},
 		{certificate, key, none, none + ": No such file or directory"},
 		{certificate, key, empty, empty + ": no certificate or crl found"},
 	} {
 		_, err := Read(&config.Config{Certificate: row.certificate, Key: row.key, ClientCA: row.authority})
-		if err == nil || !strings.Contains(err.Error(), row.want) {
+		if err == nil || !strings.HasPrefix(err.Error(), row.want) {
 			t.Errorf("%v, not %q", err, row.want)
 		}
 	}
