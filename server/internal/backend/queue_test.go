@@ -416,36 +416,49 @@ type counting struct{ done chan struct{} }
 
 func (c *counting) Answered([]byte, string) { c.done <- struct{}{} }
 
-// BenchmarkRequest is one request at a time, there and back.
-func BenchmarkRequest(b *testing.B) {
+// exchanging is one request there and back, again and again.
+func exchanging(t testing.TB) (exchange func()) {
 	q := queueOf(false)
 	in, theirIn, _ := os.Pipe()
 	theirOut, out, _ := os.Pipe()
 	pipe, _ := newOutgoing(theirIn)
-	s := &server{in: in, out: out}
 	go q.readReplies(theirOut)
 	q.begin(pipe, true, false)
+	go func() {
+		head, reply := make([]byte, momentSize+frames.HeaderSize), replyTo(1)
+		for {
+			if _, err := io.ReadFull(in, head); err != nil {
+				return
+			}
+			out.Write(reply)
+		}
+	}()
+	t.Cleanup(func() {
+		theirIn.Close()
+		out.Close()
+	})
 	from := &counting{make(chan struct{}, 1)}
 	r := requestOf(1, 0, from, &Peer{})
 	frame := r.Frame
-	reply := replyTo(1)
-	go func() {
-		head := make([]byte, momentSize+frames.HeaderSize)
-		for {
-			if _, err := io.ReadFull(s.in, head); err != nil {
-				return
-			}
-			s.out.Write(reply)
-		}
-	}()
-	b.ReportAllocs()
-	b.ResetTimer()
-	for i := 0; i < b.N; i++ {
+	return func() {
 		r.Frame = frame
 		q.submit(r)
 		<-from.done
 	}
-	b.StopTimer()
-	theirIn.Close()
-	out.Close()
+}
+
+func TestARequestAllocatesNothing(t *testing.T) {
+	if count := testing.AllocsPerRun(1000, exchanging(t)); count > 0 {
+		t.Errorf("%v allocations", count)
+	}
+}
+
+// BenchmarkRequest is one request at a time, there and back.
+func BenchmarkRequest(b *testing.B) {
+	exchange := exchanging(b)
+	b.ReportAllocs()
+	b.ResetTimer()
+	for i := 0; i < b.N; i++ {
+		exchange()
+	}
 }

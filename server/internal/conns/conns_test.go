@@ -441,20 +441,33 @@ func cut(stream []byte) string {
 	return string(out)
 }
 
-// BenchmarkConnection is one request at a time over a connection.
-func BenchmarkConnection(b *testing.B) {
-	of := newFake()
-	_, path := listening(b, answering{of, replyTo(request(1, 16))}, nil)
-	it := call(b, path)
+// exchanging is one request and its reply over a connection, again and again.
+func exchanging(t testing.TB) (exchange func()) {
+	_, path := listening(t, answering{newFake(), replyTo(request(1, 16))}, nil)
+	it := call(t, path)
 	it.SetDeadline(time.Time{})
 	ask, reply := request(1, 16), make([]byte, frames.HeaderSize)
+	return func() {
+		it.Write(ask)
+		if _, err := io.ReadFull(it, reply); err != nil {
+			t.Fatal(err)
+		}
+	}
+}
+
+func TestARequestAllocatesNothing(t *testing.T) {
+	if count := testing.AllocsPerRun(1000, exchanging(t)); count > 0 {
+		t.Errorf("%v allocations", count)
+	}
+}
+
+// BenchmarkConnection is one request at a time over a connection.
+func BenchmarkConnection(b *testing.B) {
+	exchange := exchanging(b)
 	b.ReportAllocs()
 	b.ResetTimer()
 	for i := 0; i < b.N; i++ {
-		it.Write(ask)
-		if _, err := io.ReadFull(it, reply); err != nil {
-			b.Fatal(err)
-		}
+		exchange()
 	}
 }
 
