@@ -8,8 +8,10 @@ from .frames import (
     LATER,
     LONG,
     LOST,
+    NAMES,
     NOTHING,
     SHORT,
+    SOME,
     TRANSFERS,
     accept,
     account,
@@ -137,6 +139,36 @@ def late():
         saved(0, ASKED),
         begin="hurried-once",
     )
+    asked = frame_of(1, FIND_ACCOUNTS, ["1"])
+    found = reply(1, FIND_ACCOUNTS, account_bytes(account(1)))
+    yield scenario(
+        "reply-body-late",
+        "The limit is for the body of a reply too, whether it stops or comes slowly.",
+        ask(
+            FIND_ACCOUNTS,
+            ["1"],
+            [read(asked), send(found[:100]), {"ended": "c"}],
+            LOST,
+            at_least=0.25,
+            at_most=3.0,
+        ),
+        retry(
+            [
+                accept("d"),
+                read(asked, "d"),
+                send(found[:100], "d"),
+                *[
+                    it
+                    for at in range(100, 120)
+                    for it in ({"wait": 0.1}, send(found[at : at + 1], "d"))
+                ],
+            ],
+            LOST,
+            at_most=1.5,
+        ),
+        saved(0, asked),
+        begin="hurried-once",
+    )
 
 
 def unreachable():
@@ -208,9 +240,13 @@ FAULTS = {
     "refusal-with-commit": reply(1, TRANSFERS, status=1, commit=9),
     "refusal-with-body": reply(1, TRANSFERS, results((0, 46)), status=1),
     "length-7": reply(1, TRANSFERS, b"1234567"),
-    "length-4-GiB": reply(1, TRANSFERS, length=2**32 - 8),
-    "too-many": reply(1, TRANSFERS, length=8191 * 8),
     "register": registered(),
+}
+ITEM_SIZES = {ACCOUNTS: 8, TRANSFERS: 8, FIND_ACCOUNTS: 128, FIND_TRANSFERS: 128}
+LENGTHS = {  # what a header says of a body that no reply has: it is not waited for
+    f"{how}-{NAMES[operation]}": (operation, length)
+    for operation, size in ITEM_SIZES.items()
+    for how, length in (("4-GiB-of", 2**32 - 128), ("8191-of", 8191 * size))
 }
 BODIES = {
     "index-1-of-1": (TRANSFERS, SALE, results((1, 46))),
@@ -247,6 +283,20 @@ def bad_replies():
             saved(0, ASKED),
             retry(again(), OK),
             saved(1),
+            begin="registered-once",
+        )
+    for name, (operation, length) in LENGTHS.items():
+        asked = frame_of(1, operation)
+        yield scenario(
+            f"bad-reply-{name}",
+            "The header says more than any reply has: BadReply, and no body is waited for.",
+            ask(
+                operation,
+                SOME[operation],
+                [read(asked), send(reply(1, operation, length=length)), {"ended": "c"}],
+                error("BadReply", sent=True),
+            ),
+            saved(0, asked),
             begin="registered-once",
         )
     for name, (operation, items, body) in BODIES.items():
