@@ -167,7 +167,7 @@ def test_a_damaged_file(small):
 def test_a_folder_in_place_of_a_ledger(tables):
     status, _, said = tables.said("load", tables.path, "--ledger", str(tables.room))
     assert status == 1
-    assert "is no file: a kept ledger's file is meant" in said
+    assert "is no file: a ledger's file is meant" in said
 
 
 @pytest.mark.parametrize("is_shown, wanted", [(True, 2), (False, 0)])

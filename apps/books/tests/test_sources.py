@@ -1,4 +1,4 @@
-"""A kept ledger's file: the programs that read it, once and as it grows, their faults and ends."""
+"""A ledger's file: the programs that read it, once and as it grows, their faults and ends."""
 
 import contextlib
 import errno

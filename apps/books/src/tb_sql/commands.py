@@ -25,7 +25,7 @@ from .numbers import time_text
 from .output import Unread, report, say, writing
 from .sources import Ledger, Programs, read_dump
 
-LOAD = """Reads a history into tables: a dump from standard input, or a kept ledger's file. The
+LOAD = """Reads a history into tables: a dump from standard input, or a ledger's file. The
 program `tbs` gives the reply to each entry. What the tables have already is skipped, so the same
 command goes on where the last one stopped. FILE is a file of SQLite, made if there is none, or a
 URL of PostgreSQL."""
@@ -241,7 +241,7 @@ def words() -> argparse.ArgumentParser:
         "load", help="read a history into tables", description=LOAD, epilog=STATUSES
     )
     it.add_argument("file", metavar="FILE", help="a file of SQLite, or postgresql://..")
-    add_ledger(it, "the file of a kept ledger, in place of standard input")
+    add_ledger(it, "a ledger's file, in place of standard input")
     it.add_argument(
         "--follow",
         action="store_true",
@@ -254,7 +254,7 @@ def words() -> argparse.ArgumentParser:
     it.add_argument("file", metavar="FILE", help="a file of SQLite, or postgresql://..")
     it.add_argument("--port", type=port, default=8642, help="the port on 127.0.0.1 (%(default)s)")
     it.add_argument(
-        "--ledger", metavar="FILE", help="the kept ledger's file, to show how far behind it this is"
+        "--ledger", metavar="FILE", help="the ledger's file, to show how far behind it this is"
     )
     it.add_argument("--tbd", metavar="PROGRAM", help="the program tbd (or the variable TBD)")
     it.add_argument("--names", metavar="TOML", help="other names than those of the tables")
@@ -272,7 +272,7 @@ def words() -> argparse.ArgumentParser:
         metavar="SECONDS",
         help="how long to wait for a load to reach the server's answer (%(default)g)",
     )
-    add_ledger(it, "the kept ledger's file, with which every row is compared")
+    add_ledger(it, "the ledger's file, with which every row is compared")
     it.set_defaults(run=check)
     return parser
 

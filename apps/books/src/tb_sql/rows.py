@@ -14,7 +14,7 @@ from telovamish.model import Event, Expired, Fact, Ledger
 from telovamish.objects import record_shown
 from telovamish.records import Account, Transfer
 from telovamish.streams import Entry
-from telovamish.words import RESULTS, SECOND
+from telovamish.words import ITEM_SIZES, RESULTS, SECOND
 
 from .errors import AGAIN, Refused
 from .numbers import HISTORY, INTEGER_END, PENDING, POST, VOID, Number, held
@@ -176,8 +176,8 @@ class Rows:
         return digest
 
     def _entry_row(self, entry: Entry, refused: int) -> Row:
-        request, size = entry.request, 16 if entry.request.operation.startswith("lookup") else 128
-        events = len(request.body) // size
+        request = entry.request
+        events = len(request.body) // ITEM_SIZES[request.operation]
         self.changes.events += max(1, events)
         return [
             entry.commit,

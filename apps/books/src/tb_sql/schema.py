@@ -305,23 +305,35 @@ UNION ALL SELECT debit_account_id, 'debit', t.* FROM transfers AS t WHERE t.flag
 UNION ALL SELECT credit_account_id, 'credit', t.* FROM transfers AS t WHERE t.flags & 10 <> 0"""
 
 
+# The digits of a shown number: 39 of 128 bits and the places, in groups of three.
+WIDTH = 48
+ZEROS = f"'{WIDTH * '0'}'"
+
+
+def _padded(text: str, is_sqlite: bool) -> str:
+    """Digits with zeros before them."""
+    return (
+        f"substr({ZEROS} || {text}, -{WIDTH})"
+        if is_sqlite
+        else f"right({ZEROS} || {text}, {WIDTH})"
+    )
+
+
 def _digits(column: str, is_sqlite: bool) -> str:
-    """The 48 digits of a number, without its sign."""
-    zeros = f"'{48 * '0'}'"
-    if is_sqlite:
-        return f"substr({zeros} || ltrim(CAST({column} AS TEXT), '-'), -48)"
-    return f"right({zeros} || ltrim({column}::text, '-'), 48)"
+    """The digits of a number, without its sign."""
+    text = f"CAST({column} AS TEXT)" if is_sqlite else f"{column}::text"
+    return _padded(f"ltrim({text}, '-')", is_sqlite)
 
 
 def _decimal(column: str, is_sqlite: bool) -> str:
     """A number with commas, a point and its unit, as text; NULL for a ledger without a name."""
     digits = _digits(column, is_sqlite)
-    whole = f"substr({digits}, 1, 48 - l.places)"
-    zeros = f"'{48 * '0'}'"
-    padded = f"substr({zeros} || {whole}, -48)" if is_sqlite else f"right({zeros} || {whole}, 48)"
-    groups = " || ',' || ".join(f"substr({padded}, {at}, 3)" for at in range(1, 48, 3))
+    padded = _padded(f"substr({digits}, 1, {WIDTH} - l.places)", is_sqlite)
+    groups = " || ',' || ".join(f"substr({padded}, {at}, 3)" for at in range(1, WIDTH, 3))
     sign = f"CASE WHEN CAST({column} AS TEXT) LIKE '-%' THEN '-' ELSE '' END"
-    part = f"CASE WHEN l.places > 0 THEN '.' || substr({digits}, 49 - l.places) ELSE '' END"
+    part = (
+        f"CASE WHEN l.places > 0 THEN '.' || substr({digits}, {WIDTH + 1} - l.places) ELSE '' END"
+    )
     shown = f"coalesce(nullif(ltrim({groups}, '0,'), ''), '0')"
     return f"CASE WHEN l.name IS NOT NULL THEN {sign} || {shown} || {part} || ' ' || l.name END"
 

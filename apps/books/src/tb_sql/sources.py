@@ -1,4 +1,4 @@
-"""The source of a history: a dump on standard input, or a kept ledger's file by `tbd dump`.
+"""The source of a history: a dump on standard input, or a ledger's file by `tbd dump`.
 `tbs replay` gives the reply to each entry."""
 
 from __future__ import annotations
@@ -91,12 +91,12 @@ class Name:
 
 
 class Ledger:
-    """A kept ledger's file, and the programs that read it, also while it is served."""
+    """A ledger's file, and the programs that read it, also while it is served."""
 
     def __init__(self, path: str, programs: Programs) -> None:
         if not os.path.isfile(path):
             there_is = "is no file" if os.path.exists(path) else "does not exist"
-            raise Failed(f"{path} {there_is}: a kept ledger's file is meant")
+            raise Failed(f"{path} {there_is}: a ledger's file is meant")
         self.path = path
         self._tbd, self._tbs = programs.path("tbd"), programs.path("tbs")
 

@@ -1,10 +1,10 @@
 """What an input is that a form does not read, by its first bytes."""
 from __future__ import annotations
 
-from .words import OPERATIONS
+from .words import HEADER_SIZE, OPERATIONS
 
 DUMP, LEDGER = b"TBSDUMP1", b"TBJRNL0"  # the number of its format follows in a ledger's file
-FIRST_BYTES = 56  # a moment and the header of a request
+FIRST_BYTES = 8 + HEADER_SIZE  # a moment and the header of a request
 # what the header of a request to register has after its client
 REGISTER = bytes(12) + OPERATIONS["register"].to_bytes(4, "little") + bytes(16)
 BINARY = ("ledger", "dump", "script", "replies")
@@ -29,7 +29,7 @@ def is_text(first: bytes) -> bool:
 def is_reply(first: bytes) -> bool:
     """The first reply of a history is of a register, and its session is its commit."""
     is_register = first[24:30] == bytes(4) + bytes([OPERATIONS["register"], 0])
-    return len(first) >= 48 and is_register and first[16:24] == first[36:44] != bytes(8)
+    return len(first) >= HEADER_SIZE and is_register and first[16:24] == first[36:44] != bytes(8)
 
 
 def kind_of(first: bytes) -> str:

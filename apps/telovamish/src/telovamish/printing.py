@@ -3,7 +3,7 @@ from __future__ import annotations
 
 from .objects import flags_shown
 from .reader import Pair
-from .words import FIELDS, FLAGS, HEADER
+from .words import FIELDS, FLAGS, HEADER, ITEM_SIZES
 
 
 def event_text(operation: str, record: bytes) -> str:
@@ -20,7 +20,7 @@ def event_text(operation: str, record: bytes) -> str:
 def statement_text(pair: Pair) -> str:
     numbers = {it: getattr(pair, it) for it in HEADER}
     header = " ".join(f"{it}={number}" for it, number in numbers.items() if number or it == "at")
-    size = 16 if len(FIELDS[pair.operation]) == 1 else 128
+    size = ITEM_SIZES[pair.operation]
     events = (pair.body[at : at + size] for at in range(0, len(pair.body), size))
     shown = ", ".join(event_text(pair.operation, it) for it in events)
     return f"{header} {pair.operation}{' ' if shown else ''}{shown};\n"

@@ -8,7 +8,19 @@ from os.path import commonprefix
 from typing import Callable, NamedTuple, Optional
 
 from .dates import moment_of, right_part
-from .words import AMOUNT_MAX, FIELDS, FLAGS, HEADER, ITEMS_MAX, MAXIMA, OPERATIONS, POSITIVE
+from .words import (
+    AMOUNT_MAX,
+    FIELDS,
+    FLAGS,
+    HEADER,
+    ID_SIZE,
+    ITEM_SIZES,
+    ITEMS_MAX,
+    MAXIMA,
+    OPERATIONS,
+    POSITIVE,
+    RECORD_SIZE,
+)
 from .written import Written, kind_of_field, unquoted
 
 TOKEN = re.compile(
@@ -49,17 +61,17 @@ class Pair(NamedTuple):
 
     def frame(self) -> bytes:
         numbers = self.session, self.request, OPERATIONS[self.operation], len(self.body)
-        return self.client.to_bytes(16, "little") + REQUEST.pack(*numbers) + self.body
+        return self.client.to_bytes(ID_SIZE, "little") + REQUEST.pack(*numbers) + self.body
 
     def id_at(self, place: int) -> int:
         """The id of an event, or of what is looked up."""
-        size = 16 if self.operation.startswith("lookup_") else 128
-        return int.from_bytes(self.body[size * place : size * place + 16], "little")
+        at = ITEM_SIZES[self.operation] * place
+        return int.from_bytes(self.body[at : at + ID_SIZE], "little")
 
     @property
     def length(self) -> int:
         """Its events or ids."""
-        return len(self.body) // (16 if self.operation.startswith("lookup_") else 128)
+        return len(self.body) // ITEM_SIZES[self.operation]
 
 
 class Statement(NamedTuple):
@@ -235,9 +247,9 @@ class Scan:
                 return False
             given["amount"], self.decimal = amount, ""
         if len(fields) == 1:
-            self.events.append(given["id"].to_bytes(16, "little"))
+            self.events.append(given["id"].to_bytes(ID_SIZE, "little"))
         else:
-            record = bytearray(128)
+            record = bytearray(RECORD_SIZE)
             for name, number in given.items():
                 at, size = fields[name]
                 record[at : at + size] = number.to_bytes(size, "little")

@@ -158,8 +158,8 @@ class Desk:
             raise Ahead(CLOCK_JUMPED) from None
 
     def _check_at(self, statement: Statement) -> None:
-        """Refuses a written moment that a kept ledger would keep for ever, and says what one of a
-        lookup does."""
+        """Refuses a written moment that is too far ahead for a ledger in a file, and says what
+        one of a lookup does."""
         if "at" not in statement.written:
             return
         at, history = statement.pair.at, self.ledger.history
@@ -176,7 +176,7 @@ class Desk:
                 self._note_at(NO_LOOK_BACK.format(date_of(history.time)))
 
     def _note_at(self, text: str, is_once: bool = False) -> None:
-        """Says what a moment does: each time in a kept ledger, otherwise once."""
+        """Says what a moment does: each time over a file, otherwise once."""
         if not (self._has_noted_at and (is_once or self.ledger.is_memory)):
             report(text)
         self._has_noted_at = True

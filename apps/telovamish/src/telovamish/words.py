@@ -21,7 +21,9 @@ POSITIVE = ("client", "request")  # never 0 as they are written
 
 ACCOUNT: Layout = TABLE["account_fields"]
 TRANSFER: Layout = TABLE["transfer_fields"]
-ID: Layout = {"id": (0, 16)}
+HEADER_SIZE = 48  # bytes of the header of a request or reply
+ID_SIZE, RECORD_SIZE = 16, 128  # bytes of an id, of an account or a transfer
+ID: Layout = {"id": (0, ID_SIZE)}
 NOTHING: Layout = {}
 OPERATIONS: dict[str, int] = TABLE["operations"]
 NAMES = {number: name for name, number in OPERATIONS.items()}
@@ -34,6 +36,7 @@ FIELDS = {
     "lookup_accounts": ID,
     "lookup_transfers": ID,
 }
+ITEM_SIZES = {name: ID_SIZE if it is ID else RECORD_SIZE for name, it in FIELDS.items()}
 MAXIMA: dict[str, dict[str, int]] = {
     name: {field: 2 ** (8 * size) - 1 for field, (_, size) in fields.items()}
     for name, fields in FIELDS.items()
