@@ -60,7 +60,7 @@ func (c *client) body() (tbclient.Operation, []byte) {
 	case c.sent == 1 && c.number == 0 || c.happens(100):
 		var body []byte
 		for id := uint64(1); id <= 2; id++ {
-			row := make([]byte, 128)
+			row := newRow()
 			little.PutUint64(row, id)
 			body = append(body, row...)
 		}
@@ -72,7 +72,7 @@ func (c *client) body() (tbclient.Operation, []byte) {
 	}
 	var body []byte
 	for count := [...]int{1, 1, 1, 3}[c.drawn.Intn(4)]; count > 0; count-- {
-		row := make([]byte, 128)
+		row := newRow()
 		c.made++
 		little.PutUint64(row, c.id<<32|c.made)
 		little.PutUint64(row[16:], 1)
@@ -81,6 +81,13 @@ func (c *client) body() (tbclient.Operation, []byte) {
 		body = append(body, row...)
 	}
 	return tbclient.OperationCreateTransfers, body
+}
+
+// newRow is an account or a transfer of ledger 1, with code 1.
+func newRow() []byte {
+	row := make([]byte, 128)
+	row[112], row[116] = 1, 1
+	return row
 }
 
 func (c *client) begin(frame []byte) {

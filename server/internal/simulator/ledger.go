@@ -44,7 +44,6 @@ type Ledger struct {
 	sessions   map[frames.Client]*session
 	accounts   map[uint64]*account
 	transfers  map[uint64]bool
-	executed   func(frame, reply []byte) // each new request
 }
 
 // NewLedger is a ledger with no account.
@@ -129,9 +128,6 @@ func (l *Ledger) enter(frame frames.Header) []byte {
 	}
 	reply := replyTo(frame, id, 0, l.commit, body)
 	l.sessions[frame.Client()] = &session{id, frame.Number(), string(frame), reply, l.commit}
-	if l.executed != nil {
-		l.executed(frame, reply)
-	}
 	return reply
 }
 

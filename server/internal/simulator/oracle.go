@@ -24,10 +24,7 @@ type history struct {
 func (w *world) history() *history {
 	h := &history{replyOf: map[string][]string{}, logs: make([]entries.Hash, 1), replies: make([]entries.Hash, 1)}
 	last := map[entries.Writer]uint64{}
-	ledger := NewLedger(w.clientsMax)
-	ledger.executed = func(frame, reply []byte) {
-		h.replyOf[string(frame)] = append(h.replyOf[string(frame)], string(reply))
-	}
+	server, commit := w.newServer(), uint64(0)
 	for _, it := range w.engine.history {
 		entry, err := entries.ParseTrusted(it.data)
 		if err != nil || entry.Number != last[entry.Writer]+1 {
@@ -36,9 +33,15 @@ func (w *world) history() *history {
 		last[entry.Writer] = entry.Number
 		h.entries, h.since = append(h.entries, entry), append(h.since, it.since)
 		h.logs = append(h.logs, h.logs[len(h.logs)-1].Next(entry.Pairs))
-		digest := h.replies[len(h.replies)-1]
-		for _, reply := range ledger.Entry(entry.Pairs) {
+		digest, at := h.replies[len(h.replies)-1], 0
+		for _, reply := range server.Entry(entry.Pairs) {
 			digest = digest.Next(reply)
+			pair, end, _ := entries.NextPair(entry.Pairs, at)
+			at = end
+			if it := frames.Header(reply).Commit(); it > commit { // it was executed now
+				commit = it
+				h.replyOf[string(pair.Frame)] = append(h.replyOf[string(pair.Frame)], string(reply))
+			}
 		}
 		h.replies = append(h.replies, digest)
 	}
