@@ -17,8 +17,9 @@ from typing import NamedTuple
 
 ROOT = Path(__file__).resolve().parent.parent
 PYTHON = "/usr/bin/python3"
-PYTEST = ["env", f"PYTHONPATH={ROOT}/tools/testing", PYTHON, "-m", "pytest", "-q", "-rfEs"]
-PYTEST += ["-p", "marks", "-m"]  # and which marks
+MARKED = [PYTHON, "-m", "pytest", "-q", "-rfEs", "-p", "marks", "-m"]  # and which marks
+PYTEST = ["env", f"PYTHONPATH={ROOT}/tools/testing", *MARKED]
+KIT = [PYTHON, "-B", "../conformance/kit.py", "--more", "200", "--"]  # drawn schedules; the runner
 NOTED = re.compile(r"^(?:left out as slow|SKIPPED).*$", re.M)
 FAILED = (
     re.compile(  # what failed, as pytest, scripts of ours and rt, covered.py, Go, JUnit, Node say

@@ -60,6 +60,9 @@ func TestWordsOfErrors(t *testing.T) {
 		{&LostError{Told: "Busy", Err: errors.New("it closed")}, "the server is busy: it closed"},
 		{&RefusedError{Status: StatusOlder, Session: 3, Number: 4}, "request 4 of session 3 is refused: Older"},
 		{&EventsFailedError{Events: events[:2]}, "event 0: exceeds_credits, event 1: exceeds_credits"},
+		{&ProgramError{Fault: "Full", Status: 8}, "Full (status 8)"},
+		{&ProgramError{Fault: "Locked", Status: 4, Owner: 12}, "Locked (status 4): process 12"},
+		{&ProgramError{Status: 1}, ErrProgramEnded.Error() + " (status 1)"},
 	} {
 		if row.err.Error() != row.says {
 			t.Errorf("it says %q, not %q", row.err, row.says)

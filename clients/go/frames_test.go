@@ -40,6 +40,40 @@ func TestFaultsOfRequests(t *testing.T) {
 	}
 }
 
+func TestFaultsOfReplies(t *testing.T) {
+	for fault, edit := range map[string]func([]byte) []byte{
+		"Short":            func(reply []byte) []byte { return reply[:47] },
+		"ClientZero":       func(reply []byte) []byte { reply[0], reply[28] = 0, 133; return reply },
+		"UnknownOperation": func(reply []byte) []byte { reply[28], reply[29] = 133, 9; return reply },
+		"Reserved":         func(reply []byte) []byte { reply[47], reply[24] = 1, 0; return reply },
+		"RegisterNumbers":  func(reply []byte) []byte { reply[28], reply[32] = 2, 1; return reply },
+		"RequestZero":      func(reply []byte) []byte { reply[24], reply[36] = 0, 0; return reply },
+		"ReplyNumbers":     func(reply []byte) []byte { reply[36], reply[32] = 1, 1; return reply },
+		"BadLength":        func(reply []byte) []byte { reply[32] = 127; return reply },
+		"TooMany":          func(reply []byte) []byte { reply[32], reply[33], reply[34] = 0x80, 0xff, 15; return reply }, // 8191 accounts
+		"its header says":  func(reply []byte) []byte { reply[32] = 128; return reply },
+	} {
+		_, _, err := decodeReply(edit(answerTo(asked, nil)), asked)
+		if !errors.Is(err, ErrBadReply) || !strings.Contains(err.Error(), fault) {
+			t.Errorf("%s: %v", fault, err)
+		}
+	}
+}
+
+func TestResultsThatAreNone(t *testing.T) {
+	frame := questions(t)[1] // creates two accounts
+	for what, body := range map[string][]byte{
+		"ok":             {0, 0, 0, 0, 0, 0, 0, 0},
+		"unknown":        {0, 0, 0, 0, 255, 0, 0, 0},
+		"no event":       {2, 0, 0, 0, 21, 0, 0, 0},
+		"event 1, and 0": {1, 0, 0, 0, 21, 0, 0, 0, 0, 0, 0, 0, 21, 0, 0, 0},
+	} {
+		if _, answer, err := decodeReply(answerTo(frame, body), frame); !errors.Is(err, ErrBadReply) {
+			t.Errorf("%s: %v, %v", what, answer, err)
+		}
+	}
+}
+
 // questions are requests of client 7 in session 1, of each operation.
 func questions(t testing.TB) [][]byte {
 	var frames [][]byte

@@ -23,8 +23,13 @@ func TestNames(t *testing.T) {
 			t.Errorf("%v, not %s", value, shown)
 		}
 	}
-	if code := tb.CreateTransferResult(18); code.Known() || code.String() != "18" {
-		t.Errorf("18 is %v", code)
+	for _, it := range []interface {
+		String() string
+		Known() bool
+	}{tb.CreateTransferResult(99), tb.CreateAccountResult(99), tb.Operation(99), tb.Status(99)} {
+		if it.Known() || it.String() != "99" {
+			t.Errorf("99 is %v", it)
+		}
 	}
 	if flags := tb.TransferPending | 512; flags.String() != "pending|512" {
 		t.Errorf("flags are %v", flags)

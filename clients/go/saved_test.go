@@ -35,6 +35,8 @@ func TestSavedRefusals(t *testing.T) {
 		`{"client":7,"session":1,"number":0,"pending":"","number":1}`: "saved",
 		`[]`:                                    "saved",
 		`null`:                                  "saved",
+		`{"client":`:                            "saved",
+		`{"client":7,"session":1,"number":0}`:   "saved.pending",
 		`{"session":1,"number":0,"pending":""}`: "saved.client",
 		`{"client":7,"session":1e0,"number":0,"pending":""}`:                                         "saved.session",
 		`{"client":7,"session":1,"number":4294967296,"pending":""}`:                                  "saved.number",

@@ -309,6 +309,10 @@ func TestOptionsAreTested(t *testing.T) {
 	server := newLedger(t, t.TempDir())
 	socket := newSocket(t, server)
 	saved := tb.Saved{Client: tb.ToUint128(7), Session: 1}
+	last, err := tb.Resume(socket, tb.Saved{Client: tb.ToUint128(7), Session: 1, Number: 1<<32 - 1})
+	if err != nil {
+		t.Fatal(err)
+	}
 	for name, make := range map[string]func() error{
 		"client":     func() error { return second(tb.NewSession(socket, tb.WithClient(tb.Uint128{}))) },
 		"attempts":   func() error { return second(tb.NewSession(socket, tb.WithAttempts(0))) },
@@ -316,6 +320,7 @@ func TestOptionsAreTested(t *testing.T) {
 		"transport":  func() error { return second(tb.NewSession(nil)) },
 		"operation":  func() error { session, _ := tb.NewSession(socket); return session.Prepare(nil) },
 		"session":    func() error { session, _ := tb.NewSession(socket); return session.Prepare(tb.LookupAccounts{}) },
+		"number":     func() error { return last.Prepare(tb.LookupAccounts{}) },
 		"timeout":    func() error { return socketOf(tb.Unix("a"), tb.WithTimeout(0)) },
 		"tls":        func() error { return socketOf(tb.TCP("a", 1), tb.WithTLS(nil)) },
 		"address[0]": func() error { return socketOf(tb.TCP("a", 65536)) },
@@ -324,6 +329,15 @@ func TestOptionsAreTested(t *testing.T) {
 		if err := make(); !errors.As(err, &fault) || fault.Field != name {
 			t.Errorf("a wrong %s is answered %v", name, err)
 		}
+	}
+	if err := last.Prepare(tb.Registration{}); !errors.Is(err, tb.ErrInvalid) {
+		t.Error("it is registered twice: ", err)
+	}
+	if _, err := tb.Resume(socket, tb.Saved{Session: 1}); !errors.Is(err, tb.ErrInvalid) {
+		t.Error("a session of client 0: ", err)
+	}
+	if err := socketOf(tb.Unix("a"), tb.WithTLS(&tls.Config{})); !errors.Is(err, tb.ErrInvalid) {
+		t.Error("TLS over a path: ", err)
 	}
 	for _, address := range []tb.Address{{}, tb.Unix(""), tb.Unix("a\x00b"), tb.TCP("", 1), tb.TCP("a", 0), tb.TCP("a", -1)} {
 		if err := socketOf(address); !errors.Is(err, tb.ErrInvalid) {

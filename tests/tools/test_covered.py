@@ -3,8 +3,9 @@
 import re
 import subprocess
 
-import covered
+import covered_go
 import pytest
+import unreached
 
 from ..conftest import ROOT
 
@@ -81,9 +82,10 @@ CASES = {
 
 @pytest.mark.parametrize("kept, wanted", CASES.values(), ids=CASES)
 def test_places(package, kept, wanted):
-    (package / "tests/unreached.txt").write_text(kept)
-    places = [covered.Place(*re.split(": |, ", it, 2)) for it in (IF, OTHER)]
-    assert [f"differs: {it}" for it in covered.compared(package, places)] == wanted
+    path = package / "tests/unreached.txt"
+    path.write_text(kept)
+    places = [unreached.Place(*re.split(": |, ", it, 2)) for it in (IF, OTHER)]
+    assert [f"differs: {it}" for it in unreached.compared(package, path, places)] == wanted
 
 
 def test_a_test_that_fails_and_a_place_that_differs_are_named(package):
@@ -95,3 +97,77 @@ def test_a_test_that_fails_and_a_place_that_differs_are_named(package):
     assert ran.returncode == 1 and lines[-1] == "1 passed, 2 failed"
     assert f"differs: is not reached, and not in the list: {IF}" in lines
     assert any(it.startswith("FAILED tests/test_it.py::test_more - ") for it in lines)
+
+
+MODULE = {
+    "go.mod": "module a.test/it\n\ngo 1.19\n",
+    "it.go": """package it
+
+type sign struct{}
+
+func (s *sign) Of(number int) (int, error) {
+\tif number < 0 {
+\t\treturn -1, nil
+\t}
+\terr := wrong(number)
+\tif err != nil {
+\t\treturn 0, err
+\t}
+\terr = wrong(-number)
+\tif err != nil {
+\t\treturn 0, err
+\t}
+\treturn 1, nil
+}
+
+func wrong(int) error { return nil }
+""",
+    "part/part.go": "package part\n\nfunc Half(number int) int { return number / 2 }\n",
+    "part/other.go": "//go:build none\n\npackage part\n\nfunc Whole(n int) int { return n }\n",
+    "it_test.go": """package it
+
+import (
+\t"testing"
+
+\t"a.test/it/part"
+)
+
+func TestIt(t *testing.T) {
+\tif one, _ := new(sign).Of(part.Half(2)); one != 1 {
+\t\tt.Error(one)
+\t}
+}
+""",
+}
+GO_PLACES = [
+    "it.go, sign.Of: if number < 0 {",
+    "it.go, sign.Of: err := wrong(number) -> if err != nil {",
+    "it.go, sign.Of: err = wrong(-number) -> if err != nil {",
+    "part/other.go, module: *",
+]
+
+
+@pytest.fixture(name="module")
+def fixture_module(tmp_path):
+    """A module with a test that reaches one function of each of its packages."""
+    for name, text in MODULE.items():
+        (tmp_path / name).parent.mkdir(exist_ok=True)
+        (tmp_path / name).write_text(text)
+    return tmp_path
+
+
+def test_places_in_go(module):
+    counts, found = covered_go.measured(module, [])
+    assert counts == (1, 0) and list(map(str, found)) == GO_PLACES
+
+
+def test_a_test_in_go_that_fails_is_named(module):
+    (module / "part/part_test.go").write_text(
+        'package part\n\nimport "testing"\n\nfunc TestHalf(t *testing.T) { t.Error(Half(1)) }\n'
+    )
+    ran = subprocess.run([ROOT / "tools/covered.py", module], stdout=subprocess.PIPE, text=True)
+    lines = ran.stdout.splitlines()
+    assert ran.returncode == 1 and lines[-1] == f"1 passed, {1 + len(GO_PLACES)} failed"
+    assert any(it.startswith("--- FAIL: TestHalf ") for it in lines)
+    differing = [f"differs: is not reached, and not in the list: {it}" for it in GO_PLACES]
+    assert [it for it in lines if it.startswith("differs: ")] == differing
