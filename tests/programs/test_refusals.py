@@ -10,8 +10,6 @@ and each N-th after it. refuse.c, which the programs are run over, needs cc and 
 """
 
 import collections
-import contextlib
-import os
 
 import frames
 import pytest
@@ -23,14 +21,14 @@ from .refusing import Refuser, plain
 PROGRAM, AGAIN, KEEPER = map(found, ("tbs", "tb_test_refusals", "tbd"))
 NO_MEMORY = "tbs: NoMemory"  # the line of a form that ends at its fault
 pytestmark = pytest.mark.slow(
-    reason="refuses each allocation and fails each call of whole runs", seconds=120
+    reason="refuses each allocation and fails each call of whole runs", seconds=20
 )
 
 
-def case(name, why, counted=""):
-    """Passes if there is no reason why not."""
-    print(name, counted)
-    assert not why, f"{name}: {why}"
+def no_reason(whys, counted):
+    """Passes if there is no reason why not; what was counted is shown otherwise."""
+    print(counted)
+    assert not whys, "; ".join(whys[:3])
 
 
 class Script:
@@ -147,7 +145,7 @@ def shown(counts):
 OWN = "SetUp", "copy NoMemory", "no call", "no reply"
 
 
-def each_growth(refuser, name, program, words, script, judge, least, wanted):
+def each_growth(refuser, program, words, script, judge, least, wanted):
     """Each allocation refused in turn while a program serves a script: what `judge` says of each
     run, all memory given back, and at least this many refusals of calls, each of the wanted kinds
     among them.
@@ -165,7 +163,7 @@ def each_growth(refuser, name, program, words, script, judge, least, wanted):
     missing = [it for it in wanted if not counts[it]]
     if not counts or refuser.every == 1 and (calls < least or missing):
         whys.append(f"only {calls} refusals of calls, none of {missing}")
-    case(name, "; ".join(whys[:3]), f"{sum(counts.values())} allocations refused: {shown(counts)}")
+    no_reason(whys, f"{sum(counts.values())} allocations refused: {shown(counts)}")
 
 
 def refusal_of(ran):
@@ -175,7 +173,7 @@ def refusal_of(ran):
         return NO_MEMORY if ran.output else "no reply"
     for line in ran.lines:
         if line == "SetUp" or line.endswith(
-            ("NoMemory", "NoPlace", "NoCopy", "NoThread", "before", "behind", "Unpublished")
+            ("NoMemory", "NoPlace", "NoCopy", "NoThread", "before", "after", "Unpublished")
         ):
             return "enter NoMemory" if line.startswith("refused") else line
         if line.startswith(("stopped", "run")):
@@ -288,70 +286,45 @@ def beginnings(words, pairs, head=b""):
     return [right(words, head + b"".join(pairs[:count])) for count in range(len(pairs) + 1)]
 
 
-SCRIPTS = {"the rows": rows, "the broken chains": chains, "evictions": evictions}
-
-
-@pytest.mark.parametrize("name", SCRIPTS)
-def test_growth(refuser, name):
-    clients, script = 2, SCRIPTS[name]()
-    replies, history = right(["run", clients], script.bytes), right(["dump", clients], script.bytes)
-    each_growth(
-        refuser,
-        f"apply, {name}",
-        AGAIN,
-        ["apply", clients],
-        script.bytes,
-        answers(replies),
-        4,
-        ["apply NoMemory"],
-    )
-    taken = ["open NoMemory", "take NoMemory", "take Unpublished after"] + ["answer NoMemory"] * (
-        name != "evictions"
-    )
-    each_growth(
-        refuser,
-        f"open, take and answer, {name}",
-        AGAIN,
-        ["take", clients],
-        script.bytes,
-        answers(replies + history),
-        20,
-        taken,
-    )
-    offered = [
-        "open NoMemory",
-        "service NoMemory",
-        "enter NoMemory",
-        "run NoMemory",
-        "offered_by NoMemory",
-    ]
-    each_growth(
-        refuser,
-        f"offers and a server, {name}",
-        AGAIN,
-        ["offer", clients],
-        script.bytes,
-        offers_stand(script.pairs, clients),
+SCRIPTS = {"rows": rows, "chains": chains, "evictions": evictions}
+CLIENTS = 2
+# Each call of the program: how many refusals its runs have at least, and their kinds.
+CALLS = {
+    "apply": (4, ["apply NoMemory"]),
+    "take": (20, ["open NoMemory", "take NoMemory", "take Unpublished after"]),
+    "offer": (
         30,
-        offered,
-    )
-    served(refuser, name, script, clients)
+        [
+            "open NoMemory",
+            "service NoMemory",
+            "enter NoMemory",
+            "run NoMemory",
+            "offered_by NoMemory",
+        ],
+    ),
+    "call": (30, ["enter NoMemory", "join NoThread"]),
+}
 
 
-@pytest.mark.parametrize("name", ["the rows", "evictions"])
-def test_growth_next_to_a_server(refuser, name):
-    clients, script = 2, SCRIPTS[name]()
-    replies, history = right(["run", clients], script.bytes), right(["dump", clients], script.bytes)
-    each_growth(
-        refuser,
-        f"calls next to a server, {name}",
-        AGAIN,
-        ["call", clients],
-        script.bytes,
-        calls_answer(replies, history),
-        30,
-        ["enter NoMemory", "join NoThread"],
-    )
+def judge_of(call, script):
+    replies, history = (right([it, CLIENTS], script.bytes) for it in ("run", "dump"))
+    if call == "offer":
+        return offers_stand(script.pairs, CLIENTS)
+    if call == "call":
+        return calls_answer(replies, history)
+    return answers(replies if call == "apply" else replies + history)
+
+
+GROWTHS = [(call, name) for call in CALLS for name in SCRIPTS if (call, name) != ("call", "chains")]
+
+
+@pytest.mark.parametrize("call, name", GROWTHS)
+def test_growth(refuser, call, name):
+    script, (least, wanted) = SCRIPTS[name](), CALLS[call]
+    if call == "take" and name != "evictions":
+        wanted = [*wanted, "answer NoMemory"]
+    judge = judge_of(call, script)
+    each_growth(refuser, AGAIN, [call, CLIENTS], script.bytes, judge, least, wanted)
 
 
 def test_storm(refuser):
@@ -374,40 +347,33 @@ def test_storm(refuser):
         counts[how or "wrong"] += ran.refused
     if sum(counts.values()) < refuser.least(400):
         whys.append("too few allocations were refused")
-    case(
-        "storm 2 3",
-        "; ".join(whys[:3]),
-        f"{sum(counts.values())} allocations refused: {shown(counts)}",
-    )
+    no_reason(whys, f"{sum(counts.values())} allocations refused: {shown(counts)}")
 
 
-def served(refuser, name, script, clients):
+SERVED = {
+    "run": (["run", CLIENTS], 8),
+    "dump": (["dump", CLIENTS, 2], 8),
+    "replay": (["replay"], 4),
+}
+
+
+@pytest.mark.parametrize("name", SCRIPTS)
+@pytest.mark.parametrize("form", SERVED)
+def test_growth_of_a_form(refuser, form, name):
     """`tbs run`, `dump` with a mark, and `replay`."""
-    head, entries = dumped(script.bytes, clients)
-    dump = head + b"".join(entries)
-    for words, source, pairs, first, least in (
-        (["run", clients], script.bytes, script.pairs, b"", 8),
-        (["dump", clients, 2], script.bytes, script.pairs, b"", 8),
-        (["replay"], dump, entries, head, 4),
-    ):
-        judge = Faults(refuser, words, pairs, first)
-        each_growth(
-            refuser,
-            f"{words[0]}, {name}",
-            PROGRAM,
-            words,
-            source,
-            judge,
-            least,
-            [NO_MEMORY],
-        )
-        assert refuser.every > 1 or judge.seen == judge.wanted(), f"{words}: {judge.seen}"
+    script, (words, least), first = SCRIPTS[name](), SERVED[form], b""
+    pairs = script.pairs
+    if form == "replay":
+        first, pairs = dumped(script.bytes, CLIENTS)
+    judge = Faults(refuser, words, pairs, first)
+    each_growth(refuser, PROGRAM, words, first + b"".join(pairs), judge, least, [NO_MEMORY])
+    assert refuser.every > 1 or judge.seen == judge.wanted(), f"{words}: {judge.seen}"
 
 
 MOST = 40
 
 
-def each_read(refuser, name, words, script, written, starts):
+def each_read(refuser, words, script, written, starts):
     """Each read fails in turn, of 40 bytes at the most: Device, and the output is that of all
     pairs read in full."""
     whys, count = [], 0
@@ -425,10 +391,10 @@ def each_read(refuser, name, words, script, written, starts):
             )
     if count < refuser.least(len(script) // MOST):
         whys.append(f"only {count} reads were refused")
-    case(name, "; ".join(whys[:3]), f"{count} reads refused")
+    no_reason(whys, f"{count} reads refused")
 
 
-def each_write(refuser, name, words, script, kind, wanted, **most):
+def each_write(refuser, words, script, kind, wanted, **most):
     """Each write fails in turn, or takes nothing, once: replies that are passed on before a read,
     and are not taken then, are offered again, and nothing is lost; otherwise it is Device, and the
     output is a prefix of the right one."""
@@ -441,10 +407,10 @@ def each_write(refuser, name, words, script, kind, wanted, **most):
         whys += stopped_wrongly(f"{kind} {at}", ran, wanted)
     if count < refuser.least(len(wanted) // MOST):
         whys.append(f"only {count} writes were refused")
-    case(name, "; ".join(whys[:3]), f"{count} writes refused, {again} of them offered again")
+    no_reason(whys, f"{count} writes refused, {again} of them offered again")
 
 
-def writes_stop(refuser, name, words, script, kind, wanted, **most):
+def writes_stop(refuser, words, script, kind, wanted, **most):
     """From the first write on, from the second, and so on, all fail or take nothing: Device, and
     the output is a prefix of the right one."""
     whys, count = [], 0
@@ -456,7 +422,7 @@ def writes_stop(refuser, name, words, script, kind, wanted, **most):
             whys.append(f"status {ran.status} with no write refused")
     if count < refuser.least(len(wanted) // MOST):
         whys.append(f"only {count} runs met a refusal")
-    case(name, "; ".join(whys[:3]), f"{count} runs that stopped")
+    no_reason(whys, f"{count} runs that stopped")
 
 
 def stopped_wrongly(name, ran, wanted):
@@ -507,100 +473,76 @@ def each_growth_of_tbd(refuser, words, script, judge, new, least):
         why = judge(ran)
         whys += [f"allocation {at}: {why}"] if why else []
         counts["NoMemory" if ran.status else "made up for"] += ran.refused
-        with contextlib.suppress(FileNotFoundError):
-            os.unlink(new)
+        new.unlink(missing_ok=True)
     if not sum(counts.values()) or refuser.every == 1 and counts["NoMemory"] < least:
         whys.append(f"only {counts['NoMemory']} refusals were reported")
-    case(f"tbd {words[0]}", "; ".join(whys[:3]), f"allocations refused: {shown(counts)}")
+    no_reason(whys, f"allocations refused: {shown(counts)}")
 
 
-def test_ledgers(refuser, tmp_path):
-    """A ledger in a file, if memory is refused."""
-    pairs, file, new = rows().pairs, f"{tmp_path}/kept.tbk", f"{tmp_path}/new.tbk"
+def test_a_ledger_that_is_served(refuser, tmp_path):
+    """`tbd run` over a new file, if memory is refused."""
+    pairs, new = rows().pairs, tmp_path / "new.tbk"
     written, histories = beginnings(["run", 2], pairs), beginnings(["dump", 2], pairs)
     script = b"".join(pairs)
-    each_growth_of_tbd(
-        refuser,
-        ["run", new, 2],
-        script,
-        lambda ran: kept_wrongly(ran, new, script, written, histories),
-        new,
-        20,
-    )
-    plain(KEEPER, ["run", file, 2], script)
-    with open(file, "rb") as it:
-        before = it.read()
-    for words in ["check", file], ["dump", file], ["salvage", file, new], ["backup", file, new]:
-        wanted = plain(KEEPER, words, b"").output
-        with contextlib.suppress(FileNotFoundError):
-            os.unlink(new)
-        each_growth_of_tbd(
-            refuser, words, b"", lambda ran, wanted=wanted: read_wrongly(ran, wanted), new, 10
-        )
-    with open(file, "rb") as it:
-        case("the file is as before", "" if it.read() == before else "another file")
+
+    def judge(ran):
+        return kept_wrongly(ran, new, script, written, histories)
+
+    each_growth_of_tbd(refuser, ["run", new, 2], script, judge, new, 20)
 
 
-def forms():
-    script = rows()
-    starts = [0] + ends(script.pairs)
+@pytest.mark.parametrize("form", ["check", "dump", "salvage", "backup"])
+def test_a_ledger_that_is_read(refuser, tmp_path, form):
+    """A form that reads a file, if memory is refused; the file stays as it was."""
+    file, new = tmp_path / "kept.tbk", tmp_path / "new.tbk"
+    plain(KEEPER, ["run", file, 2], b"".join(rows().pairs))
+    before = file.read_bytes()
+    words = [form, file, new] if form in ("salvage", "backup") else [form, file]
+    wanted = plain(KEEPER, words, b"").output
+    new.unlink(missing_ok=True)
+    each_growth_of_tbd(refuser, words, b"", lambda ran: read_wrongly(ran, wanted), new, 10)
+    assert file.read_bytes() == before
+
+
+FORMS = {
+    "run": ["run", 2],
+    "run-profile-2": ["run", 2, 2],
+    "dump": ["dump", 2],
+    "dump-with-a-mark": ["dump", 2, 2],
+    "replay": ["replay"],
+}
+
+
+def source_of(form):
+    """What a form reads, what it writes after each pair or entry, and where those end."""
+    script, words = rows(), FORMS[form]
+    if form != "replay":
+        return script.bytes, beginnings(words, script.pairs), [0] + ends(script.pairs)
     head, entries = dumped(script.bytes, 2)
-    dump = head + b"".join(entries)
-    return [
-        ("run", ["run", 2], script.bytes, beginnings(["run", 2], script.pairs), starts),
-        (
-            "run by profile 2",
-            ["run", 2, 2],
-            script.bytes,
-            beginnings(["run", 2, 2], script.pairs),
-            starts,
-        ),
-        ("dump", ["dump", 2], script.bytes, beginnings(["dump", 2], script.pairs), starts),
-        (
-            "dump with a mark",
-            ["dump", 2, 2],
-            script.bytes,
-            beginnings(["dump", 2, 2], script.pairs),
-            starts,
-        ),
-        (
-            "replay",
-            ["replay"],
-            dump,
-            beginnings(["replay"], entries, head),
-            [16] + ends(entries, 16),
-        ),
-    ]
-
-
-FORMS = ["run", "run by profile 2", "dump", "dump with a mark", "replay"]
+    written = beginnings(words, entries, head)
+    return head + b"".join(entries), written, [16] + ends(entries, 16)
 
 
 @pytest.mark.parametrize("form", FORMS)
-def test_devices(refuser, form):
-    (found,) = (it for it in forms() if it[0] == form)
-    name, words, source, written, begins = found
-    each_read(refuser, f"{name}, each read fails", words, source, written, begins)
-    for kind, how in ("write", "fails"), ("stall", "takes nothing"):
-        each_write(refuser, f"{name}, each write {how}", words, source, kind, written[-1])
-        each_write(
-            refuser,
-            f"{name}, each write {how} in a conversation",
-            words,
-            source,
-            kind,
-            written[-1],
-            read=MOST,
-        )
-        writes_stop(
-            refuser, f"{name}, each write {how} from one on", words, source, kind, written[-1]
-        )
-        writes_stop(
-            refuser,
-            f"{name}, each write {how} from one on in a conversation",
-            words,
-            source,
-            kind,
-            written[-1],
-            read=MOST,
-        )
+def test_each_read_fails(refuser, form):
+    each_read(refuser, FORMS[form], *source_of(form))
+
+
+OUTPUTS = pytest.mark.parametrize("kind", ["write", "stall"], ids=["fails", "takes-nothing"])
+INPUTS = pytest.mark.parametrize("most", [{}, {"read": MOST}], ids=["at-once", "in-a-conversation"])
+
+
+@INPUTS
+@OUTPUTS
+@pytest.mark.parametrize("form", FORMS)
+def test_each_write(refuser, form, kind, most):
+    source, written, _ = source_of(form)
+    each_write(refuser, FORMS[form], source, kind, written[-1], **most)
+
+
+@INPUTS
+@OUTPUTS
+@pytest.mark.parametrize("form", FORMS)
+def test_each_write_from_one_on(refuser, form, kind, most):
+    source, written, _ = source_of(form)
+    writes_stop(refuser, FORMS[form], source, kind, written[-1], **most)
