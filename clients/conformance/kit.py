@@ -2,9 +2,9 @@
 """Runs the scenarios of the conformance kit over a client, through its runner (PROTOCOL.md).
 
     clients/conformance/kit.py -- python3 -B clients/python/conformance_runner.py
-    clients/conformance/kit.py --only 'reply-late*' -- COMMAND [WORD ..]
+    clients/conformance/kit.py --only 'after-*' -- COMMAND [WORD ..]
     clients/conformance/kit.py --list
-    clients/conformance/kit.py --show --only reply-late
+    clients/conformance/kit.py --show --only reply-body-late
     clients/conformance/kit.py --more 200 -- COMMAND [WORD ..]
     clients/conformance/kit.py --drawn 200 --seed 1 -- COMMAND [WORD ..]
     clients/conformance/kit.py --drawn 1 --seed 7 --steps 2,5 -- COMMAND [WORD ..]

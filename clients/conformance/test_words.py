@@ -259,10 +259,10 @@ class Kit(unittest.TestCase):
         self.assertEqual(len(set(names)), len(names))
 
     def test_a_scenario_whole(self):
-        status, said, faults = ran("kit.py", "--show", "--only", "reply-late")
+        status, said, faults = ran("kit.py", "--show", "--only", "reply-body-late")
         self.assertEqual((status, faults), (0, ""))
         shown = json.loads(said)
-        self.assertEqual([it for it in kit.scenarios()[0] if it["name"] == "reply-late"], [shown])
+        self.assertEqual([it for it in kit.scenarios()[0] if it["name"] == "reply-body-late"], [shown])
 
     def test_no_runner_at_once(self):
         """No scenario would run, and no scenario would fail."""

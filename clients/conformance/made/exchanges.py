@@ -1,11 +1,9 @@
 """What goes wrong on the way: replies that are lost, late, twice or wrong, connections that break,
 and what a server reports."""
 from .frames import (
-    TABLE,
     ACCOUNTS,
     FIND_ACCOUNTS,
     FIND_TRANSFERS,
-    LATER,
     LONG,
     LOST,
     NAMES,
@@ -38,6 +36,7 @@ from .frames import (
     transfer_bytes,
     u128,
 )
+from .table import PAUSES
 
 ASKED = frame_of(1, TRANSFERS)
 DONE = empty(1, TRANSFERS)
@@ -65,13 +64,6 @@ def again(name="d"):
 
 
 def lost():
-    yield scenario(
-        "reply-lost-at-once",
-        "A lost reply is asked for again at once: the pause is for where the server said so.",
-        sale([read(ASKED), {"close": "c"}, *again()]),
-        saved(1),
-        begin="patient",
-    )
     large = frame_of(1, ACCOUNTS, [account(1)])[48:]
     header = frame_of(1, ACCOUNTS, [account(1)] * 8190)[:48]
     many = {"header": header.hex(), "first": large.hex(), "count": 8190}
@@ -110,21 +102,6 @@ def lost():
 
 
 def late():
-    yield scenario(
-        "reply-late",
-        "No reply in time: the connection is closed, and the same bytes go over another one.",
-        sale([read(ASKED), {"ended": "c"}, *again()], at_least=0.25),
-        saved(1),
-        begin="hurried",
-    )
-    yield scenario(
-        "reply-late-once",
-        "No reply in time, and one sending allowed.",
-        sale([read(ASKED), {"ended": "c"}], LOST, at_least=0.25, at_most=3.0),
-        saved(0, ASKED),
-        retry(again(), OK),
-        begin="hurried-once",
-    )
     yield scenario(
         "reply-slow-in-pieces",
         "The limit is for the whole reply: single bytes do not put it off.",
@@ -337,84 +314,7 @@ def bad_replies():
     )
 
 
-# the names of the table except those with scenarios of their own, and two that no client knows yet
-NAMED = [row["name"] for row in TABLE["told"] if row["name"] not in (*LATER, "Starting")]
-NAMED += ["Full", "NewerThanThisClient"]
-
-
 def what_is_told():
-    for name in NAMED:
-        yield scenario(
-            f"told-{name}",
-            "The server tells a name in place of a reply, and closes: ReplyLost with that name,"
-            " and the same "
-            "bytes again.",
-            sale(
-                [read(ASKED), send(told(name)), {"close": "c"}],
-                error("ReplyLost", sent=True, told=name),
-            ),
-            saved(0, ASKED),
-            retry(again(), OK),
-            saved(1),
-            begin="registered-once",
-        )
-    starting = [send(told("Starting")), {"close": "c"}]
-    yield scenario(
-        "told-Starting",
-        "Told Starting, the client calls again within one sending, after a short pause.",
-        sale(
-            [
-                read(ASKED),
-                *starting,
-                accept(not_before=0.015),
-                read(ASKED),
-                *starting,
-                accept(not_before=0.03),
-                *served(ASKED, DONE),
-            ]
-        ),
-        saved(1),
-        begin="registered-once",
-    )
-    busy = [send(told("Busy")), {"half": "c"}, {"drain": "c", "of": ASKED.hex()}]
-    yield scenario(
-        "told-Busy-then-pause",
-        "Told Busy, the client pauses, the second time twice as long, and sends the same bytes.",
-        {"server": [{"close": "c"}]},
-        sale(
-            [
-                accept(),
-                *busy,
-                accept("d", not_before=0.07),
-                send(told("Busy"), "d"),
-                {"half": "d"},
-                {"drain": "d", "of": ASKED.hex()},
-                accept("e", not_before=0.15),
-                *served(ASKED, DONE, "e"),
-            ]
-        ),
-        saved(1),
-        begin="registered-thrice",
-    )
-    for name in LATER[1:]:
-        yield scenario(
-            f"told-{name}",
-            "Told that its peer has its share, the client pauses as after Busy, and sends the same"
-            " bytes.",
-            {"server": [{"close": "c"}]},
-            sale(
-                [
-                    accept(),
-                    send(told(name)),
-                    {"half": "c"},
-                    {"drain": "c", "of": ASKED.hex()},
-                    accept("d", not_before=0.07),
-                    *served(ASKED, DONE, "d"),
-                ]
-            ),
-            saved(1),
-            begin="registered-thrice",
-        )
     yield scenario(
         "told-Busy-before-request",
         "Told Busy and closed before the request was read.",
@@ -455,26 +355,11 @@ def what_is_told():
 
 
 def refusals():
-    not_yet = refusal(1, TRANSFERS, 7)
-    yield scenario(
-        "refused-NotYet",
-        "NotYet is sent again after a pause, twice as long the second time.",
-        sale(
-            [
-                *served(ASKED, not_yet),
-                read(ASKED, not_before=0.07),
-                send(not_yet),
-                read(ASKED, not_before=0.15),
-                send(DONE),
-            ]
-        ),
-        saved(1),
-        begin="registered-thrice",
-    )
+    not_yet, most = refusal(1, TRANSFERS, 7), PAUSES["later"][1]
     yield scenario(
         "refused-NotYet-for-long",
-        "The pauses grow to a second, and no further.",
-        sale(3 * served(ASKED, not_yet) + served(ASKED, DONE), at_most=3.6),
+        "The pauses grow to the longest one, and no further.",
+        sale(3 * served(ASKED, not_yet) + served(ASKED, DONE), at_most=0.6 + 3 * most),
         saved(1),
         begin="registered-slowly",
     )

@@ -211,14 +211,15 @@ def connect(name="t", servers=("a",), timeout=LONG, tls=None):
 
 
 def begins(attempts=2, pause=0.01, timeout=LONG, servers=("a",)):
-    """The steps after which client 7 has session 1, over connection c."""
+    """The steps after which client 7 has session 1, over connection c. A pause of None is the
+    client's own."""
     call = {
         "do": "register",
         "session": "s",
         "transport": "t",
         "client": str(CLIENT),
         "attempts": attempts,
-        "pause": pause,
+        **({} if pause is None else {"pause": pause}),
     }
     server = [{"accept": "c"}, {"read": registers().hex()}, {"send": registered().hex()}]
     return [
@@ -233,7 +234,8 @@ BEGINS = {
     "registered-once": begins(attempts=1),
     "registered-thrice": begins(attempts=3, pause=0.1),
     "registered-slowly": begins(attempts=4, pause=0.6),
-    "patient": begins(pause=30.0),
+    "thrice": begins(attempts=3, pause=None),
+    "patient": begins(attempts=3, pause=30.0),
     "hurried": begins(timeout=SHORT),
     "hurried-once": begins(attempts=1, timeout=SHORT),
 }

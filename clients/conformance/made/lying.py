@@ -8,18 +8,19 @@ LYING = {
         "bad-body-*",
         "results-of-*s-unknown-*",
         "shared-bad-reply",
+        "*after-another-*",
     ),
     "since only seats say NotYet": (
         "refused-NotYet*",
-        "shared-not-yet",
+        "*after-NotYet*",
     ),
     "since no server replies twice, or before it is asked": (
         "tls-reply-twice",
         "tls-bytes-before-request",
     ),
     "since a session from a file is never below the server's, nor its number": (
-        "shared-refused-NewerSession",
-        "shared-refused-NewerRequest",
+        "*after-NewerSession*",
+        "*after-NewerRequest*",
     ),
 }
 

@@ -16,6 +16,7 @@ import threading
 from typing import Optional
 
 from .frames import NAMES, REGISTER, TABLE, TOP, error
+from .table import RULES
 
 # The head of a step: client, session, last number, phase, kind, the length of what comes after it.
 STEP = struct.Struct("<16sQIBBQ")
@@ -199,12 +200,13 @@ class Held:
         are no reply to this request are a BadReply."""
         outcome, self.fields, length = program().step(self.fields, RECEIVE, frame)
         if outcome in (Outcome.NO_REPLY, Outcome.OTHER) or length != len(frame):
-            return False, error("BadReply", sent=True)
+            rule = RULES["another request's reply"]
+            return rule.goes_on, rule.fails
         if outcome == Outcome.RETURNED:
             return False, {"ok": says}
         name = STATUSES[frame[STATUS]]
-        return name == "NotYet", error(name, sent=True)
+        return RULES[name].goes_on, RULES[name].fails
 
     def is_for(self, frame: bytes):
         """Whether bytes would be taken for a reply to this request."""
-        return self.copy().hears(frame)[1] != error("BadReply", sent=True)
+        return self.copy().hears(frame)[1] != RULES["another request's reply"].fails

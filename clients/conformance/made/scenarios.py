@@ -1,10 +1,10 @@
 """The scenarios of the kit that are not drawn."""
 import json
 
-from . import doubt, edges, exchanges, files, others, requests, sharing, values
+from . import doubt, edges, exchanges, files, others, requests, rules, sharing, values
 from .frames import BEGINS
 
-MODULES = (requests, exchanges, doubt, files, values, others, sharing, edges)
+MODULES = (requests, rules, exchanges, doubt, files, values, others, sharing, edges)
 
 
 def scenarios():

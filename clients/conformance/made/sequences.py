@@ -23,7 +23,6 @@ from .frames import (
     TRANSFER_FLAGS,
     TRANSFERS,
     U32,
-    LATER,
     account_bytes,
     accept,
     ask,
@@ -48,11 +47,13 @@ from .frames import (
     whole_transfer,
 )
 from .oracle import STATUS, STATUSES, Asked, Fields, Held, Phase  # noqa: F401
+from .table import RULES
 
 HEADER = 48
 REFUSALS, NOT_YET = range(1, 7), 7
 TOLD = {row["name"]: row["executed"] for row in TABLE["told"]}
-NAMED = [name for name in TOLD if name not in (*LATER, "Starting")]
+NAMED = [it.comes for it in RULES.values() if it.is_told and it.error == "ReplyLost"]
+BUSY = [it.comes for it in RULES.values() if it.is_told and it.error == "Busy"]
 CREATES = {
     ACCOUNTS: (ACCOUNT_CODES, ACCOUNT_FLAGS, account_bytes, whole_account),
     TRANSFERS: (TRANSFER_CODES, TRANSFER_FLAGS, transfer_bytes, whole_transfer),
@@ -615,8 +616,12 @@ class Drawn:
         return self.ledger.reply_to(held.client, held.asked, held.session)
 
     @staticmethod
-    def lost(name=""):
-        return True, error("ReplyLost", sent=True, told=name)
+    def after(name):
+        """Whether a call goes on after this, and what it returns if it does not."""
+        return RULES[name].goes_on, RULES[name].fails
+
+    def lost(self):
+        return self.after("nothing")
 
     def answers(self, line, held):
         self.reads(line, held)
@@ -672,15 +677,15 @@ class Drawn:
         return self.lost()
 
     def tells(self, line, held):
-        name = self.draw.choice((*NAMED, "Full"))
+        name = self.draw.choice(NAMED)
         self.reads(line, held)
         if TOLD.get(name, "perhaps") == "perhaps" and self.draw.random() < 0.5:
             self.executed(held)
         self.lose(line, send(told(name), line.connection), {"close": line.connection})
-        return self.lost(name)
+        return self.after(name)
 
     def is_busy(self, line, held):
-        name, why = line.connection, self.draw.choice(LATER)
+        name, why = line.connection, self.draw.choice(BUSY)
         # before a connection that is there already is used the client looks at it
         if not line.is_new or self.over == "tls" or self.draw.random() < 0.5:
             self.reads(line, held)
@@ -688,7 +693,7 @@ class Drawn:
         else:
             drained = {"drain": name, "of": held.asked.frame.hex()}
             self.lose(line, send(told(why), name), {"half": name}, drained)
-        return True, error("Busy", sent=True, told=why)
+        return self.after(why)
 
     def is_starting(self, line, held):
         """The same sending goes on over another connection."""

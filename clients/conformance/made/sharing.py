@@ -26,7 +26,6 @@ from .frames import (
 
 TURN = 0.05  # seconds within which a call that was begun waits after the others
 SOON = 15.0  # seconds that a call takes at most; it makes a scenario one that may be tried again
-STATUSES = {"NewerSession": 3, "Older": 4, "Collision": 5, "NewerRequest": 6}
 CLOSE = {"close": "c"}
 
 
@@ -207,135 +206,6 @@ def joined():
             end("d", {"ok": {"records": []}}),
         )
     yield (
-        "kinds-apart",
-        "Calls of different kinds are not joined, and go out in their order.",
-        FIRST,
-        begin("b", FIND_ACCOUNTS, ["1"]),
-        begin("c", FIND_TRANSFERS, ["12"]),
-        begin("d", TRANSFERS, one(12)),
-        begin("e", ACCOUNTS, [account(5)]),
-        server(
-            says([]),
-            asked(2, FIND_ACCOUNTS, ["1"]),
-            says([]),
-            asked(3, FIND_TRANSFERS, ["12"]),
-            says([]),
-            asked(4, TRANSFERS, one(12)),
-            says([]),
-            asked(5, ACCOUNTS, [account(5)]),
-            says([]),
-        ),
-        end("a"),
-        end("b", {"ok": {"records": []}}),
-        end("c", {"ok": {"records": []}}),
-        end("d"),
-        end("e"),
-    )
-    yield (
-        "never-cut",
-        "A list is never cut: what does not fit whole waits for the next request.",
-        FIRST,
-        begin("b", FIND_ACCOUNTS, rising(1, 8001)),
-        begin("c", FIND_ACCOUNTS, rising(10001, 200)),
-        server(
-            says([]),
-            asked(2, FIND_ACCOUNTS, rising(1, 8001)),
-            says([]),
-            asked(3, FIND_ACCOUNTS, rising(10001, 200)),
-            says([]),
-        ),
-        end("a"),
-        end("b", {"ok": {"records": []}}),
-        end("c", {"ok": {"records": []}}),
-    )
-    yield (
-        "fills",
-        "Two lists that fill a request to its last place are joined.",
-        FIRST,
-        begin("b", FIND_ACCOUNTS, rising(1, 4095)),
-        begin("c", FIND_ACCOUNTS, rising(10001, 4095)),
-        server(
-            says([]),
-            asked(
-                2,
-                FIND_ACCOUNTS,
-                rising(1, 4095),
-                rising(10001, 4095),
-            ),
-            says([], []),
-        ),
-        end("a"),
-        end("b", {"ok": {"records": []}}),
-        end("c", {"ok": {"records": []}}),
-    )
-    open_chain = [transfer(20), transfer(21, flags=["linked"])]
-    failed = [row(1, "linked_event_chain_open")]
-    yield (
-        "open-chain",
-        "Nothing is joined to a list that ends in an open chain.",
-        FIRST,
-        begin("b", TRANSFERS, open_chain),
-        begin("c", TRANSFERS, one(30)),
-        server(
-            says([]),
-            asked(2, TRANSFERS, open_chain),
-            says(failed),
-            asked(3, TRANSFERS, one(30)),
-            says([]),
-        ),
-        end("a"),
-        end("b", told_results((1, "linked_event_chain_open"))),
-        end("c"),
-    )
-    yield (
-        "open-chain-of-accounts",
-        "Nothing is joined to a list of accounts that ends in an open chain.",
-        FIRST,
-        begin("b", ACCOUNTS, [account(5, flags=["linked"])]),
-        begin("c", ACCOUNTS, [account(6)]),
-        server(
-            says([]),
-            asked(2, ACCOUNTS, [account(5, flags=["linked"])]),
-            says([row(0, "linked_event_chain_open", ACCOUNT_CODES)]),
-            asked(3, ACCOUNTS, [account(6)]),
-            says([]),
-        ),
-        end("a"),
-        end("b", told_results((0, "linked_event_chain_open"))),
-        end("c"),
-    )
-    yield (
-        "open-chain-last",
-        "A list that ends in an open chain is joined to others, as the last one.",
-        FIRST,
-        begin("b", TRANSFERS, one(30)),
-        begin("c", TRANSFERS, open_chain),
-        begin("d", TRANSFERS, one(40)),
-        server(
-            says([]),
-            asked(2, TRANSFERS, one(30), open_chain, ordered=True),
-            says([], failed),
-            asked(3, TRANSFERS, one(40)),
-            says([]),
-        ),
-        end("a"),
-        end("b"),
-        end("c", told_results((1, "linked_event_chain_open"))),
-        end("d"),
-    )
-    closed = [transfer(20, flags=["linked"]), transfer(21)]
-    yield (
-        "closed-chain",
-        "A list whose chain is closed is joined to others.",
-        FIRST,
-        begin("b", TRANSFERS, closed),
-        begin("c", TRANSFERS, one(30)),
-        server(says([]), asked(2, TRANSFERS, closed, one(30)), says([], [])),
-        end("a"),
-        end("b"),
-        end("c"),
-    )
-    yield (
         "empty-list",
         "An empty list is a request of its own, or joined to others.",
         ask(TRANSFERS, [], [*opened(), asked(1, TRANSFERS, []), says([])]),
@@ -357,16 +227,6 @@ def joined():
 
 def lost():
     again = [accept("d"), asked(1, TRANSFERS, one(11), on="d", again=True)]
-    yield (
-        "reply-lost",
-        "The reply is lost: the same bytes again.",
-        ask(
-            TRANSFERS,
-            one(11),
-            [*opened(), asked(1, TRANSFERS, one(11)), CLOSE, *again, says(exists(0), on="d")],
-            told_results((0, "exists")),
-        ),
-    )
     lookup = [accept("d"), asked(1, FIND_TRANSFERS, ["11"], on="d", again=True)]
     yield (
         "lookup-lost",
@@ -438,39 +298,6 @@ def lost():
             ],
         ),
     )
-    for name in ("Busy", "TooManyRequests"):
-        yield (
-            f"told-{name}",
-            f"Told {name}: the same bytes again after a pause.",
-            ask(
-                TRANSFERS,
-                one(11),
-                [
-                    *opened(),
-                    asked(1, TRANSFERS, one(11)),
-                    {"send": told(name), "on": "c"},
-                    CLOSE,
-                    accept("d", not_before=0.04),
-                    asked(1, TRANSFERS, one(11), on="d", again=True),
-                    says([], on="d"),
-                ],
-            ),
-        )
-    yield (
-        "not-yet",
-        "NotYet: the same bytes again after a pause.",
-        ask(
-            TRANSFERS,
-            one(11),
-            [
-                *opened(),
-                asked(1, TRANSFERS, one(11)),
-                says(status=7),
-                asked(1, TRANSFERS, one(11), again=True, not_before=0.04),
-                says([]),
-            ],
-        ),
-    )
     yield (
         "nobody-after-a-loss",
         "The reply is lost, and nobody listens for a while: the same bytes again.",
@@ -492,18 +319,6 @@ def lost():
 
 
 def evicted():
-    new = [*registers(session=5), asked(1, TRANSFERS, one(11), session=5)]
-    for name, status in (("NoSession", 1), ("SessionTooLow", 2)):
-        yield (
-            f"evicted-{name}",
-            f"{name}: a session of a new id, and the same records in it.",
-            ask(
-                TRANSFERS,
-                one(11),
-                [*opened(), asked(1, TRANSFERS, one(11)), says(status=status), *new, says([])],
-            ),
-            ask(TRANSFERS, one(12), [asked(2, TRANSFERS, one(12), session=5), says([])]),
-        )
     yield (
         "evicted-lookup",
         "A lookup of a session that was evicted is asked again in a new one.",
@@ -656,22 +471,6 @@ def evicted():
 
 
 def refused():
-    for name, status in STATUSES.items():
-        yield (
-            f"refused-{name}",
-            f"{name} is reported, and the next call has a session of a new id.",
-            ask(
-                TRANSFERS,
-                one(11),
-                [*opened(), asked(1, TRANSFERS, one(11)), says(status=status)],
-                error(name, sent=True),
-            ),
-            ask(
-                TRANSFERS,
-                one(12),
-                [*registers(session=5), asked(1, TRANSFERS, one(12), session=5), says([])],
-            ),
-        )
     yield (
         "bad-reply",
         "A bad reply is reported, and the next call has a session of a new id.",
