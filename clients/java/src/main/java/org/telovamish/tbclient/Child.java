@@ -6,6 +6,7 @@ import java.io.InputStream;
 import java.io.InputStreamReader;
 import java.io.OutputStream;
 import java.nio.charset.StandardCharsets;
+import java.util.ArrayList;
 import java.util.Arrays;
 import java.util.List;
 import java.util.concurrent.CompletableFuture;
@@ -20,6 +21,11 @@ final class Child {
     private static final Pattern NEWS = Pattern.compile("tbd: (made |reading |copied |cut ).*");
     private static final long LAST_WORDS = 1000; // ms in which what it said before its end is read
     private static final int MOMENT = 8; // bytes
+    /** Becomes a command that ignores what a terminal sends to all processes, as Ctrl-C. */
+    private static final List<String> APART = List.of(
+            "/bin/sh", "-c", "trap '' HUP INT QUIT TSTP; exec \"$0\" \"$@\"");
+    /** From here on up to 127: APART could not become it. */
+    static final int NOT_RUN = 126;
 
     private final Process process;
     private final OutputStream in;
@@ -40,7 +46,9 @@ final class Child {
      */
     Child(List<String> words, Consumer<String> hear) throws IOException {
         this.hear = hear;
-        process = new ProcessBuilder(words).start();
+        List<String> command = new ArrayList<>(APART);
+        command.addAll(words);
+        process = new ProcessBuilder(command).start();
         in = process.getOutputStream();
         out = process.getInputStream();
         listener = new Thread(this::listen, "tbclient-tbd");

@@ -243,6 +243,9 @@ final class LedgerFile implements Transport {
             return new ReplyLostException(
                     "the program was killed by signal " + (status - SIGNAL), "", null);
         }
+        if (status >= Child.NOT_RUN) {
+            throw new CannotStartException(words.get(0) + " does not start: " + it.fault(), null);
+        }
         if (it.fault().equals(MEMORY)) {
             return new ReplyLostException("the program had no memory, and ended", MEMORY, null);
         }

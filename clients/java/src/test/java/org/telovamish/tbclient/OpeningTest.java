@@ -320,6 +320,21 @@ public class OpeningTest {
         }
     }
 
+    /** Ctrl-C at a terminal goes to all of its processes: the child serves on. */
+    @Test
+    public void interrupted() throws Exception {
+        try (Client ledger = Client.open(file, options)) {
+            ledger.createAccounts(Keepers.accounts());
+            long child = Keepers.serving(file).get(0);
+            for (String signal : List.of("-INT", "-QUIT", "-HUP", "-TSTP")) {
+                String[] words = {"kill", signal, Long.toString(child)};
+                assertEquals(0, new ProcessBuilder(words).start().waitFor());
+            }
+            move(ledger);
+            assertEquals(List.of(child), Keepers.serving(file));
+        }
+    }
+
     /** A file that is no ledger, and one of other rules. */
     @Test
     public void refused() throws IOException {
