@@ -57,7 +57,18 @@ enum tb_client_code {
     /** out of memory: `sent` says whether the request may have been executed */
     TB_CLIENT_NO_MEMORY = 12,
     /** events were not accepted (tb_client_require_ok) */
-    TB_CLIENT_EVENTS_FAILED = 13
+    TB_CLIENT_EVENTS_FAILED = 13,
+    /** tbd, which serves an opened file, ended by a fault: `told` names it, `status` is its exit
+     * status, `sent` says whether the request may have been executed. A later call starts it again
+     */
+    TB_CLIENT_PROGRAM_ENDED = 14,
+    /** the file is open elsewhere: by the process `owner`, if the system says so. Nothing was sent
+     */
+    TB_CLIENT_LOCKED = 15,
+    /** tbd is not there, or does not start. Nothing was sent */
+    TB_CLIENT_CANNOT_START = 16,
+    /** the ledger's last time is far ahead of this computer's clock. Nothing was sent */
+    TB_CLIENT_CLOCK_JUMPED = 17
 };
 
 /** What was wrong with a call. Each function takes a place for it, which may be null. */
@@ -65,8 +76,9 @@ typedef struct tb_client_error {
     enum tb_client_code code;
     bool sent;      /**< the request may have been sent */
     bool final;     /**< of CANNOT_CONNECT: one side does not trust the other, now and later */
-    uint8_t status; /**< of REFUSED: tb_reply_status */
+    uint8_t status; /**< of REFUSED: tb_reply_status; of PROGRAM_ENDED and LOCKED: tbd's */
     int system;     /**< of FILE: errno */
+    int64_t owner;  /**< of LOCKED: a process, or 0 */
     char field[32]; /**< of INVALID: the value's name */
     char told[32];  /**< of REPLY_LOST and BUSY: the name that the server gave, or "" */
     char text[232]; /**< a sentence */
@@ -122,6 +134,35 @@ typedef struct tb_client_options {
  * asked. `options` may be null. */
 TB_CLIENT_API enum tb_client_code tb_client_connect(const char *addresses,
     const tb_client_options *options, tb_client **client, tb_client_error *error);
+
+/** Options of a ledger in a file. TB_OPEN_OPTIONS has the defaults. */
+typedef struct tb_open_options {
+    const char *program;      /**< the path of tbd; null: that of the variable TBD, or on PATH */
+    int clients_max, profile; /**< the rules by which a file is made, and was */
+    bool existing;            /**< make no file: one that is not there is a fault */
+    bool drop_torn;           /**< cut off torn bytes at a start without a copy of them */
+    int64_t lock_timeout;     /**< for which a file is waited that another process has open */
+    int64_t ahead_max;        /**< of the ledger's time before this computer's clock; -1: any */
+    int64_t limit;            /**< until the file was read */
+    /** gets the lines that say what a start did to the file; null: they go to standard error */
+    void (*report)(void *context, const char *line);
+    /** gets how many MB of how many were read of a large file, and at the end all; may be null */
+    void (*progress)(void *context, unsigned done, unsigned size);
+    void *context; /**< of both, which the thread of a call or of the client calls */
+} tb_open_options;
+
+#define TB_OPEN_OPTIONS                                                                          \
+    {                                                                                            \
+        NULL, TB_CLIENTS_MAX, 1, false, false, 5 * TB_SECOND, 60 * TB_SECOND, TB_NO_LIMIT, NULL, \
+            NULL, NULL                                                                           \
+    }
+
+/** Opens the ledger in a file, which is made if it is not there, once the file was read. tbd serves
+ * it as a child of this process. If the child is killed it is started again, and a call that waits
+ * gets its first reply; it ends with this process, also if that is killed. Moments are the
+ * system's, and never fall. `options` may be null. */
+TB_CLIENT_API enum tb_client_code tb_client_open(
+    const char *path, const tb_open_options *options, tb_client **client, tb_client_error *error);
 
 /** Creates accounts. `results` has room for `count` rows; `failed` is how many were not created.
  * The call ends within `limit` nanoseconds. */

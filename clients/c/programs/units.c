@@ -1,5 +1,6 @@
 /* The parts of the client that the conformance kit does not reach one by one: values from the
  * documentation, or worked out by hand. */
+#include "../src/ledger.h"
 #include "../src/shared.h"
 #include "values.h"
 
@@ -29,6 +30,20 @@ static void numbers(void) {
     static const char *const wrong[] = {"", "-1", "+1", " 1", "1 ", "0x1", "1.0"};
     for (size_t at = 0; at < sizeof wrong / sizeof *wrong; at++)
         holds(!tb_u128_read(wrong[at], 128, &number), wrong[at]);
+}
+
+static void moments(void) {
+    int64_t now = tb_wall_now(), ahead = now + 100 * TB_SECOND, behind = now - 100 * TB_SECOND;
+    tb_moments it = {now, tb_now()};
+    tb_moments_go_on(&it, ahead);
+    HOLDS(tb_moments_next(&it) == ahead); /* the clock is behind the ledger: they never fall */
+    tb_moments_go_on(&it, now);
+    HOLDS(tb_moments_next(&it) == ahead);
+    it = (tb_moments){behind, tb_now()}; /* the clock was set ahead: they rise as time goes by */
+    int64_t first = tb_moments_next(&it);
+    HOLDS(first >= behind && first < behind + 50 * TB_SECOND);
+    it = (tb_moments){behind, tb_now() - 200 * TB_SECOND};
+    HOLDS(tb_moments_next(&it) >= now && it.last <= tb_wall_now());
 }
 
 static bool is_json(const char *text) {
@@ -138,6 +153,7 @@ static void codes(void) {
 
 int main(void) {
     numbers();
+    moments();
     jsons();
     addresses();
     options();

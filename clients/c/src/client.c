@@ -4,6 +4,8 @@
 
 #include "shared.h"
 
+#define CLOSE_SECONDS 5 /* that a child may take for its last reply */
+
 /* Making a client */
 
 static char *copy_of(const char *text, bool *is_missing) {
@@ -28,15 +30,21 @@ static tb_code configured(
     return tb_transport_new(c->addresses, &c->connect, &c->workers[0].transport, error);
 }
 
-enum tb_client_code tb_client_connect(const char *addresses, const tb_client_options *options,
-    tb_client **client, tb_client_error *error) {
-    static const tb_client_options defaults = TB_CLIENT_OPTIONS;
+static tb_client *fresh(void) {
     tb_client *c = calloc(1, sizeof *c);
-    *client = NULL;
-    if (!c) return tb_no_memory(error, false);
+    if (!c) return NULL;
     pthread_mutex_init(&c->lock, NULL);
     tb_condition_init(&c->changed);
     tb_condition_init(&c->closed);
+    return c;
+}
+
+enum tb_client_code tb_client_connect(const char *addresses, const tb_client_options *options,
+    tb_client **client, tb_client_error *error) {
+    static const tb_client_options defaults = TB_CLIENT_OPTIONS;
+    tb_client *c = fresh();
+    *client = NULL;
+    if (!c) return tb_no_memory(error, false);
     tb_code code = configured(c, addresses, options ? options : &defaults, error);
     if (code)
         tb_client_free(c);
@@ -75,6 +83,35 @@ static tb_code grown(tb_client *c, tb_client_error *error) {
     return c->count ? TB_CLIENT_OK : tb_no_memory(error, false); /* of a thread */
 }
 
+enum tb_client_code tb_client_open(
+    const char *path, const tb_open_options *options, tb_client **client, tb_client_error *error) {
+    static const tb_open_options defaults = TB_OPEN_OPTIONS;
+    tb_client *c = fresh();
+    *client = NULL;
+    if (!c) return tb_no_memory(error, false);
+    c->sessions = 1;
+    tb_code code =
+        tb_transport_of_file(path, options ? options : &defaults, &c->workers[0].transport, error);
+    pthread_mutex_lock(&c->lock);
+    if (!code) code = grown(c, error); /* now: the worker ends the child */
+    pthread_mutex_unlock(&c->lock);
+    if (code)
+        tb_client_free(c);
+    else
+        *client = c;
+    return code;
+}
+
+/* Waits for a worker's end. A child that does not reply in some seconds is killed. */
+static void join(tb_worker *worker) {
+    struct timespec end;
+    clock_gettime(CLOCK_REALTIME, &end);
+    end.tv_sec += CLOSE_SECONDS;
+    if (!pthread_timedjoin_np(worker->thread, NULL, &end)) return;
+    tb_transport_kill(worker->transport);
+    pthread_join(worker->thread, NULL);
+}
+
 void tb_client_close(tb_client *c) {
     pthread_mutex_lock(&c->lock);
     bool is_mine = !c->is_joined;
@@ -85,7 +122,7 @@ void tb_client_close(tb_client *c) {
     size_t count = c->count;
     pthread_mutex_unlock(&c->lock);
     for (size_t at = 0; at < count; at++) tb_transport_connect_no_more(c->workers[at].transport);
-    for (size_t at = 0; is_mine && at < count; at++) pthread_join(c->workers[at].thread, NULL);
+    for (size_t at = 0; is_mine && at < count; at++) join(&c->workers[at]);
 }
 
 /* Calls */

@@ -20,6 +20,10 @@ const char *tb_client_strerror(enum tb_client_code code) {
     case TB_CLIENT_FILE: return "the system refused a file";
     case TB_CLIENT_NO_MEMORY: return "out of memory";
     case TB_CLIENT_EVENTS_FAILED: return "events were not accepted";
+    case TB_CLIENT_PROGRAM_ENDED: return "the program that serves the file ended by a fault";
+    case TB_CLIENT_LOCKED: return "the file is open elsewhere";
+    case TB_CLIENT_CANNOT_START: return "the program that serves the file does not start";
+    case TB_CLIENT_CLOCK_JUMPED: return "the ledger's time is ahead of the clock";
     }
     return "unknown";
 }

@@ -70,6 +70,11 @@ typedef struct tb_receiver {
 /* Sends a request and takes its reply. `limit` is the moment at which the call ends. */
 tb_code tb_transport_exchange(tb_transport *transport, const uint8_t *frame, size_t length,
     int64_t limit, const tb_receiver *receiver, tb_client_error *error);
+/* A transport to a ledger in a file, which is read by then. */
+tb_code tb_transport_of_file(const char *path, const tb_open_options *options,
+    tb_transport **transport, tb_client_error *error);
+/* Kills the child of one to a file. */
+void tb_transport_kill(tb_transport *transport);
 /* Each later connecting is TB_CLIENT_CLOSED; a request in flight is waited for. */
 void tb_transport_connect_no_more(tb_transport *transport);
 

@@ -5,16 +5,18 @@
 #include <stdatomic.h>
 #include <unistd.h>
 
-#include "connection.h"
+#include "ledger.h"
 
 #define FIRST_PAUSE (20 * TB_MILLISECOND) /* before the addresses are called again */
 #define LAST_PAUSE (500 * TB_MILLISECOND)
+#define MOMENT 8 /* bytes, before a request to a child */
 
 struct tb_transport {
     tb_address *addresses;
     size_t count;
     int64_t timeout;
     SSL_CTX *tls;
+    tb_ledger *ledger; /* of a file, in place of all above */
 
     pthread_mutex_t lock;
     pthread_cond_t freed;
@@ -59,21 +61,61 @@ static tb_code configured(tb_transport *t, const char *addresses, const tb_conne
     return code;
 }
 
-enum tb_client_code tb_transport_new(const char *addresses, const tb_connect_options *options,
-    tb_transport **transport, tb_client_error *error) {
-    static const tb_connect_options defaults = TB_CONNECT_OPTIONS;
+static tb_transport *fresh(void) {
     tb_transport *t = calloc(1, sizeof *t);
-    *transport = NULL;
-    if (!t) return tb_no_memory(error, false);
+    if (!t) return NULL;
     t->connection.fd = t->closed[0] = t->ending[0] = -1;
     pthread_mutex_init(&t->lock, NULL);
     tb_condition_init(&t->freed);
+    return t;
+}
+
+enum tb_client_code tb_transport_new(const char *addresses, const tb_connect_options *options,
+    tb_transport **transport, tb_client_error *error) {
+    static const tb_connect_options defaults = TB_CONNECT_OPTIONS;
+    tb_transport *t = fresh();
+    *transport = NULL;
+    if (!t) return tb_no_memory(error, false);
     tb_code code = configured(t, addresses, options ? options : &defaults, error);
     if (code)
         tb_transport_free(t);
     else
         *transport = t;
     return code;
+}
+
+static tb_waits waits_of(const tb_transport *t, int64_t deadline, bool connects) {
+    return (tb_waits){deadline, {t->closed[0], connects ? t->ending[0] : -1}};
+}
+
+tb_code tb_transport_of_file(const char *path, const tb_open_options *options,
+    tb_transport **transport, tb_client_error *error) {
+    tb_transport *t = fresh();
+    *transport = NULL;
+    if (!t) return tb_no_memory(error, false);
+    tb_code code = made_pipes(t, error);
+    if (!code) code = tb_ledger_new(path, options, &t->ledger, error);
+    if (!code) {
+        tb_waits waits = waits_of(t, tb_after(tb_now(), options->limit), true);
+        code = tb_ledger_open(t->ledger, &t->connection, &waits, error);
+    }
+    if (code)
+        tb_transport_free(t);
+    else
+        *transport = t;
+    return code;
+}
+
+/* Ends the connection, and the child at its other end. */
+static void end_connection(tb_transport *t) {
+    if (t->ledger)
+        tb_ledger_end(t->ledger, &t->connection);
+    else
+        tb_connection_close(&t->connection);
+}
+
+void tb_transport_kill(tb_transport *t) {
+    if (t->ledger) tb_ledger_kill(t->ledger);
 }
 
 static void closed_pipe(const int *files) {
@@ -84,7 +126,8 @@ static void closed_pipe(const int *files) {
 
 void tb_transport_free(tb_transport *t) {
     if (!t) return;
-    tb_connection_close(&t->connection);
+    end_connection(t);
+    tb_ledger_free(t->ledger);
     closed_pipe(t->closed);
     closed_pipe(t->ending);
     tb_addresses_free(t->addresses, t->count);
@@ -105,7 +148,7 @@ static void wake(atomic_bool *is_set, const int *files) {
 void tb_transport_close(tb_transport *t) {
     pthread_mutex_lock(&t->lock);
     wake(&t->is_closed, t->closed);
-    if (!t->is_taken) tb_connection_close(&t->connection);
+    if (!t->is_taken) end_connection(t);
     pthread_cond_broadcast(&t->freed);
     pthread_mutex_unlock(&t->lock);
 }
@@ -139,7 +182,7 @@ static tb_code take(tb_transport *t, int64_t limit, tb_client_error *error) {
 static void give_back(tb_transport *t) {
     pthread_mutex_lock(&t->lock);
     t->is_taken = false;
-    if (t->is_closed) tb_connection_close(&t->connection);
+    if (t->is_closed) end_connection(t);
     pthread_cond_signal(&t->freed);
     pthread_mutex_unlock(&t->lock);
 }
@@ -150,10 +193,6 @@ static void to_next(tb_transport *t) { t->at = (t->at + 1) % t->count; }
 static void lose(tb_transport *t) {
     tb_connection_close(&t->connection);
     to_next(t);
-}
-
-static tb_waits waits_of(const tb_transport *t, int64_t deadline, bool connects) {
-    return (tb_waits){deadline, {t->closed[0], connects ? t->ending[0] : -1}};
 }
 
 /* Sleeps. Whether the moment did not come meanwhile. */
@@ -332,13 +371,35 @@ static tb_code sent_once(tb_transport *t, sending *sent, tb_client_error *error)
     }
 }
 
+/* Sends a request with its moment to the child that serves the file, and takes its reply. */
+static tb_code sent_to_child(tb_transport *t, sending *sent, tb_client_error *error) {
+    tb_waits waits = waits_of(t, sent->within, true);
+    tb_code code = tb_ledger_serve(t->ledger, &t->connection, &waits, error);
+    if (code) return code;
+    uint8_t *pair = malloc(MOMENT + sent->length);
+    if (!pair) return tb_no_memory(error, false);
+    uint64_t moment = (uint64_t)tb_ledger_moment(t->ledger);
+    memcpy(pair, &moment, MOMENT);
+    memcpy(pair + MOMENT, sent->frame, sent->length);
+    sending timed = *sent;
+    timed.frame = pair;
+    timed.length += MOMENT;
+    code = exchanged(t, &timed, error);
+    free(pair);
+    if (!code) return code;
+    bool is_broken = code == TB_CLIENT_REPLY_LOST;
+    if (!is_broken) tb_ledger_kill(t->ledger); /* what it says next is to no request */
+    tb_code why = tb_ledger_lost(t->ledger, &t->connection, true, is_broken ? error : NULL);
+    return is_broken ? why : code;
+}
+
 tb_code tb_transport_exchange(tb_transport *t, const uint8_t *frame, size_t length, int64_t limit,
     const tb_receiver *receiver, tb_client_error *error) {
     tb_code code = take(t, limit, error);
     if (code) return code;
-    int64_t within = tb_after(tb_now(), t->timeout);
+    int64_t within = t->ledger ? limit : tb_after(tb_now(), t->timeout);
     sending sent = {frame, length, limit, limit < within ? limit : within, receiver, false};
-    code = sent_once(t, &sent, error);
+    code = t->ledger ? sent_to_child(t, &sent, error) : sent_once(t, &sent, error);
     give_back(t);
     return code;
 }

@@ -1,6 +1,6 @@
 //! A client that threads share.
-use std::ffi::CString;
-use std::ptr::null_mut;
+use std::ffi::{c_void, CString};
+use std::ptr::{null, null_mut};
 use std::sync::atomic::{AtomicBool, Ordering};
 use std::sync::Arc;
 use std::time::Duration;
@@ -26,6 +26,44 @@ impl Default for Options {
         Options {
             connect: Connect::default(),
             sessions: 1,
+            limit: Duration::MAX,
+        }
+    }
+}
+
+/// How a file is opened.
+#[derive(Clone, Debug)]
+pub struct OpenOptions {
+    /// The path of tbd. Without it: that of the variable TBD, or on PATH.
+    pub program: Option<String>,
+    /// The rules by which a file is made, and was: places for clients, and the profile, 1 or 2.
+    pub clients_max: i32,
+    pub profile: i32,
+    /// Make no file: one that is not there is a fault.
+    pub existing: bool,
+    /// Cut off torn bytes at a start without a copy of them.
+    pub drop_torn: bool,
+    /// For which a file is waited that another process has open.
+    pub lock_timeout: Duration,
+    /// Of the ledger's time before this computer's clock; any, without it.
+    pub ahead_max: Option<Duration>,
+    /// Gets how many MB of how many were read of a large file, and at the end all of them.
+    pub progress: Option<fn(u32, u32)>,
+    /// What a call may take. Without it a call waits until its reply is there.
+    pub limit: Duration,
+}
+
+impl Default for OpenOptions {
+    fn default() -> OpenOptions {
+        OpenOptions {
+            program: None,
+            clients_max: 64,
+            profile: 1,
+            existing: false,
+            drop_torn: false,
+            lock_timeout: Duration::from_secs(5),
+            ahead_max: Some(Duration::from_secs(60)),
+            progress: None,
             limit: Duration::MAX,
         }
     }
@@ -67,6 +105,38 @@ impl Client {
         call(|error| unsafe {
             ffi::tb_client_connect(addresses.as_ptr(), &with, &mut raw, error)
         })?;
+        Ok(Client {
+            inner: Arc::new(Inner(raw)),
+            limit: options.limit,
+        })
+    }
+
+    /// The ledger in a file, which is made if it is not there, once the file was read. tbd serves it
+    /// as a child of this process. If the child is killed it is started again, and a call that
+    /// waits gets its first reply; it ends with this process, also if that is killed.
+    pub fn open(path: &str) -> Result<Client, Error> {
+        Client::open_with(path, &OpenOptions::default())
+    }
+
+    pub fn open_with(path: &str, options: &OpenOptions) -> Result<Client, Error> {
+        let path = CString::new(path).map_err(|_| Error::with_zero("path"))?;
+        let program = options.program.as_deref().map(CString::new).transpose();
+        let program = program.map_err(|_| Error::with_zero("program"))?;
+        let mut raw = null_mut();
+        let with = ffi::OpenOptions {
+            program: program.as_ref().map_or(null(), |it| it.as_ptr()),
+            clients_max: options.clients_max,
+            profile: options.profile,
+            existing: options.existing,
+            drop_torn: options.drop_torn,
+            lock_timeout: ffi::nanoseconds(options.lock_timeout),
+            ahead_max: options.ahead_max.map_or(-1, ffi::nanoseconds),
+            limit: i64::MAX,
+            report: None,
+            progress: options.progress.map(|_| ffi::progressed as _),
+            context: options.progress.map_or(null_mut(), |it| it as *mut c_void),
+        };
+        call(|error| unsafe { ffi::tb_client_open(path.as_ptr(), &with, &mut raw, error) })?;
         Ok(Client {
             inner: Arc::new(Inner(raw)),
             limit: options.limit,

@@ -35,6 +35,19 @@ pub enum Error {
     File { source: io::Error, text: String },
     /// Out of memory.
     NoMemory { sent: bool },
+    /// tbd, which serves an opened file, ended by the fault `told`. A later call starts it again.
+    ProgramEnded {
+        told: String,
+        status: u8,
+        sent: bool,
+        text: String,
+    },
+    /// The file is open elsewhere: by the process `owner`, if the system says so.
+    Locked { owner: Option<i64>, text: String },
+    /// tbd is not there, or does not start.
+    CannotStart { text: String },
+    /// The ledger's last time is far ahead of this computer's clock.
+    ClockJumped { text: String },
 }
 
 impl Error {
@@ -45,7 +58,9 @@ impl Error {
             | Error::Busy { .. }
             | Error::BadReply { .. }
             | Error::Refused { .. } => true,
-            Error::Cancelled { sent, .. } | Error::NoMemory { sent } => *sent,
+            Error::Cancelled { sent, .. }
+            | Error::NoMemory { sent }
+            | Error::ProgramEnded { sent, .. } => *sent,
             _ => false,
         }
     }
@@ -79,6 +94,18 @@ impl Error {
                 source: io::Error::from_raw_os_error(error.system),
                 text,
             },
+            14 => Error::ProgramEnded {
+                told,
+                status: error.status,
+                sent: error.sent,
+                text,
+            },
+            15 => Error::Locked {
+                owner: (error.owner != 0).then_some(error.owner),
+                text,
+            },
+            16 => Error::CannotStart { text },
+            17 => Error::ClockJumped { text },
             _ => Error::NoMemory { sent: error.sent },
         }
     }
@@ -112,7 +139,11 @@ impl fmt::Display for Error {
             | Error::Busy { text, .. }
             | Error::BadReply { text }
             | Error::Cancelled { text, .. }
-            | Error::File { text, .. } => f.write_str(text),
+            | Error::File { text, .. }
+            | Error::ProgramEnded { text, .. }
+            | Error::Locked { text, .. }
+            | Error::CannotStart { text }
+            | Error::ClockJumped { text } => f.write_str(text),
         }
     }
 }

@@ -1,6 +1,6 @@
 //! What `tb_client.h` declares. Nothing compares these declarations with it: the conformance kit
 //! runs over them.
-use std::ffi::{c_char, c_int, c_void};
+use std::ffi::{c_char, c_int, c_uint, c_void};
 use std::time::Duration;
 
 #[repr(C)]
@@ -38,6 +38,7 @@ pub struct ClientError {
     pub is_final: bool,
     pub status: u8,
     pub system: c_int,
+    pub owner: i64,
     pub field: [c_char; 32],
     pub told: [c_char; 32],
     pub text: [c_char; 232],
@@ -51,6 +52,7 @@ impl ClientError {
             is_final: false,
             status: 0,
             system: 0,
+            owner: 0,
             field: [0; 32],
             told: [0; 32],
             text: [0; 232],
@@ -70,6 +72,21 @@ pub struct ConnectOptions {
 pub struct ClientOptions {
     pub connect: ConnectOptions,
     pub sessions: c_int,
+}
+
+#[repr(C)]
+pub struct OpenOptions {
+    pub program: *const c_char,
+    pub clients_max: c_int,
+    pub profile: c_int,
+    pub existing: bool,
+    pub drop_torn: bool,
+    pub lock_timeout: i64,
+    pub ahead_max: i64,
+    pub limit: i64,
+    pub report: Option<unsafe extern "C" fn(*mut c_void, *const c_char)>,
+    pub progress: Option<unsafe extern "C" fn(*mut c_void, c_uint, c_uint)>,
+    pub context: *mut c_void,
 }
 
 #[repr(C)]
@@ -130,6 +147,12 @@ pub fn drawing<F: FnMut(&mut [u8; 10])>(random: &mut F) -> (Draw, *mut c_void) {
     (draw::<F>, (random as *mut F).cast())
 }
 
+/// Calls the function that is the context.
+pub unsafe extern "C" fn progressed(context: *mut c_void, done: c_uint, size: c_uint) {
+    let progress: fn(u32, u32) = unsafe { std::mem::transmute(context) };
+    progress(done, size);
+}
+
 /// A time as the library counts it: what is too long never ends.
 pub fn nanoseconds(time: Duration) -> i64 {
     i64::try_from(time.as_nanos()).unwrap_or(i64::MAX)
@@ -148,6 +171,12 @@ unsafe extern "C" {
     pub fn tb_client_connect(
         addresses: *const c_char,
         options: *const ClientOptions,
+        client: *mut *mut Client,
+        error: *mut ClientError,
+    ) -> c_int;
+    pub fn tb_client_open(
+        path: *const c_char,
+        options: *const OpenOptions,
         client: *mut *mut Client,
         error: *mut ClientError,
     ) -> c_int;

@@ -1,9 +1,9 @@
-//! A client of a ledger: over a Unix socket, TCP or TLS.
+//! A client of a ledger: in a file, or over a Unix socket, TCP or TLS.
 //!
 //! ```no_run
 //! use tb_client::{Client, Transfer};
 //!
-//! let ledger = Client::connect("./ledger.sock")?;
+//! let ledger = Client::open("books.tbk")?; // or Client::connect("./ledger.sock")?
 //! let sale = Transfer {
 //!     id: tb_client::id(),
 //!     debit_account_id: 1,
@@ -33,7 +33,7 @@ mod tb_embed;
 
 use std::time::Duration;
 
-pub use client::{Call, Client, Options};
+pub use client::{Call, Client, OpenOptions, Options};
 pub use error::Error;
 pub use session::{Answer, Saved, Session, SessionOptions, Transport};
 pub use tb_embed::{
