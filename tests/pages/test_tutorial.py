@@ -5,6 +5,7 @@ Anna has 100.00 - 45.00 + 5.00, Ben 45.00 - 5.00."""
 import os
 import random
 import re
+import shutil
 import signal
 import subprocess
 import time
@@ -16,7 +17,7 @@ from ..conftest import ROOT
 from .clones import Clone, blocks
 
 PAGE = "docs/use/TUTORIAL.md"
-PROGRAM = ROOT / "examples/wallet/wallet.py"
+PROGRAMS = ROOT / "examples/wallet"
 FIRST = ["done"] * 4 + ["exceeds_credits"]
 AGAIN = ["exists"] * 4 + ["exceeds_credits"]
 SUMS = ["Anna has 60.00", "Ben has 40.00"]
@@ -34,7 +35,7 @@ def _wallet(clone: Clone) -> Clone:
 
 
 def test_the_page_has_the_program_as_it_is():
-    assert blocks(PAGE, "python") == [PROGRAM.read_text()]
+    assert blocks(PAGE, "python") == [(PROGRAMS / "wallet.py").read_text()]
 
 
 def test_the_lines_print_what_the_page_shows(wallet):
@@ -60,15 +61,35 @@ def test_the_lines_print_what_the_page_shows(wallet):
     assert shown == statement.splitlines()[1:]
 
 
-def test_the_same_file_in_go(wallet):
+def go(wallet: Clone) -> str:
     path = wallet.folder / "go"
     (path / "src/telovamish.org").mkdir(parents=True)
     (path / "src/telovamish.org/tbclient").symlink_to(ROOT / "clients/go")
-    build = ["go", "build", "-o", wallet.folder / "wallet", ROOT / "examples/wallet/wallet.go"]
+    build = ["go", "build", "-o", wallet.folder / "wallet", PROGRAMS / "wallet.go"]
     env = {**wallet.env, "GO111MODULE": "off", "GOPATH": str(path), "GOFLAGS": ""}
     subprocess.run(build, env=env, check=True)
+    return "./wallet"
+
+
+def java(wallet: Clone) -> str:
+    sources = [*(ROOT / "clients/java/src/main").rglob("*.java"), PROGRAMS / "Wallet.java"]
+    strictly = ["-Xlint:all", "-Werror", "--release", "17", "-encoding", "UTF-8"]
+    subprocess.run(["javac", *strictly, "-d", wallet.folder / "classes", *sources], check=True)
+    return "java -cp classes Wallet"
+
+
+def node(wallet: Clone) -> str:
+    (wallet.folder / "node_modules").mkdir()
+    (wallet.folder / "node_modules/tb-client").symlink_to(ROOT / "clients/node")
+    shutil.copy(PROGRAMS / "wallet.mjs", wallet.folder)
+    return "node wallet.mjs"
+
+
+@pytest.mark.parametrize("built", [go, java, node], ids=lambda it: it.__name__)
+def test_the_same_file_in_another_language(wallet, built):
+    line = built(wallet)
     made = f"tbd: made {wallet.folder}/wallet.tbk\n"
-    printed = wallet.run(f"./wallet && {WALLET}", made)
+    printed = wallet.run(f"{line} && {WALLET}", made)
     assert results(printed) == FIRST + AGAIN
     assert [it for it in printed.splitlines() if "has" in it] == SUMS * 2
 
