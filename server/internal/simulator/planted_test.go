@@ -39,7 +39,7 @@ var planted = map[string]struct {
 	"what the server had no room for is not given later":      {replica.FeedsNothingLate, 0, "does not serve"},
 	"requests are told of an end that is none":                {replica.AnswersWhenTheServerIsLost, 10, "goes on, and tells a client of its end"},
 	"a log that begins after the copy is read":                {replica.ReadsATrimmedLog, 1656, "more of the log than there is"},
-	"a clock that is ahead of others is no fault":             {replica.GoesByAnAheadClock, 71, "does not serve"},
+	"a clock that is ahead of others is no fault":             {replica.GoesByAnAheadClock, 71, "a moment that is far ahead"},
 	"no clock is sent to who asks":                            {replica.AnswersNoHello, 0, "has no reply"},
 	"nodes are asked for entries that were trimmed":           {replica.SurveysWhatWasTrimmed, 3816, "things of requests"},
 	"a restarted server is fed from where the old one ended":  {replica.FeedsFromTheEnd, 0, "gave its server entry"},

@@ -162,11 +162,10 @@ func (w *world) run() {
 	}
 	w.until(last + second)
 	w.heal()
-	for end := w.now + longest; w.now < end && !w.isAllDone() && len(w.wrong) == 0; {
-		w.until(w.now + second/4)
-	}
+	w.waitFor(w.isAllDone)
 	w.see(w.isAllDone() || w.isLostEverywhere(), "a client has no reply %d s after the last fault", longest/second)
 	for round := 0; round < probes && len(w.wrong) == 0; round++ {
+		w.waitFor(w.isAllServing)
 		w.probe()
 		w.until(w.now + quiet)
 	}
@@ -237,6 +236,23 @@ func (w *world) until(end int64) {
 			w.jobs = nil
 		}
 	}
+}
+
+// waitFor runs until something holds, for a while at most.
+func (w *world) waitFor(holds func() bool) {
+	for end := w.now + longest; w.now < end && !holds() && len(w.wrong) == 0; {
+		w.until(w.now + second/4)
+	}
+}
+
+// isAllServing reports whether each machine serves: only then is what a node lost found by the others.
+func (w *world) isAllServing() bool {
+	for _, it := range w.machines {
+		if !it.isServing() {
+			return w.isLostEverywhere()
+		}
+	}
+	return true
 }
 
 func (w *world) isAllDone() bool {
