@@ -63,7 +63,7 @@ def pytest_addoption(parser):
     parser.addoption("--rounds", type=int, default=120, help="of clients before a power loss")
     parser.addoption("--images", type=int, default=20, help="files that a write may leave")
     parser.addoption("--drawn", type=int, default=200, help="schedules for each client")
-    parser.addoption("--faults", type=int, default=13, help="of machines, disks and clocks")
+    parser.addoption("--faults", type=int, default=300, help="of machines, disks and clocks")
     parser.addoption("--kinds", type=lambda it: it.split(","), help="of faults, with commas")
     parser.addoption("--seed", type=int, default=1, help="of what is drawn")
     parser.addoption("--between", type=float, default=0.5, help="seconds between faults")

@@ -56,14 +56,16 @@ def frames_of(data):
             yield data[start:at]
 
 
-def settled(cluster, seconds=90):
-    """Waits until each replica has written what it is to write."""
-    end, before = time.monotonic() + seconds, None
-    while time.monotonic() < end:
+def settled(cluster, quiet=60):
+    """Waits until each replica has written what it is to write. False if some have written less,
+    and none of them writes more for some seconds."""
+    before, since = None, time.monotonic()
+    while time.monotonic() < since + quiet:
         now = [os.path.getsize(cluster.out(at)) for at in range(cluster.count)]
-        if now == before and len(set(now)) == 1:
+        if now != before:
+            before, since = now, time.monotonic()
+        elif len(set(now)) == 1:
             return True
-        before = now
         time.sleep(2)
     return False
 

@@ -2,7 +2,7 @@
 import ssl
 import subprocess
 
-from .processes import Cluster
+from .processes import Cluster, until
 
 SERVER, CLIENT = "server", "client"
 PASSWORD = "a long password"
@@ -28,6 +28,20 @@ def certificates(folder):
             *("x509", "-req", "-in", f"{name}.csr", "-CA", "ca.crt", "-CAkey", "ca.key"),
             *("-CAcreateserial", "-out", f"{name}.crt", "-extfile", "names"),
         )
+
+
+def done(call, request):
+    """Has etcd do something, again if it was too busy: then it may have been done already."""
+    import grpc
+
+    def is_done():
+        try:
+            call(request)
+        except grpc.RpcError as error:
+            return "already" in error.details()
+        return True
+
+    until(is_done, f"{type(request).__name__} is done")
 
 
 class Closed(Cluster):
@@ -91,13 +105,14 @@ class Closed(Cluster):
         with self.channel(self.serves[0]) as channel:
             auth = rpc.AuthStub(channel)
             for name in ("root", "bank"):
-                auth.UserAdd(rpc.AuthUserAddRequest(name=name, password=PASSWORD))
-                auth.RoleAdd(rpc.AuthRoleAddRequest(name=name))
-                auth.UserGrantRole(rpc.AuthUserGrantRoleRequest(user=name, role=name))
+                done(auth.UserAdd, rpc.AuthUserAddRequest(name=name, password=PASSWORD))
+                done(auth.RoleAdd, rpc.AuthRoleAddRequest(name=name))
+                done(auth.UserGrantRole, rpc.AuthUserGrantRoleRequest(user=name, role=name))
             allowed = Permission(permType=Permission.READWRITE, key=b"bank/")
             allowed.range_end = b"bank0"
-            auth.RoleGrantPermission(rpc.AuthRoleGrantPermissionRequest(name="bank", perm=allowed))
-            auth.AuthEnable(rpc.AuthEnableRequest())
+            grant = rpc.AuthRoleGrantPermissionRequest(name="bank", perm=allowed)
+            done(auth.RoleGrantPermission, grant)
+            done(auth.AuthEnable, rpc.AuthEnableRequest())
 
     def metadata(self, channel):
         import etcd3.etcdrpc as rpc

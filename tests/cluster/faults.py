@@ -147,7 +147,7 @@ class Faults:
         found = rot.change(rot.files_of_etcd(cluster, at), entry, bit // 8, bit % 8)
         node.start()
         self.expect(found, f"entry {number} is not in the file of node {at}")
-        until(lambda: cluster.is_up(at), 60, "the node is up")
+        until(lambda: cluster.is_up(at), "the node is up")
         it = cluster.replicas[at]
         it.kill()
         shutil.rmtree(cluster.copy(at))
@@ -157,7 +157,7 @@ class Faults:
     def serves(self, at, said):
         """A replica comes to serve, and no other one ends."""
         it = self.cluster.replicas[at]
-        until(lambda: it.listens() or not it.runs(), 120, f"{it.name} listens or ends")
+        until(lambda: it.listens() or not it.runs(), f"{it.name} listens or ends")
         self.expect(it.listens(), f"{it.name} ends: {said}: {last(it)}")
         ended = [some.name for some in self.cluster.replicas if not some.runs()]
         self.expect(not ended, f"{' '.join(ended)} ended: {said}")
@@ -165,7 +165,7 @@ class Faults:
     def ends(self, at, status, said):
         """Only this replica ends, with a status."""
         it = self.cluster.replicas[at]
-        until(lambda: not it.runs(), 90, f"{it.name} ends")
+        until(lambda: not it.runs(), f"{it.name} ends")
         found = it.process.poll()
         self.expect(found == status, f"{it.name} ends with {found}, not {status}: {said}")
         ended = sum(not some.runs() for some in self.cluster.replicas)

@@ -6,6 +6,7 @@ import functools
 import glob
 import json
 import os
+import re
 import shutil
 import signal
 import socket
@@ -23,6 +24,7 @@ OUT = f"{TOP}/server/out"
 PYTHON = "/usr/bin/python3"  # Debian's, which sees its packages
 REPLICA = os.environ.get("TB_REPLICA") or f"{OUT}/tb-replica"
 PACKAGE = "telovamish.org/server"
+LIMIT = 600  # seconds in which something happens that is waited for, on a busy machine too
 QUOTA = 8 << 30  # bytes that etcd takes at most, as docs/use/CLUSTER.md sets it
 # The server with its replies in a file: those of its last start. A status above 128 is that of a
 # signal. If rates count and no reply is compared, the server runs as it is.
@@ -113,6 +115,10 @@ class Process:
         with contextlib.suppress(ProcessLookupError):
             self.process.send_signal(number)
 
+    def ended(self):
+        """Waits until it ends. Returns its status."""
+        return self.process.wait(LIMIT)
+
     def kill(self):
         if self.process is not None:
             self.send(signal.SIGKILL)
@@ -148,6 +154,12 @@ class Process:
                 at += more
             del at[0]
         return found
+
+    def memory(self):
+        """How many MB it has had in memory at most, without the processes that it started."""
+        with open(f"/proc/{self.process.pid}/status", encoding="utf-8") as file:
+            (most,) = (it.split()[1] for it in file if it.startswith("VmHWM:"))
+        return int(most) / 1024
 
     def kill_server(self):
         for it in self.children():
@@ -233,21 +245,34 @@ class Machines:
         for at in range(self.count):
             self.until_listens(at)
 
-    def until_listens(self, at, seconds=90):
+    def until_listens(self, at):
         it = self.replicas[at]
-        until(lambda: it.listens() or not it.runs(), seconds, f"{it.name} listens")
+        until(lambda: it.listens() or not it.runs(), f"{it.name} listens")
         if not it.listens():
             raise TimeoutError(f"{it.name} ended: {it.said(it.since)}")
 
-    def part(self, *words, seconds=60):
+    def part(self, *words):
         """Runs a part of tb-replica, as status. Returns its status, and what it printed."""
         ran = subprocess.run(
             [REPLICA, *words],
             capture_output=True,
             text=True,
-            timeout=seconds,
+            timeout=LIMIT,
         )
         return ran.returncode, ran.stdout + ran.stderr
+
+    def until_reported(self, *words):
+        """Waits until each replica that runs has reported more of the log, while money moves. The
+        words are those of `tb-replica status` besides the log."""
+        names = [it.words[it.words.index("--name") + 1] for it in self.replicas if it.runs()]
+
+        def positions():
+            _, said = self.part("status", *words, "--log", self.log())
+            found = dict(re.findall(r"replica (\S+) at \S+ position ([0-9]+)", said))
+            return [int(found.get(it, 0)) for it in names]
+
+        before = positions()
+        until(lambda: all(now > it for now, it in zip(positions(), before)), "all have reported")
 
     def end(self):
         for it in [*self.replicas, *self.nodes]:
@@ -321,7 +346,7 @@ class Cluster(Machines):
         node = self.nodes[at]
         node.words = [*node.words, "--initial-cluster-state", "existing"]
         node.start()
-        until(lambda: self.is_up(at), 60, "the new member is up")
+        until(lambda: self.is_up(at), "the new member is up")
 
     def swap_data(self, keep, take=None):
         """Ends the nodes, keeps a copy of their data under a name, and starts them over other data
@@ -348,7 +373,7 @@ class Cluster(Machines):
     def start_engine(self):
         for it in self.nodes:
             it.start()
-        until(lambda: self.leader() is not None, 60, "etcd has a leader")
+        until(lambda: self.leader() is not None, "etcd has a leader")
 
     def end_engine(self):
         self.links.end()
@@ -461,7 +486,7 @@ class Postgres(Machines):
         self.run("initdb", "-D", primary, "-A", "trust", "-U", "postgres", "-N")
         self.set(primary, self.ports[0], "synchronous_standby_names = 'FIRST 1 (standby)'")
         self.nodes[0].start()
-        until(lambda: is_open(self.ports[0]), 60, "the primary listens")
+        until(lambda: is_open(self.ports[0]), "the primary listens")
         place = f"host=127.0.0.1 port={self.ports[0]} user=postgres application_name=standby"
         for _ in range(20):
             with contextlib.suppress(subprocess.CalledProcessError):
@@ -470,7 +495,7 @@ class Postgres(Machines):
             time.sleep(1)
         self.set(standby, self.ports[1], "")
         self.nodes[1].start()
-        until(lambda: is_open(self.ports[1]), 60, "the standby listens")
+        until(lambda: is_open(self.ports[1]), "the standby listens")
 
     @staticmethod
     def set(folder, port, more):
@@ -514,12 +539,12 @@ def is_open(port):
     return False
 
 
-def until(holds, seconds, said):
+def until(holds, said):
     """Waits until something holds. Raises `TimeoutError` if that is not in time."""
-    end = time.monotonic() + seconds
+    end = time.monotonic() + LIMIT
     while not holds():
         if time.monotonic() > end:
-            raise TimeoutError(f"{said}: not within {seconds} s")
+            raise TimeoutError(f"{said}: not within {LIMIT} s")
         time.sleep(0.1)
 
 

@@ -1,5 +1,5 @@
 """The engines of the agreed log in Go over servers of etcd and PostgreSQL, and what follows a log
-over tbd: the tests of server/ with the tag slow."""
+over tbd, in the simulator too: the tests of server/ with the tag slow."""
 
 import os
 import subprocess
@@ -8,7 +8,7 @@ import pytest
 
 from .processes import TOP
 
-SLOW = "^Test(Servers|Full|Passwords|Server)$"
+SLOW = "^Test(Servers|Full|Passwords|Server|ProvedSeeds)$"
 
 
 @pytest.mark.slow(reason="starts etcd, PostgreSQL and tbd", seconds=300)
@@ -19,4 +19,5 @@ def test_over_servers(program):
     environment = {**os.environ, "TBD": str(program("tbd"))}
     ran = subprocess.run(words, capture_output=True, text=True, timeout=1200, env=environment)
     assert ran.returncode == 0, ran.stdout + ran.stderr
-    assert ran.stdout.count("\nok ") + ran.stdout.startswith("ok ") >= 3, ran.stdout
+    passed = [it for it in ran.stdout.splitlines() if it.startswith("ok ")]
+    assert sum("no tests to run" not in it for it in passed) == 4, ran.stdout

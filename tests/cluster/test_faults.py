@@ -1,7 +1,7 @@
 """Faults of machines, processes, links, disks and clocks under clients that move money: nothing
 that was acknowledged is lost or executed twice, and all replicas reply the same.
 
-`--faults N` is the number of faults (13), each seventh of which is of a disk or a clock; `--kinds`
+`--faults N` is the number of faults (300), each seventh of which is of a disk or a clock; `--kinds`
 has only those kinds, and `--seed` another order.
 """
 
@@ -13,7 +13,7 @@ from .processes import until
 from .traffic import Traffic
 
 pytestmark = [
-    pytest.mark.slow(reason="clusters whose machines, disks and clocks fail", seconds=180),
+    pytest.mark.slow(reason="clusters whose machines, disks and clocks fail", seconds=1800),
     pytest.mark.needs_etcd,
 ]
 CLIENTS = 24
@@ -43,7 +43,7 @@ def suffered(cluster, traffic, given):
     """Faults in any order, over 24 clients. What has ended is started again after each few."""
     faults, kinds = Faults(cluster, given.seed), kinds_of(given)
     faults.random.shuffle(kinds)
-    until(lambda: traffic.made > 200, 120, "transfers")
+    until(lambda: traffic.made > 200, "transfers")
     for at in range(0, len(kinds), 5):
         faults.all_of(kinds[at : at + 5], given.between)
         named = restarted(cluster)
@@ -74,7 +74,7 @@ def test_evictions(cluster_of, given, show):
     traffic = moving(cluster, 80, 0.3)
     faults = Faults(cluster, given.seed)
     faults.some(6)
-    until(lambda: traffic.evictions > 0, 60, "an eviction")
+    until(lambda: traffic.evictions > 0, "an eviction")
     agreed(cluster, traffic)
     show(f"{traffic.evictions} evictions, {len(faults.done)} faults")
 

@@ -20,7 +20,6 @@ pytestmark = [
     pytest.mark.slow(reason="clusters that grow under load", seconds=120),
     pytest.mark.needs_etcd,
 ]
-REPORT = 11  # seconds in which a replica has reported
 
 
 class Timed:
@@ -43,7 +42,7 @@ def moving(cluster, clients=6, wanted=50):
     traffic = Traffic(cluster.tcp, clients, pause=0.02, spread=True)
     traffic.open_accounts()
     traffic.start()
-    until(lambda: traffic.made > wanted, 240, "transfers")
+    until(lambda: traffic.made > wanted, "transfers")
     return traffic
 
 
@@ -58,9 +57,10 @@ def test_start_over_many_requests(cluster_of, given, show):
     for said in ("without a copy", "with its copy"):
         timed = Timed(show)
         cluster.replicas[0].start()
-        cluster.until_listens(0, 900)
-        assert posted_at(cluster.tcp[0], seconds=900) == given.requests
+        cluster.until_listens(0)
+        assert posted_at(cluster.tcp[0]) == given.requests
         timed.done(f"a start over {given.requests} requests {said}, until it answers")
+        show(f"{cluster.replicas[0].memory():.0f} MB, without its server")
         cluster.replicas[0].end(120)
 
 
@@ -77,9 +77,9 @@ def test_trim_amid_load(cluster_of, show):
     """The log is trimmed while money moves, and a replica starts after that."""
     cluster = cluster_of()
     traffic = moving(cluster, 12, 500)
-    time.sleep(REPORT)
+    cluster.until_reported()
     timed = Timed(show, traffic)
-    status, said = cluster.part("trim", "--log", cluster.log(), seconds=180)
+    status, said = cluster.part("trim", "--log", cluster.log())
     timed.done("trim")
     assert status == 0 and "are removed" in said, said
     cluster.replicas[1].kill()
@@ -97,11 +97,11 @@ def test_fourth_machine(cluster_of, show):
     join(cluster)
     cluster.until_listens(3)
     timed.done("a fourth replica serves, of an empty folder")
-    time.sleep(REPORT)
+    cluster.until_reported()
     status, said = cluster.part("status", "--log", cluster.log())
     assert status == 0 and said.count("replica r") == 4, said
     leave(cluster, 3)
-    status, said = cluster.part("trim", "--log", cluster.log(), "--forget", "r3", seconds=120)
+    status, said = cluster.part("trim", "--log", cluster.log(), "--forget", "r3")
     assert status == 0, said
     timed = Timed(show, traffic)
     shutil.rmtree(cluster.copy(3))
@@ -130,12 +130,12 @@ def test_replaced_machine(cluster_of, show):
     """A machine is lost, with its node of etcd and its replica. Another one takes its place."""
     cluster = cluster_of()
     traffic = moving(cluster)
-    time.sleep(REPORT)
-    status, said = cluster.part("trim", "--log", cluster.log(), seconds=120)
+    cluster.until_reported()
+    status, said = cluster.part("trim", "--log", cluster.log())
     assert status == 0, said
     cluster.lose(2)
     before = traffic.made
-    until(lambda: traffic.made > before + 50, 240, "transfers go on")
+    until(lambda: traffic.made > before + 50, "transfers go on")
     timed = Timed(show, traffic)
     cluster.replace_node(2)
     timed.done("a member of etcd is removed and added, and is up")
@@ -147,8 +147,8 @@ def test_replaced_machine(cluster_of, show):
     third.start()
     cluster.until_listens(2)
     timed.done("a replica takes a peer's copy, and serves")
-    time.sleep(REPORT)
-    status, said = cluster.part("trim", "--log", cluster.log(), "--forget", "r2", seconds=120)
+    cluster.until_reported()
+    status, said = cluster.part("trim", "--log", cluster.log(), "--forget", "r2")
     assert status == 0 and "are removed" in said, said
     status, said = cluster.part("status", "--log", cluster.log())
     assert status == 0 and "replica r2b" in said and "replica r2 " not in said, said

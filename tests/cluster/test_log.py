@@ -14,7 +14,6 @@ from .processes import Postgres, until
 from .traffic import Traffic
 
 pytestmark = pytest.mark.slow(reason="clusters over etcd and PostgreSQL", seconds=120)
-REPORT = 11  # seconds in which a replica has reported
 TRIMMED, DAMAGED, FULL = 21, 24, 26
 
 
@@ -31,9 +30,9 @@ def test_trim_amid_faults(cluster_of, given):
     traffic, faults = moving(cluster, 12, pause=0.05, spread=True), Faults(cluster, given.seed)
     trims = []
     for kind in ("replica killed", "leader killed", "links of a replica cut"):
-        time.sleep(REPORT)
+        cluster.until_reported()
         faults.one(kind)
-        trims.append(cluster.part("trim", "--log", cluster.log(), seconds=120))
+        trims.append(cluster.part("trim", "--log", cluster.log()))
     assert not any(status for status, _ in trims), trims
     assert any("are removed" in said for _, said in trims), trims
     assert agreement.is_gone(cluster, 0), "the log still has its beginning"
@@ -48,7 +47,7 @@ def comes_too_late(cluster):
     late.kill()
     os.rename(cluster.copy(2), cluster.copy(2) + ".lost")
     late.start()
-    assert late.process.wait(60) == TRIMMED, last(late)
+    assert late.ended() == TRIMMED, last(late)
     os.rename(cluster.copy(2), cluster.copy(2) + ".empty")
     status, said = cluster.part("copy-from", cluster.copy(0), "--copy", cluster.copy(2))
     assert status == 0, said
@@ -72,7 +71,7 @@ def test_copies_torn_and_damaged(cluster_of):
     path, at = f"{cluster.copy(1)}/log", 200
     rot.flip(path, at)
     damaged.start()
-    assert damaged.process.wait(60) == DAMAGED, last(damaged)
+    assert damaged.ended() == DAMAGED, last(damaged)
     rot.flip(path, at)
     damaged.start()
     cluster.until_listens(1)
@@ -84,13 +83,13 @@ def test_engine_restored_from_a_backup(cluster_of):
     """The log lacks what was acknowledged since then. A new one is made of the longest copy."""
     cluster = cluster_of()
     traffic = moving(cluster, pause=0.02, spread=True)
-    until(lambda: traffic.made > 200, 60, "transfers")
+    until(lambda: traffic.made > 200, "transfers")
     cluster.swap_data("backup")
     before = traffic.made
-    until(lambda: traffic.made > before + 200, 60, "more transfers")
+    until(lambda: traffic.made > before + 200, "more transfers")
     cluster.swap_data("lost", "backup")
     ended = (22, 25)  # Diverged, BadEntry
-    until(lambda: any(it.process.poll() in ended for it in cluster.replicas), 60, "one is found")
+    until(lambda: any(it.process.poll() in ended for it in cluster.replicas), "one is found")
     for it in cluster.replicas:
         it.kill()
     copies = [f"{cluster.copy(at)}.kept" for at in range(cluster.count)]
@@ -107,7 +106,7 @@ def test_engine_restored_from_a_backup(cluster_of):
     for at in range(cluster.count):
         cluster.until_listens(at)
     before = traffic.made
-    until(lambda: traffic.made > before + 50, 60, "transfers go on")
+    until(lambda: traffic.made > before + 50, "transfers go on")
     agreed(cluster, traffic, is_trimmed=True)
 
 
@@ -116,25 +115,27 @@ def test_full(cluster_of):
     """etcd's quota is used up, and the log is trimmed."""
     cluster = cluster_of(quota=6 << 20)
     traffic = moving(cluster, batch=2000)
-    until(lambda: "LogFull" in "".join(it.said() for it in cluster.replicas), 240, "LogFull")
+    until(lambda: "LogFull" in "".join(it.said() for it in cluster.replicas), "LogFull")
     status, said = cluster.part("status", "--log", cluster.log())
     assert status == FULL, said
     third = cluster.replicas[2]
     third.kill()
     third.start()
-    until(lambda: "waits: LogFull" in third.said(third.since), 60, "a start says why it waits")
-    status, said = cluster.part("trim", "--log", cluster.log(), seconds=180)
+    until(lambda: "waits: LogFull" in third.said(third.since), "a start says why it waits")
+    status, said = cluster.part("trim", "--log", cluster.log())
     assert status == 0 and "still full" not in said, said
     cluster.until_listens(2)
     before = traffic.made
-    until(lambda: traffic.made > before, 60, "transfers go on")
+    until(lambda: traffic.made > before, "transfers go on")
     traffic.stop.set()
-    for _ in range(6):  # it may be full again
-        time.sleep(REPORT)
-        cluster.part("trim", "--log", cluster.log(), seconds=180)
-        if cluster.part("status", "--log", cluster.log())[0] == 0:
-            break
+    until(lambda: is_free(cluster), "the log has room")  # it may be full again
     agreed(cluster, traffic, is_trimmed=True)
+
+
+def is_free(cluster):
+    """Whether the log has room after another trim."""
+    cluster.part("trim", "--log", cluster.log())
+    return cluster.part("status", "--log", cluster.log())[0] == 0
 
 
 @pytest.mark.needs_etcd
@@ -146,9 +147,9 @@ def test_tls_and_passwords(cluster_of, given):
     for kind in ("leader killed", "links of a replica cut", "follower killed"):
         faults.one(kind)
         time.sleep(3)
-    time.sleep(REPORT)
     log = ("--log", cluster.log())
     root = (*cluster.files(), *cluster.user("root"), *log)
+    cluster.until_reported(*root[:-2])
     status, said = cluster.part("status", *root)
     assert status == 0 and said.count("replica r") == 3, said
     for words in (
@@ -159,7 +160,7 @@ def test_tls_and_passwords(cluster_of, given):
         status, said = cluster.part("status", *words)
         assert status in (1, 20), said
     agreed(cluster, traffic)
-    status, said = cluster.part("trim", *root, seconds=120)
+    status, said = cluster.part("trim", *root)
     assert status == 0, said
 
 
@@ -174,9 +175,9 @@ def test_postgresql(cluster_of, given):
         faults.kill(process)
     rows_without_a_standby(cluster, traffic)
     before = traffic.made
-    until(lambda: traffic.made > before, 60, "transfers go on")
-    time.sleep(REPORT)
+    until(lambda: traffic.made > before, "transfers go on")
     words = ("--log-user", "postgres", "--log", cluster.log())
+    cluster.until_reported(*words[:2])
     status, said = cluster.part("status", *words)
     assert status == 0 and said.count("replica r") == 3, said
     agreed(cluster, traffic)
@@ -188,7 +189,7 @@ def rows_without_a_standby(cluster, traffic):
     """A wait for the standby is cancelled: the primary then shows rows that only it has. They must
     not be returned before the standby has them."""
     standby = cluster.nodes[1]
-    until(cluster.is_streaming, 60, "the standby streams")
+    until(cluster.is_streaming, "the standby streams")
     standby.send(signal.SIGSTOP)
     standby.signal_server(signal.SIGSTOP)
     time.sleep(2)

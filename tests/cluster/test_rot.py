@@ -22,7 +22,7 @@ def moving(cluster, clients, wanted):
     traffic = Traffic(cluster.tcp, clients, pause=0.03, spread=True)
     traffic.open_accounts()
     traffic.start()
-    until(lambda: traffic.made > wanted, 120, "transfers")
+    until(lambda: traffic.made > wanted, "transfers")
     return traffic
 
 
@@ -34,17 +34,18 @@ def begin_again(cluster, at):
     it.start()
 
 
-def goes_on_by_others(cluster, at, count):
-    """A replica that reads of rotten nodes serves, and names each of them once."""
+def goes_on_by_others(cluster, at, most):
+    """A replica that reads of rotten nodes serves, and names each that it meets once. On a busy
+    machine it may read another one first."""
     cluster.until_listens(at)
     it = cluster.replicas[at]
 
     def named():
         return re.findall("([^ ]+) is rotten", it.said(it.since))
 
-    until(lambda: len(named()) >= count or not it.runs(), 60, "it names what is rotten")
+    until(lambda: named() or not it.runs(), "it names what is rotten")
     time.sleep(2)
-    assert it.runs() and len(named()) == len(set(named())) == count, (named(), last(it))
+    assert it.runs() and 1 <= len(named()) == len(set(named())) <= most, (named(), last(it))
 
 
 def change_nodes(cluster, files, ats, first):
@@ -55,7 +56,7 @@ def change_nodes(cluster, files, ats, first):
         missed = rot.change_entries(files(cluster, at), script, first, at)
         assert not missed, f"not found on node {at}: {missed}"
         cluster.nodes[at].start()
-        until(lambda: cluster.is_up(at), 60, "the node is up")
+        until(lambda: cluster.is_up(at), "the node is up")
 
 
 @pytest.mark.needs_etcd
@@ -67,9 +68,9 @@ def test_rot_in_etcd(cluster_of, show):
     begin_again(cluster, 0)
     goes_on_by_others(cluster, 0, 1)
     change_nodes(cluster, rot.files_of_etcd, [0, 1], 60)
-    for at, count in ((0, 2), (1, 1)):  # the second one reads on at the node that is right
+    for at in (0, 1):
         begin_again(cluster, at)
-        goes_on_by_others(cluster, at, count)
+        goes_on_by_others(cluster, at, 2)
     rotten_keys(cluster)
     rotten_copy(cluster)
     rotten_everywhere(cluster, traffic)
@@ -84,7 +85,7 @@ def rotten_keys(cluster):
     cluster.nodes[0].kill()
     assert rot.change_key(rot.files_of_etcd(cluster, 0), entry, 1)
     cluster.nodes[0].start()
-    until(lambda: cluster.is_up(0), 60, "the node is up")
+    until(lambda: cluster.is_up(0), "the node is up")
     begin_again(cluster, 0)
     cluster.until_listens(0)
 
@@ -95,7 +96,7 @@ def rotten_copy(cluster):
     it.end()
     rot.flip(f"{cluster.copy(1)}/log", 5000)
     it.start()
-    assert it.process.wait(60) == DAMAGED, last(it)
+    assert it.ended() == DAMAGED, last(it)
     assert all(some.runs() for some in cluster.replicas if some is not it)
     take_a_peers(cluster, 1)
 
@@ -115,11 +116,11 @@ def rotten_everywhere(cluster, traffic):
         node.kill()
         assert rot.change(rot.files_of_etcd(cluster, at), entry, 150 + at, 3), f"node {at}"
         node.start()
-        until(lambda: cluster.is_up(at), 60, "the node is up")
+        until(lambda: cluster.is_up(at), "the node is up")
     begin_again(cluster, 2)
     it, before = cluster.replicas[2], traffic.made
-    assert it.process.wait(90) == ROTTEN, last(it)
-    until(lambda: traffic.made > before + 100, 60, "transfers go on")
+    assert it.ended() == ROTTEN, last(it)
+    until(lambda: traffic.made > before + 100, "transfers go on")
     assert all(some.runs() for some in cluster.replicas[:2])
     take_a_peers(cluster, 2)
 

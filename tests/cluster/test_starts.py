@@ -14,7 +14,6 @@ pytestmark = [
     pytest.mark.slow(reason="clusters that start under faults", seconds=60),
     pytest.mark.needs_etcd,
 ]
-REPORT = 11  # seconds in which a replica has reported
 
 
 def test_starts_that_are_refused(cluster_of):
@@ -24,15 +23,15 @@ def test_starts_that_are_refused(cluster_of):
     right = third.words
     third.words = cluster.replica_words(2, wrong("clock_ahead"))
     third.start()
-    assert third.process.wait(60) == 27, last(third)
+    assert third.ended() == 27, last(third)
     third.words = [*right[:-1], "8"]
     third.start()
-    assert third.process.wait(60) == 23, last(third)
+    assert third.ended() == 23, last(third)
     third.words = right
     for it in cluster.nodes:
         it.kill()
     third.start()
-    assert third.process.wait(90) == 20, last(third)
+    assert third.ended() == 20, last(third)
     status, said = cluster.part("status", "--log", cluster.log())
     assert status == 20, said
 
@@ -58,7 +57,7 @@ def test_outage(cluster_of):
     third, before = cluster.replicas[2], len(cluster.script())
     right, third.words = third.words, cluster.replica_words(2, wrong("clock_ahead"))
     third.start()
-    until(lambda: "waits: no other" in third.said(third.since), 90, "it says that it waits")
+    until(lambda: "waits: no other" in third.said(third.since), "it says that it waits")
     time.sleep(5)
     assert third.runs() and not third.listens(), last(third)
     assert len(cluster.script()) == before, "it appended"
@@ -66,10 +65,10 @@ def test_outage(cluster_of):
         it.start()
     for at in (0, 1):
         cluster.until_listens(at)
-    assert third.process.wait(60) == 27, last(third)
+    assert third.ended() == 27, last(third)
     traffic = Traffic(cluster.tcp, 4, pause=0.05)
     traffic.start()
-    until(lambda: traffic.made > 20, 60, "transfers")
+    until(lambda: traffic.made > 20, "transfers")
     third.words = right
     third.start()
     cluster.until_listens(2)
@@ -89,20 +88,20 @@ def test_way_back_of_a_log_that_is_ahead(cluster_of, show):
     third.start()
     cluster.until_listens(2)
     traffic.start()
-    until(lambda: traffic.made > 20, 60, "transfers of an hour ahead")
-    time.sleep(REPORT)
+    until(lambda: traffic.made > 20, "transfers of an hour ahead")
+    cluster.until_reported()
     third.end()
     third.words = right
     first, began = cluster.replicas[0], time.monotonic()
     first.start()
-    until(lambda: "ahead of this computer's clock" in first.said(), 60, "a right clock is refused")
+    until(lambda: "ahead of this computer's clock" in first.said(), "a right clock is refused")
     assert not first.listens()
     status, said = cluster.part("status", "--log", cluster.log())
     found = re.search("the log is ([0-9]+) s ahead of this computer's clock", said)
     assert status == 0 and found, said
     given_ahead(cluster, int(found[1]) + 60)
     before = traffic.made
-    until(lambda: traffic.made > before + 20, 60, "transfers go on")
+    until(lambda: traffic.made > before + 20, "transfers go on")
     show(f"{time.monotonic() - began:.1f} s from the refusal until transfers go on")
     agreed(cluster, traffic)
 

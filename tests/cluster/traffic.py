@@ -7,6 +7,8 @@ import time
 import tb_client as tb
 from tb_client import Account, Operation, Session, Socket, Transfer
 
+from .processes import LIMIT
+
 PAYER, PAYEE = 1, 2
 TIMEOUT = 8.0  # seconds for which a client waits for a reply
 OK, EXISTS = 0, tb.CreateTransferResult.exists
@@ -123,7 +125,7 @@ class Traffic:
         for it in self.all:
             it.start()
 
-    def end(self, seconds=180):
+    def end(self, seconds=300):
         """Lets each client have its last reply."""
         self.stop.set()
         end = time.monotonic() + seconds
@@ -162,7 +164,7 @@ class Traffic:
         return posted_at(*(port for _, port in self.addresses), tls=self.tls)
 
 
-def posted_at(*ports, seconds=60, tls=None):
+def posted_at(*ports, seconds=LIMIT, tls=None):
     """What the ledger has posted, as the first of these ports that replies says."""
     transport = Socket([("127.0.0.1", it) for it in ports], seconds, tls)
     with Session.register(transport) as session:
