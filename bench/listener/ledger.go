@@ -70,6 +70,7 @@ func (s *session) open(over io.ReadWriter, items int) error {
 		transfer := s.frame[at:]
 		copy(transfer[:8], s.client[:8])
 		transfer[16], transfer[32], transfer[48] = 1, 2, 1
+		rand.Read(transfer[80:96]) // otherwise a log that is deflated has next to nothing of them
 		little.PutUint32(transfer[112:], 700)
 		little.PutUint16(transfer[116:], 10)
 	}
