@@ -34,7 +34,7 @@ NOTES = (
     "tb_listen: has stopped: ",
 )
 MIB = 1 << 20
-SECONDS = 20  # that a start, an end or a line may take
+SECONDS = 120  # that a start, an end or a line may take on a busy machine
 Address = Union[str, tuple[str, int]]
 
 
@@ -159,7 +159,7 @@ class Listener:
         """A connection to it, over TCP from this address if one is given."""
         if isinstance(self.address, str):
             return connected(self.path)
-        return socket.create_connection(self.address, 10, (host, 0) if host else None)
+        return socket.create_connection(self.address, SECONDS, (host, 0) if host else None)
 
     def session(self, client: Optional[int] = None, **how: Any) -> Session:
         """A session over a socket of its own."""
@@ -198,7 +198,7 @@ def ended(*options: object, command: tuple[str, ...] = ("true",), **how: Any) ->
 
 
 def ended_with(words: list[str], **how: Any) -> tuple[int, str]:
-    ran = subprocess.run(words, capture_output=True, text=True, timeout=60, **how)
+    ran = subprocess.run(words, capture_output=True, text=True, timeout=SECONDS, **how)
     return ran.returncode, ran.stderr.splitlines()[-1] if ran.stderr else ""
 
 

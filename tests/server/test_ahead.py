@@ -8,7 +8,7 @@ import time
 import pytest
 import tb_client as tb
 
-from .running import TBD
+from .running import SECONDS, TBD
 from .wire import account, in_threads, register
 
 SECOND = 10**9
@@ -21,7 +21,9 @@ def kept(folder):
     def made(seconds):
         moment = struct.pack("<Q", time.time_ns() + int(seconds * SECOND))
         words = [TBD, "run", folder / "ledger.tbk", "64"]
-        ran = subprocess.run(words, input=moment + register(9), capture_output=True, timeout=20)
+        ran = subprocess.run(
+            words, input=moment + register(9), capture_output=True, timeout=SECONDS
+        )
         assert (ran.returncode, len(ran.stdout)) == (0, 48)
 
     return made
@@ -69,7 +71,7 @@ def test_moments_are_the_clock(start):
     listener, times = start(), []
 
     def work(first):
-        with listener.session(timeout=20) as session:
+        with listener.session(timeout=SECONDS) as session:
             for at in range(10):
                 before = time.time_ns()
                 found = time_of_a_new_account(session, first + at)

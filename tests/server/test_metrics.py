@@ -33,7 +33,7 @@ def text_of(host, port):
 
 
 def page(place):
-    with urllib.request.urlopen(f"http://{place}/metrics", timeout=10) as it:
+    with urllib.request.urlopen(f"http://{place}/metrics", timeout=120) as it:
         return it.read().decode()
 
 

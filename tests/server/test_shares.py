@@ -66,12 +66,17 @@ def test_sessions(start):
 
 def test_sessions_that_are_no_longer_used(start):
     """They do not count after --idle seconds."""
-    listener = start(*TCP, "--sessions-per-range", "1", "--idle", "1")
+    listener = start(*TCP, "--sessions-per-range", "1", "--idle", "3")
     listener.session(client=1).close()
     with pytest.raises(tb.Busy):
         listener.session(client=2, attempts=1)
-    time.sleep(1.2)
-    listener.session(client=2, attempts=1).close()
+
+    def is_taken():
+        with contextlib.suppress(tb.Busy):
+            listener.session(client=2, attempts=1).close()
+            return True
+
+    until(is_taken)
 
 
 def test_requests_wait_for_their_turn(start):

@@ -11,7 +11,7 @@ import pytest
 import tb_client as tb
 from tb_client import Session, Socket
 
-from .running import LISTENER, STAND_IN, TBD, children, ended_with, is_starting, until
+from .running import LISTENER, SECONDS, STAND_IN, TBD, children, ended_with, is_starting, until
 
 
 def slow(folder, when, seconds=3):
@@ -37,7 +37,7 @@ def test_a_request_while_the_ledger_is_read(launch):
     # the second if its time is over while the reason comes
     with pytest.raises((tb.CannotConnect, tb.ReplyLost)):
         Session.register(Socket(path, timeout=0.5), attempts=1)
-    with Session.register(Socket(path, timeout=20), attempts=1) as session:
+    with Session.register(Socket(path, timeout=SECONDS), attempts=1) as session:
         assert session.lookup_accounts([1]) == []
     assert listener.end() == 0
     assert listener.lines[-1] == f"tb_listen: listens on {path}\n"
@@ -46,7 +46,7 @@ def test_a_request_while_the_ledger_is_read(launch):
 def test_a_request_while_the_ledger_is_checked(launch, kept):
     listener = launch(command=slow(kept, "echo $* | grep -q ' check '"))
     assert is_starting(listener.path)
-    with Session.register(Socket(listener.path, timeout=20)) as it:
+    with Session.register(Socket(listener.path, timeout=SECONDS)) as it:
         assert it.session == 2
     assert listener.end() == 0
 
@@ -229,7 +229,7 @@ def test_a_signal_while_it_starts(launch, folder, number, pause):
     until(lambda: handles(listener.process, signal.SIGTERM))
     time.sleep(pause)
     listener.process.send_signal(number)
-    _, lines = listener.process.communicate(timeout=20)
+    _, lines = listener.process.communicate(timeout=SECONDS)
     assert listener.process.returncode in (0, -number), lines
     lines = [it for it in lines.splitlines() if "listens on" not in it]
     assert [it for it in lines if "has stopped: Stopping; 0 requests" not in it] == []
@@ -242,7 +242,7 @@ def test_a_hangup_while_it_starts(pause):
     listener = subprocess.Popen([LISTENER, "--nothing"], stderr=subprocess.PIPE, text=True)
     time.sleep(pause)
     listener.send_signal(signal.SIGHUP)
-    _, lines = listener.communicate(timeout=20)
+    _, lines = listener.communicate(timeout=SECONDS)
     assert (listener.returncode, lines.count("error: ")) in ((2, 1), (-signal.SIGHUP, 0))
 
 

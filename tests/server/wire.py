@@ -3,9 +3,11 @@
 from __future__ import annotations
 
 import contextlib
+import fcntl
 import os
 import socket
 import struct
+import termios
 import threading
 import time
 from collections.abc import Callable, Iterator
@@ -51,7 +53,7 @@ def octal(data: bytes) -> str:
     return "".join(f"\\{byte:03o}" for byte in data)
 
 
-def connected(path: str, seconds: float = 10) -> socket.socket:
+def connected(path: str, seconds: float = 120) -> socket.socket:
     """A connection to a listener that may not listen yet."""
     end = time.monotonic() + seconds
     while True:
@@ -72,6 +74,11 @@ def received(it: socket.socket) -> bytes:
         while more := it.recv(1 << 16):
             data += more
     return data
+
+
+def is_read(it: socket.socket) -> bool:
+    """Whether the other side of a Unix socket has read all that was sent."""
+    return fcntl.ioctl(it, termios.TIOCOUTQ, bytes(4)) == bytes(4)
 
 
 def taken(it: socket.socket, count: int) -> bytes:
