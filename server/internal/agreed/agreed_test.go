@@ -10,13 +10,10 @@ import (
 	"telovamish.org/server/internal/report"
 )
 
-func init() {
+func TestParse(t *testing.T) {
 	none := func([]Address, string, Access, *report.Log) (Log, error) { return nil, errors.New("opened") }
 	Register("etcd", 2379, none)
 	Register("postgresql", 5432, none)
-}
-
-func TestParse(t *testing.T) {
 	for url, want := range map[string]string{
 		"etcd://a,b:1,[::1]:2/x/y": "etcd a:2379 b:1 [::1]:2 x/y",
 		"postgresql://a/d/t":       "postgresql a:5432 d/t",

@@ -17,7 +17,7 @@ import (
 )
 
 // Wait is how long a test waits for what is to come.
-const Wait = time.Minute
+const Wait = 5 * time.Minute
 
 // Start makes a new log, and returns what opens it once more each time.
 type Start func(t *testing.T) (open func() agreed.Log)

@@ -208,7 +208,7 @@ func TestTries(t *testing.T) {
 	log := f.open(t, "bank", 3)
 	defer log.Close()
 	f.failing = status.Error(codes.Unavailable, "it is away")
-	ctx, end := context.WithTimeout(context.Background(), 400*time.Millisecond)
+	ctx, end := context.WithTimeout(context.Background(), 2*time.Second)
 	defer end()
 	_, err := log.Head(ctx, []byte("it"))
 	if !errors.Is(err, agreed.ErrNoLog) || f.calls < 6 {
