@@ -24,6 +24,7 @@ type fake struct {
 	revision  int64
 	compacted int64
 	pairs     map[string]*mvccpb.KeyValue
+	keys      []string // those of pairs in order, or nil if others are there since
 	history   []*mvccpb.KeyValue
 	grown     chan struct{}
 	alarms    []*pb.AlarmMember
@@ -102,14 +103,20 @@ func (f *fake) ranged(r *pb.RangeRequest) *pb.RangeResponse {
 }
 
 func (f *fake) keysIn(from, to []byte) []string {
-	found := []string{}
-	for key := range f.pairs {
-		if key == string(from) || len(to) > 0 && key >= string(from) && key < string(to) {
-			found = append(found, key)
+	if f.keys == nil {
+		for key := range f.pairs {
+			f.keys = append(f.keys, key)
 		}
+		sort.Strings(f.keys)
 	}
-	sort.Strings(found)
-	return found
+	first, end := sort.SearchStrings(f.keys, string(from)), sort.SearchStrings(f.keys, string(to))
+	if len(to) == 0 {
+		end = sort.SearchStrings(f.keys, string(from)+"\x00")
+	}
+	if end < first {
+		return nil
+	}
+	return f.keys[first:end]
 }
 
 func (n *node) Put(ctx context.Context, r *pb.PutRequest, _ ...grpc.CallOption) (*pb.PutResponse, error) {
@@ -130,7 +137,7 @@ func (f *fake) put(key, value []byte) {
 	if before, ok := f.pairs[string(key)]; ok {
 		it.CreateRevision = before.CreateRevision
 	}
-	f.pairs[string(key)] = it
+	f.pairs[string(key)], f.keys = it, nil
 	f.history = append(f.history, it)
 	close(f.grown)
 	f.grown = make(chan struct{})
@@ -144,6 +151,7 @@ func (n *node) DeleteRange(ctx context.Context, r *pb.DeleteRangeRequest, _ ...g
 	for _, key := range n.keysIn(r.Key, r.RangeEnd) {
 		delete(n.pairs, key)
 	}
+	n.keys = nil
 	n.revision++
 	return &pb.DeleteRangeResponse{Header: n.header()}, nil
 }
