@@ -99,6 +99,19 @@ func write(t *testing.T, path string, data []byte) {
 	}
 }
 
+// change writes a byte of a file in its place: a system syncs a file that is written again as a whole.
+func change(t *testing.T, path string, at int, to byte) {
+	t.Helper()
+	file, err := os.OpenFile(path, os.O_WRONLY, 0)
+	if err != nil {
+		t.Fatal(err)
+	}
+	defer file.Close()
+	if _, err := file.WriteAt([]byte{to}, int64(at)); err != nil {
+		t.Fatal(err)
+	}
+}
+
 // ends is the status and the line of why something ended.
 func ends(err error) string {
 	var ended *report.Ended
@@ -168,13 +181,12 @@ func TestDamage(t *testing.T) {
 	c, folder := made(t, 5)
 	c.Close()
 	data := read(t, folder+"/log")
-	for at := range data {
-		wrong := append([]byte(nil), data...)
-		wrong[at] ^= 4
-		write(t, folder+"/log", wrong)
+	for at, was := range data {
+		change(t, folder+"/log", at, was^4)
 		if _, _, err := scanned(folder); !strings.HasPrefix(ends(err), "24 Damaged: ") {
 			t.Errorf("byte %d: %v", at, err)
 		}
+		change(t, folder+"/log", at, was)
 	}
 	write(t, folder+"/log", data[:len(data)-1])
 	_, _, err := scanned(folder)
