@@ -12,7 +12,7 @@ from .programs import LIBRARY, Record
 from .running import Failed, run
 from .table import Program
 
-PACKAGES = 8
+PACKAGES = 9
 # The commands of Python packages: a module and its function.
 SCRIPTS = {
     "telovamish": ("telovamish.early", "main"),
@@ -34,6 +34,17 @@ Description: Telovamish ledger inside a program
 Version: {0}
 Cflags: -I${{includedir}}
 Libs: -L${{libdir}} -ltb_embed -ltb_embed_heap
+"""
+CLIENT_PKG_CONFIG = """prefix=/usr
+libdir=${{prefix}}/lib/x86_64-linux-gnu
+includedir=${{prefix}}/include
+
+Name: tb_client
+Description: a client of a Telovamish ledger
+Version: {0}
+Requires: libssl libcrypto
+Cflags: -I${{includedir}}
+Libs: -L${{libdir}} -ltb_client -ltb_embed -lpthread
 """
 CHANGELOG = """telovamish ({0}) unstable; urgency=medium
 
@@ -74,12 +85,20 @@ def pages(tree: Path, top: Path, record: Record) -> None:
 
 
 def libraries(tree: Path, top: Path, built: Path, version: str) -> None:
+    """tb_embed's library, and the client in C over it."""
     (top / "lib").mkdir()
     (top / "include").mkdir()
     for name in (LIBRARY, "libtb_embed_heap.a"):
         shutil.copyfile(built / name, top / "lib" / name)
     (top / "lib/tb_embed.pc").write_text(PKG_CONFIG.format(version))
     shutil.copyfile(tree / "clients/embed/tb_embed.h", top / "include/tb_embed.h")
+    client = tree / "clients/c"
+    # without debug lines, which have the folder's name
+    words = ["make", "-s", f"TB_EMBED_A={built / LIBRARY}", "out/libtb_client.a"]
+    run(words, cwd=client, env={"CFLAGS": "-O2"})
+    shutil.copyfile(client / "out/libtb_client.a", top / "lib/libtb_client.a")
+    (top / "lib/tb_client.pc").write_text(CLIENT_PKG_CONFIG.format(version))
+    shutil.copyfile(client / "include/tb_client.h", top / "include/tb_client.h")
 
 
 def scripts(top: Path, dist: Path) -> None:

@@ -16,6 +16,7 @@ PACKAGES = """| Package | For |
 | `telovamish-doc_{0}_all.deb`, `site/` | these pages and the API of each client, as HTML |
 | `telovamish-{0}.oci.tar` | an image with `tbd`, `tb-listen` and `tb-replica` |
 | `libtelovamish-dev_{0}_amd64.deb` | the server inside a program in C or C++ |
+| `libtelovamish-client-dev_{0}_amd64.deb` | the client in C |
 | `tbclient-{0}.jar`, `tb-client-{0}.tgz`, `tbclient@v{0}.zip` | clients for Java, Node and Go |
 """
 
