@@ -29,6 +29,7 @@ LANGUAGES = {
     "go": ["{clients}/go/out/throughput", "measure"],
     "java": ["java", "-cp", CLASSES, "org.telovamish.tbclient.Throughput"],
     "node": ["node", "{clients}/node/helpers/throughput.js"],
+    "c": ["{clients}/c/out/throughput"],
 }
 
 
@@ -45,6 +46,7 @@ class Load(NamedTuple):
             "sessions": sessions,
             "columns": f"{sessions} from columns",
             "shared": f"{self.callers} callers of a shared client",
+            "calls": f"{self.callers} calls at once by one thread",
         }
         return f"{who[self.kind]}, {self.items} a call"
 
@@ -53,10 +55,11 @@ LOADS = (
     Load("sessions", 1, 1),
     Load("sessions", 24, 1),
     Load("shared", 1000, 1),
+    Load("calls", 1000, 1),
     Load("sessions", 1, 8190),
     Load("columns", 1, 8190),
 )
-HAS_COLUMNS = ("python", "java")
+ONLY = {"columns": ("python", "java"), "calls": ("c",)}  # languages that have such a load
 
 
 @contextlib.contextmanager
@@ -98,7 +101,7 @@ def row(load: Load, given: argparse.Namespace) -> str:
     figures: Dict[Tuple[str, str], List[Tuple[float, float]]] = {}
     for _ in range(given.turns):
         for language in given.languages:
-            if load.kind == "columns" and language not in HAS_COLUMNS:
+            if language not in ONLY.get(load.kind, LANGUAGES):
                 continue
             for top in clones:
                 figure = measured(top, language, load, given)

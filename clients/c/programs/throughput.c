@@ -1,27 +1,20 @@
-/* How many transfers a second this client makes.
+/* How many transfers a second this client makes, and its CPU microseconds for each.
  *
- *     throughput ADDRESS batches|tasks|calls [SECONDS]
+ *     throughput sessions|shared|calls ADDRESS CALLERS ITEMS SECONDS
  *
- * batches: lists of 8190, one after another. tasks: 1,000 threads, each with one transfer after
- * another. calls: 1,000 calls of one transfer each at once, begun by one thread. Prints a number.
+ * sessions: threads, each with a client of its own and one list after another. shared: the same
+ * over one client. calls: one thread that begins so many calls of one client at once.
  */
+#include <sys/resource.h>
+
 #include "values.h"
 
-#define TASKS 1000
 #define STACK ((size_t)64 << 10)
 
-static tb_client *client;
+static const char *address;
+static size_t callers, length;
 static int64_t end;
 static _Atomic uint64_t made;
-
-static tb_transfer sale(void) {
-    return (tb_transfer){.id = tb_id(),
-        .debit_account_id = tb_u128_of(1),
-        .credit_account_id = tb_u128_of(2),
-        .amount = tb_u128_of(1),
-        .ledger = 700,
-        .code = 10};
-}
 
 static void sees(tb_code code, size_t failed, const tb_client_error *error) {
     if (!code && !failed) return;
@@ -30,92 +23,117 @@ static void sees(tb_code code, size_t failed, const tb_client_error *error) {
     exit(1);
 }
 
-static void batches(void) {
-    static tb_transfer list[TB_ITEMS_MAX];
-    static tb_event_result results[TB_ITEMS_MAX];
+static tb_client *connected(void) {
+    tb_client_error error;
+    tb_client *client;
+    sees(tb_client_connect(address, NULL, &client, &error), 0, &error);
+    return client;
+}
+
+static void fill(tb_transfer *list) {
+    for (size_t at = 0; at < length; at++)
+        list[at] = (tb_transfer){.id = tb_id(),
+            .debit_account_id = tb_u128_of(1),
+            .credit_account_id = tb_u128_of(2),
+            .amount = tb_u128_of(1),
+            .ledger = 700,
+            .code = 10};
+}
+
+static void *sell(void *client) {
+    tb_transfer *list = malloc(length * sizeof *list);
+    tb_event_result *results = malloc(length * sizeof *results);
     tb_client_error error;
     size_t failed;
     while (tb_now() < end) {
-        for (size_t at = 0; at < TB_ITEMS_MAX; at++) list[at] = sale();
-        sees(tb_client_create_transfers(
-                 client, list, TB_ITEMS_MAX, results, &failed, TB_NO_LIMIT, &error),
+        fill(list);
+        sees(
+            tb_client_create_transfers(client, list, length, results, &failed, TB_NO_LIMIT, &error),
             failed, &error);
-        made += TB_ITEMS_MAX;
+        made += length;
     }
+    free(list);
+    free(results);
+    return NULL;
 }
 
-static void *task(void *unused) {
-    tb_client_error error;
-    tb_event_result result;
-    size_t failed;
-    while (tb_now() < end) {
-        tb_transfer one = sale();
-        sees(tb_client_create_transfers(client, &one, 1, &result, &failed, TB_NO_LIMIT, &error),
-            failed, &error);
-        made++;
-    }
-    return unused;
-}
-
-static void tasks(void) {
-    static pthread_t threads[TASKS];
+/* Threads that sell, over one client if it is given. */
+static void threads(tb_client *client) {
+    pthread_t *all = calloc(callers, sizeof *all);
+    tb_client **own = calloc(callers, sizeof *own);
     pthread_attr_t small;
     pthread_attr_init(&small);
     pthread_attr_setstacksize(&small, STACK);
-    for (size_t at = 0; at < TASKS; at++) pthread_create(&threads[at], &small, task, NULL);
-    for (size_t at = 0; at < TASKS; at++) pthread_join(threads[at], NULL);
+    for (size_t at = 0; at < callers; at++) {
+        own[at] = client ? client : connected();
+        pthread_create(&all[at], &small, sell, own[at]);
+    }
+    for (size_t at = 0; at < callers; at++) pthread_join(all[at], NULL);
+    for (size_t at = 0; at < callers && !client; at++) tb_client_free(own[at]);
+    free(all);
+    free(own);
 }
 
-static void begin(tb_call **call) {
+static void sessions(void) { threads(NULL); }
+
+static void shared(void) {
+    tb_client *client = connected();
+    threads(client);
+    tb_client_free(client);
+}
+
+static void begin(tb_client *client, tb_call **call, tb_transfer *list) {
     tb_client_error error;
-    tb_transfer one = sale();
-    sees(tb_client_begin(client, TB_OPERATION_CREATE_TRANSFERS, &one, 1, call, &error), 0, &error);
+    fill(list);
+    tb_code code =
+        tb_client_begin(client, TB_OPERATION_CREATE_TRANSFERS, list, length, call, &error);
+    sees(code, 0, &error);
 }
 
 static void finish(tb_call *call) {
     tb_client_error error;
     tb_answer answer;
     tb_code code = tb_call_wait(call, TB_NO_LIMIT, &answer, &error);
-    sees(code, answer.count, &error);
+    sees(code, code ? 0 : answer.count, &error);
     tb_answer_free(&answer);
     tb_call_free(call);
-    made++;
+    made += length;
 }
 
 static void calls(void) {
-    static tb_call *begun[TASKS];
-    for (size_t at = 0; at < TASKS; at++) begin(&begun[at]);
-    for (size_t at = 0; tb_now() < end; at = (at + 1) % TASKS) {
+    tb_client *client = connected();
+    tb_call **begun = calloc(callers, sizeof *begun);
+    tb_transfer *list = malloc(length * sizeof *list);
+    for (size_t at = 0; at < callers; at++) begin(client, &begun[at], list);
+    for (size_t at = 0; tb_now() < end; at = (at + 1) % callers) {
         finish(begun[at]);
-        begin(&begun[at]);
+        begin(client, &begun[at], list);
     }
-    for (size_t at = 0; at < TASKS; at++) finish(begun[at]);
+    for (size_t at = 0; at < callers; at++) finish(begun[at]);
+    free(begun);
+    free(list);
+    tb_client_free(client);
 }
 
-static void prepare(void) {
-    tb_account accounts[2] = {{.id = tb_u128_of(1), .ledger = 700, .code = 10},
-        {.id = tb_u128_of(2), .ledger = 700, .code = 10}};
-    tb_event_result results[2];
-    tb_client_error error;
-    size_t failed;
-    sees(tb_client_create_accounts(client, accounts, 2, results, &failed, TB_NO_LIMIT, &error), 0,
-        &error);
-}
+static double microseconds(struct timeval it) { return it.tv_sec * 1e6 + it.tv_usec; }
 
 int main(int count, char **words) {
     static const struct {
         const char *name;
         void (*run)(void);
-    } kinds[] = {{"batches", batches}, {"tasks", tasks}, {"calls", calls}};
-    tb_client_error error;
-    if (count < 3) return 2;
-    sees(tb_client_connect(words[1], NULL, &client, &error), 0, &error);
-    prepare();
+    } kinds[] = {{"sessions", sessions}, {"shared", shared}, {"calls", calls}};
+    struct rusage used;
+    if (count != 6) return 2;
+    address = words[2];
+    callers = strtoul(words[3], NULL, 10);
+    length = strtoul(words[4], NULL, 10);
     int64_t began = tb_now();
-    end = began + (count > 3 ? atoi(words[3]) : 3) * TB_SECOND;
+    end = began + atoi(words[5]) * TB_SECOND;
     for (size_t at = 0; at < 3; at++)
-        if (!strcmp(words[2], kinds[at].name)) kinds[at].run();
-    printf("%.0f\n", (double)made * 1e9 / (double)(tb_now() - began));
-    tb_client_free(client);
-    return 0;
+        if (!strcmp(words[1], kinds[at].name)) kinds[at].run();
+    getrusage(RUSAGE_SELF, &used);
+    double took = (double)(tb_now() - began) / 1e9;
+    double cpu = microseconds(used.ru_utime) + microseconds(used.ru_stime);
+    printf("%.0f %.3f\n", (double)made / took, made ? cpu / (double)made : 0.0);
+    return made == 0;
 }
