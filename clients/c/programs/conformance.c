@@ -211,34 +211,19 @@ static void write_session(FILE *out, tb_session *session) {
     tb_saved_free(&saved);
 }
 
-static void open_session(FILE *out, const json *line) {
-    tb_client_error error;
-    tb_session *session;
-    tb_u128 id;
-    tb_transport *transport = get(TRANSPORT, line, "transport");
-    tb_session_options options = options_of(line, &id);
-    if (never || unknown) return;
-    if (tb_session_new(transport, &options, &session, &error)) {
-        write_error(out, &error, NULL);
-        return;
-    }
-    keep(SESSION, line, "session", session);
-    fputs("{\"ok\": {\"client\": ", out);
-    write_number(out, tb_session_client(session));
-    fputs("}}", out);
-}
-
-static void register_client(FILE *out, const json *line) {
+/* Makes a session, which is registered if the line says so. */
+static void make_session(FILE *out, const json *line) {
     tb_client_error error;
     tb_session *session;
     tb_answer answer;
     tb_u128 id;
+    bool registers = json_is(json_get(line, "do"), "register");
     tb_transport *transport = get(TRANSPORT, line, "transport");
     tb_session_options options = options_of(line, &id);
     int64_t limit = within(line);
     if (never || unknown) return;
     tb_code code = tb_session_new(transport, &options, &session, &error);
-    if (!code)
+    if (!code && registers)
         code = tb_session_ask(session, TB_OPERATION_REGISTER, NULL, 0, limit, &answer, &error);
     if (code) {
         write_error(out, &error, NULL);
@@ -248,8 +233,10 @@ static void register_client(FILE *out, const json *line) {
     keep(SESSION, line, "session", session);
     fputs("{\"ok\": {\"client\": ", out);
     write_number(out, tb_session_client(session));
-    fputs(", \"session\": ", out);
-    write_number(out, tb_u128_of(answer.session));
+    if (registers) {
+        fputs(", \"session\": ", out);
+        write_number(out, tb_u128_of(answer.session));
+    }
     fputs("}}", out);
 }
 
@@ -554,8 +541,8 @@ static const struct {
     {"hello", hello},
     {"reset", reset},
     {"connect", connect_to},
-    {"open", open_session},
-    {"register", register_client},
+    {"open", make_session},
+    {"register", make_session},
     {"load", go_on},
     {"resume", go_on},
     {"prepare", prepare},

@@ -83,35 +83,38 @@ fn is_record(given: &Json, kind: &str) -> Result<(), Problem> {
     }
 }
 
-/// Reads fields that are there, by their names.
-macro_rules! fields {
-    ($from:ident into $record:ident: $($name:ident)*) => {
-        $(if let Some(it) = $from.get(stringify!($name)) {
-            $record.$name = integer(Some(it))?;
-        })*
+/// What reads a record of a kind, and what shows it.
+macro_rules! record {
+    ($kind:literal $record:ident $flags:ident $read:ident $show:ident: $($name:ident)*) => {
+        pub fn $read(given: &Json) -> Result<$record, Problem> {
+            is_record(given, $kind)?;
+            let mut made = $record::default();
+            $(if let Some(it) = given.get(stringify!($name)) {
+                made.$name = integer(Some(it))?;
+            })*
+            if let Some(it) = given.get("flags") {
+                made.flags = $flags(flags(it, |bit| $flags(bit).to_string())?);
+            }
+            Ok(made)
+        }
+
+        fn $show(it: &$record) -> Json {
+            let mut fields = vec![$((stringify!($name).to_string(), Json::integer(it.$name))),*];
+            let flags = shown_flags(it.flags.0, |bit| $flags(bit).to_string());
+            fields.push(("flags".into(), flags));
+            Json::Object(fields.into_iter().collect())
+        }
     };
 }
 
-pub fn account(given: &Json) -> Result<Account, Problem> {
-    is_record(given, "account")?;
-    let mut made = Account::default();
-    fields!(given into made: id debits_pending debits_posted credits_pending credits_posted
-        user_data_128 user_data_64 user_data_32 reserved ledger code timestamp);
-    if let Some(it) = given.get("flags") {
-        made.flags = AccountFlags(flags(it, |bit| AccountFlags(bit).to_string())?);
-    }
-    Ok(made)
+record! { "account" Account AccountFlags account shown_account:
+    id debits_pending debits_posted credits_pending credits_posted user_data_128 user_data_64
+    user_data_32 reserved ledger code timestamp
 }
 
-pub fn transfer(given: &Json) -> Result<Transfer, Problem> {
-    is_record(given, "transfer")?;
-    let mut made = Transfer::default();
-    fields!(given into made: id debit_account_id credit_account_id amount pending_id user_data_128
-        user_data_64 user_data_32 timeout ledger code timestamp);
-    if let Some(it) = given.get("flags") {
-        made.flags = TransferFlags(flags(it, |bit| TransferFlags(bit).to_string())?);
-    }
-    Ok(made)
+record! { "transfer" Transfer TransferFlags transfer shown_transfer:
+    id debit_account_id credit_account_id amount pending_id user_data_128 user_data_64
+    user_data_32 timeout ledger code timestamp
 }
 
 pub fn id(given: &Json) -> Result<u128, Problem> {
@@ -173,28 +176,6 @@ fn shown_flags(bits: u16, name: impl Fn(u16) -> String) -> Json {
     Json::List(set.iter().map(|it| Json::text(&name(*it))).collect())
 }
 
-macro_rules! shown {
-    ($record:ident: $($name:ident)*) => {
-        vec![$((stringify!($name).to_string(), Json::integer($record.$name))),*]
-    };
-}
-
-fn shown_account(it: &Account) -> Json {
-    let mut fields = shown!(it: id debits_pending debits_posted credits_pending credits_posted
-        user_data_128 user_data_64 user_data_32 reserved ledger code timestamp);
-    let flags = shown_flags(it.flags.0, |bit| AccountFlags(bit).to_string());
-    fields.push(("flags".into(), flags));
-    Json::Object(fields.into_iter().collect())
-}
-
-fn shown_transfer(it: &Transfer) -> Json {
-    let mut fields = shown!(it: id debit_account_id credit_account_id amount pending_id
-        user_data_128 user_data_64 user_data_32 timeout ledger code timestamp);
-    let flags = shown_flags(it.flags.0, |bit| TransferFlags(bit).to_string());
-    fields.push(("flags".into(), flags));
-    Json::Object(fields.into_iter().collect())
-}
-
 fn shown_results<R: std::fmt::Display>(results: &[EventResult<R>]) -> Json {
     let row = |it: &EventResult<R>| {
         Json::object([
@@ -205,20 +186,19 @@ fn shown_results<R: std::fmt::Display>(results: &[EventResult<R>]) -> Json {
     Json::List(results.iter().map(row).collect())
 }
 
+fn records<R>(found: &[R], shown: impl Fn(&R) -> Json) -> Json {
+    let records = found.iter().map(shown).collect();
+    Json::object([("records", Json::List(records))])
+}
+
 /// An answer; events that failed are an error if that is asked for.
 pub fn answer(line: &Json, given: &Answer) -> Said {
     let results = match given {
         Answer::Registered(session) => {
             return Ok(Json::object([("session", Json::integer(session))]))
         }
-        Answer::Accounts(found) => {
-            let records = found.iter().map(shown_account).collect();
-            return Ok(Json::object([("records", Json::List(records))]));
-        }
-        Answer::Transfers(found) => {
-            let records = found.iter().map(shown_transfer).collect();
-            return Ok(Json::object([("records", Json::List(records))]));
-        }
+        Answer::Accounts(found) => return Ok(records(found, shown_account)),
+        Answer::Transfers(found) => return Ok(records(found, shown_transfer)),
         Answer::AccountResults(results) => shown_results(results),
         Answer::TransferResults(results) => shown_results(results),
     };
