@@ -1,14 +1,19 @@
 -- A write and a sync.
-use Rattle.std.proofs.Common.{◌≡◌, inl, inr, ⊎_elim, ℕ, zero, suc, ◌+◌, ◌*◌, ◌≤◌, ap, true, List, [], ◌∷◌, ◌++◌, length, take, drop, replicate, refl, sym, ◌∙◌, subst, arith, Result, Ok, Err, OnOk}
-use Rattle.std.proofs.lemmas.List.{append-nil, take_all, append_assoc}
+use Rattle.std.proofs.Common.{◌≡◌, inl, inr, ⊎_elim, ℕ, zero, suc, ◌+◌, ◌-◌, ◌*◌, ◌≤◌, ap, true, List, [], ◌∷◌, ◌++◌, length, take, drop, replicate, length-append, false, refl, sym, ◌∙◌, subst, arith, Result, Ok, Err, OnOk}
+use Rattle.std.proofs.lemmas.List.{append-nil, take_all, append_assoc, length-take-le}
 use Rattle.std.proofs.Math.ListN.{drop_of_length-le}
 use Rattle.tb_sectors.specs.declared.devices.SectorFault.{SectorFault}
-use Rattle.tb_sectors.specs.Sectors.{Disk, IsSettled, IsMixed, Only, Elapses, LeavesOnly, Writes, Syncs, overwritten, sector}
-use Rattle.tb_sectors.specs.Stamped.{stamped, file_sectors, after_batches}
+use Rattle.tb_sectors.specs.Ranges.{IsTorn}
+use Rattle.tb_sectors.specs.Sectors.{Disk, IsSettled, IsMixed, Only, Elapses, LeavesOnly, WritesBy, Syncs, overwritten, sector}
+use Rattle.tb_sectors.specs.Stamped.{Batch, stamped, file_sectors, after_batches}
 use Rattle.tb_sectors.specs.StampedLaws.{HasSectors}
-use Rattle.tb_sectors.specs.Steps.{Overwrites, WritesBatch, IsBeforeOrAfter, ClearsTorn, HasSameSectors, Reserves}
-use Rattle.tb_sectors.specs.private.MemoryLaws.{mixed_old, mixed_new}
+use Rattle.tb_sectors.specs.Encoding.{latch_bytes}
+use Rattle.tb_sectors.specs.Latches.{IsClosedAfter, end_after, latch_after}
+use Rattle.tb_sectors.specs.Steps.{OverwritesBy, Overwrites, OverwritesRange, WritesBatch, opened_before, CommitsClosed, WritesClosedBatch, ClosesLatch, IsBeforeOrAfter, ClearsTorn, HasSameSectors, Reserves}
 use Rattle.tb_sectors.proofs.Journals.{crash_leaves_all_or_none, file_is_all_or_none, file_sector}
+use Rattle.tb_sectors.specs.private.Outcomes.{torn_whole}
+use Rattle.tb_sectors.proofs.Closings.{latch_is_closed}
+use Rattle.tb_sectors.proofs.Latches.{behind_latch_nothing_counts, latch_is_all_or_none}
 
 -- how a run of calls goes on
 
@@ -40,27 +45,38 @@ through : (result : Result (Unit {0}) SectorFault) (A B : Type 0) → (A → B) 
 through (Ok x) A B f a = f a
 through (Err e) A B f a = tt
 
+-- one run of calls, and another
+pub one_after : (old mid new : Disk) (P : List ℕ → Type 0) → LeavesOnly old mid P → LeavesOnly mid new P → LeavesOnly old new P
+one_after old mid new P so then_so = record {
+  later = omega (arith, so.later, then_so.later);
+  each = λ c left. ⊎_elim (so.each c) (λ p. p) (then_so.earlier old.moment c so.later left);
+  earlier = λ t c le left. ⊎_elim (so.earlier t c le) (λ p. inr p) (then_so.earlier t c (omega (arith, le, so.later)) left);
+}
+
 -- a write and a sync
 
-module _ (at : ℕ) (bytes : List ℕ) (before mid : Disk) (only_now : (c : List ℕ) → before.left_since before.moment c → before.may_leave c) (wrote : Result (Unit {0}) SectorFault) (writes : Writes at bytes wrote before mid) where
+abbrev pub sector_step : Disk → ℕ → List ℕ → List ℕ → List ℕ → Type 0
+sector_step before at bytes d c = IsMixed d (overwritten before.seen at bytes) c
+
+module _ (step : List ℕ → List ℕ → Type 0) (at : ℕ) (bytes : List ℕ) (before mid : Disk) (only_now : (c : List ℕ) → before.left_since before.moment c → before.may_leave c) (none : step before.seen before.seen) (all : step before.seen (overwritten before.seen at bytes)) (wrote : Result (Unit {0}) SectorFault) (writes : WritesBy step at bytes wrote before mid) where
   abbrev new : List ℕ
   new = overwritten before.seen at bytes
 
-  mixes : IsSettled before → (c : List ℕ) → mid.may_leave c → IsMixed before.seen new c
-  mixes settled c now =
+  stepped : IsSettled before → (c : List ℕ) → mid.may_leave c → step before.seen c
+  stepped settled c now =
       let from = writes.crash c now in
-      subst (λ (d : List ℕ). IsMixed d new c) (settled.kept from.0 from.1) from.2
+      subst (λ (d : List ℕ). step d c) (settled.kept from.0 from.1) from.2
 
-  during : IsSettled before → LeavesOnly before mid (IsMixed before.seen new)
+  during : IsSettled before → LeavesOnly before mid (step before.seen)
   during settled =
-      one_more before before mid (IsMixed before.seen new)
-      (started before (IsMixed before.seen new) (λ c left. subst (λ (d : List ℕ). IsMixed before.seen new d) (sym (settled.kept c (only_now c left))) (mixed_old before.seen new)))
-      writes.time (mixes settled)
+      one_more before before mid (step before.seen)
+      (started before (step before.seen) (λ c left. subst (step before.seen) (sym (settled.kept c (only_now c left))) none))
+      writes.time (stepped settled)
 
-  pub failed : (fault : SectorFault) → Overwrites at bytes (Err fault) before mid
+  pub failed : (fault : SectorFault) → OverwritesBy step at bytes (Err fault) before mid
   failed fault = record { ok = tt; settled = λ settled. tt; any_moment = during }
 
-  pub synced : wrote ≡ Ok tt → (after : Disk) (result : Result (Unit {0}) SectorFault) → Syncs result mid after → Overwrites at bytes result before after
+  pub synced : wrote ≡ Ok tt → (after : Disk) (result : Result (Unit {0}) SectorFault) → Syncs result mid after → OverwritesBy step at bytes result before after
   synced is after result syncs =
       let seen : mid.seen ≡ new = on_ok wrote (mid.seen ≡ new) is writes.written in
       record {
@@ -71,8 +87,8 @@ module _ (at : ℕ) (bytes : List ℕ) (before mid : Disk) (only_now : (c : List
               sound = facts.1 ∙ writes.sound ∙ settled.sound;
             })
             (both result (mid.sound ≡ true → Only mid.seen after.may_leave) (after.sound ≡ mid.sound) syncs.durable syncs.sound);
-        any_moment = λ settled. one_more before mid after (IsMixed before.seen new) (during settled) syncs.time
-            (λ c left. ⊎_elim (mixes settled c) (λ same. subst (λ (d : List ℕ). IsMixed before.seen new d) (sym (same ∙ seen)) (mixed_new before.seen new)) (syncs.crash c left));
+        any_moment = λ settled. one_more before mid after (step before.seen) (during settled) syncs.time
+            (λ c left. ⊎_elim (stepped settled c) (λ same. subst (step before.seen) (sym (same ∙ seen)) all) (syncs.crash c left));
       }
     where
       always : (r : Result (Unit {0}) SectorFault) {P : Type 0} → P → OnOk r P
@@ -149,7 +165,7 @@ reserves end zeros result before after ends are settled writes =
 
 -- a clear
 pub clears : (at : ℕ) (bytes : List ℕ) (result : Result (Unit {0}) SectorFault) (before after : Disk) → Overwrites at bytes result before after → ClearsTorn at bytes result before after
-clears at bytes result before after writes first batches batch old new settled has will torn done =
+clears at bytes result before after writes first batches batch old will_be settled has will torn done =
     let cleared = overwritten before.seen at bytes in
     record {
       cleared = both result (IsSettled after) (HasSectors after.seen (after_batches first batches)) (writes.settled settled)
@@ -161,4 +177,68 @@ clears at bytes result before after writes first batches batch old new settled h
           (λ e. inl (file_sector k c ∙ ap stamped e ∙ done k))
           (mixed.each k)))
           (writes.any_moment settled);
+    }
+
+-- a commit with two syncs
+
+long_still : (at : ℕ) (bytes file : List ℕ) → at ≤ length file → at ≤ length (overwritten file at bytes)
+long_still at bytes file within = omega (arith, length-take-le at file within, length-append (take at file) (bytes ++ drop (at + length bytes) file))
+
+pub stays_long : (end : ℕ) (sectors file seen : List ℕ) → seen ≡ overwritten file end sectors → end ≤ length file → end - 498 ≤ length seen
+stays_long end sectors file seen is within = omega (arith, ap (λ (l : List ℕ). length l) is, long_still end sectors file within)
+
+behind : (end : ℕ) (sectors file : List ℕ) (first : List ℕ) (batches : List Batch) → end ≤ length file → IsClosedAfter first batches file → end ≡ end_after first batches
+    → (c : List ℕ) → IsTorn end (length sectors) file c → IsClosedAfter first batches c
+behind end sectors file first batches within closed ends c torn =
+    behind_latch_nothing_counts first batches file c (length sectors) closed (omega (arith, within, ends)) (subst (λ (n : ℕ). IsTorn n (length sectors) file c) ends torn)
+
+-- the first write failed, or its sync did
+pub closed_failed : (end : ℕ) (sectors : List ℕ) (fault : SectorFault) (before after : Disk) → end ≤ length before.seen
+    → OverwritesRange end sectors (Err fault) before after → WritesClosedBatch end sectors (Err fault) before after
+closed_failed end sectors fault before after within writes first batches batch settled closed ends will = record {
+  acknowledged = tt;
+  any_moment = weaker before after _ _ (λ c torn. inl (behind end sectors before.seen first batches within closed ends c torn)) (writes.any_moment settled);
+}
+
+-- the latch is opened
+pub closed_commits : (end : ℕ) (sectors : List ℕ) (before mid after : Disk) (wrote result : Result (Unit {0}) SectorFault) → end ≤ length before.seen → wrote ≡ Ok tt
+    → OverwritesRange end sectors wrote before mid → OverwritesRange (end - 498) (latch_bytes false) result mid after → WritesClosedBatch end sectors result before after
+closed_commits end sectors before mid after wrote result within is writes opens first batches batch settled closed ends will =
+    let seen : mid.seen ≡ overwritten before.seen end sectors = on_ok wrote _ is writes.ok in
+    let mid_settled : IsSettled mid = on_ok wrote _ is (writes.settled settled) in
+    let latch : end - 498 ≡ latch_after first batches = ap (λ (n : ℕ). n - 498) ends in
+    let front = behind end sectors before.seen first batches within closed ends in
+    let still : IsClosedAfter first batches mid.seen
+    = subst (IsClosedAfter first batches) (sym seen) (front (overwritten before.seen end sectors) (torn_whole end sectors before.seen within)) in
+    let long : end_after first batches ≤ length mid.seen
+    = omega (arith, ends, ap (λ (l : List ℕ). length l) seen, long_still end sectors before.seen within) in
+    let opened : IsClosedAfter first (batch ∷ batches) (overwritten mid.seen (end - 498) (latch_bytes false))
+    = subst (λ (f : List ℕ). IsClosedAfter first (batch ∷ batches) (overwritten f (end - 498) (latch_bytes false))) (sym seen) will in
+    record {
+      acknowledged = both result (IsSettled after) (IsClosedAfter first (batch ∷ batches) after.seen) (opens.settled mid_settled)
+          (through result _ (IsClosedAfter first (batch ∷ batches) after.seen) (λ e. subst (IsClosedAfter first (batch ∷ batches)) (sym e) opened) opens.ok);
+      any_moment = one_after before mid after _
+          (weaker before mid _ _ (λ c torn. inl (front c torn)) (writes.any_moment settled))
+          (weaker mid after _ _ (λ c torn. latch_is_all_or_none first batches batch mid.seen c still long
+          (subst (λ (n : ℕ). IsClosedAfter first (batch ∷ batches) (overwritten mid.seen n (latch_bytes false))) latch opened)
+          (subst (λ (n : ℕ). IsTorn n 2 mid.seen c) latch torn)) (opens.any_moment mid_settled));
+    }
+
+pub opened_seen : (end : ℕ) (sectors : List ℕ) (before mid after : Disk) (wrote result : Result (Unit {0}) SectorFault) → wrote ≡ Ok tt
+    → OverwritesRange end sectors wrote before mid → OverwritesRange (end - 498) (latch_bytes false) result mid after → OnOk result (after.seen ≡ opened_before end sectors before.seen)
+opened_seen end sectors before mid after wrote result is writes opens =
+    through result (after.seen ≡ overwritten mid.seen (end - 498) (latch_bytes false)) (after.seen ≡ opened_before end sectors before.seen)
+    (λ e. e ∙ ap (λ (f : List ℕ). overwritten f (end - 498) (latch_bytes false)) (on_ok wrote (mid.seen ≡ overwritten before.seen end sectors) is writes.ok)) opens.ok
+
+-- the last latch is closed
+pub closes_latch : (end : ℕ) (before after : Disk) (result : Result (Unit {0}) SectorFault) → end ≤ length before.seen
+    → OverwritesRange (end - 498) (latch_bytes true) result before after → ClosesLatch end result before after
+closes_latch end before after result within writes first batches settled has ends =
+    let latch : end - 498 ≡ latch_after first batches = ap (λ (n : ℕ). n - 498) ends in
+    let law = latch_is_closed first batches before.seen has (omega (arith, within, ends)) in
+    record {
+      closed = both result (IsSettled after) (IsClosedAfter first batches after.seen) (writes.settled settled)
+          (through result _ (IsClosedAfter first batches after.seen)
+          (λ e. subst (IsClosedAfter first batches) (sym (e ∙ ap (λ (n : ℕ). overwritten before.seen n (latch_bytes true)) latch)) law.0) writes.ok);
+      any_moment = weaker before after _ _ (λ c torn. law.1 c (subst (λ (n : ℕ). IsTorn n 2 before.seen c) latch torn)) (writes.any_moment settled);
     }

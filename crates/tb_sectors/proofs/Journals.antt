@@ -114,11 +114,11 @@ crash_leaves_all_or_none first batches batch left mixed =
 
 -- files
 
-stamped_zeros : stamped (replicate 512 0) ≡ blank
+pub stamped_zeros : stamped (replicate 512 0) ≡ blank
 unfolding is_intact bit_on byte_on
 stamped_zeros = refl
 
-past_the_end : (k : ℕ) (file : List ℕ) → length file ≤ 512 * k → sector k file ≡ replicate 512 0
+pub past_the_end : (k : ℕ) (file : List ℕ) → length file ≤ 512 * k → sector k file ≡ replicate 512 0
 past_the_end k file le = ap (λ (l : List ℕ). take 512 (l ++ replicate 512 0)) (drop_of_length-le file le)
 
 sector_from : (j count k : ℕ) (file : List ℕ) → length file ≤ 512 * (j + count) → sector_at (sectors_from j count file) k ≡ stamped (sector (j + k) file)

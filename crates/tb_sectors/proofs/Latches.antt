@@ -6,8 +6,10 @@ use Rattle.std.proofs.lemmas.List.{append-nil, take_at, drop_at, take-append-le,
 use Rattle.std.proofs.lemmas.Bool.{cases_lt}
 use Rattle.tb_sectors.specs.Sectors.{sector, overwritten}
 use Rattle.tb_sectors.specs.Stamped.{Stamped, Taken, nothing_taken, follows, with_sector, begins_in, Ends, Damaged, read_on, stream_of, Batch, sector_at, after_batches, closes, is_intact, sum_bytes, decoded, rotten, stamped, file_sectors}
-use Rattle.tb_sectors.specs.Latches.{IsTorn, shut, closed_last, IsClosedAfter, end_after, latch_after, ClosedIsRead, BehindLatchNothingCounts, LatchIsAllOrNone}
-use Rattle.tb_sectors.proofs.Drops.{drop_parts}
+use Rattle.tb_sectors.specs.Ranges.{IsTorn}
+use Rattle.tb_sectors.specs.private.Latched.{latched}
+use Rattle.tb_sectors.specs.Latches.{shut, closed_last, IsClosedAfter, end_after, latch_after, ClosedIsRead, BehindLatchNothingCounts, LatchIsAllOrNone}
+use Rattle.tb_sectors.specs.private.Outcomes.{drop_parts, torn_whole}
 use Rattle.tb_sectors.proofs.Mixes.{IsNext, IsAtRest, follows_next, takes, sector_bytes, not_blank}
 use Rattle.tb_sectors.proofs.Journals.{batches_at_rest, batches_bytes, batches_are_some, file_sector}
 use Rattle.tb_sectors.proofs.Readers.{closed_ends}
@@ -33,12 +35,12 @@ closed_reads t (s ∷ r ∷ more) (x ∷ left) (next, rests) some h =
     ∙ closed_reads (with_sector t s) (r ∷ more) left rests (omega arith) (λ k less. h (suc k) (omega (arith, less)))
     ∙ ap Some (append_assoc t.all s.bytes (sector_bytes (r ∷ more)))
 
-closed_length : (l : List Stamped) → length (closed_last l) ≡ length l
+pub closed_length : (l : List Stamped) → length (closed_last l) ≡ length l
 closed_length [] = refl
 closed_length (s ∷ []) = refl
 closed_length (s ∷ r ∷ more) = ap (λ (n : ℕ). suc n) (closed_length (r ∷ more))
 
-some_sectors : (first : List ℕ) (batches : List Batch) → 0 < length (after_batches first batches)
+pub some_sectors : (first : List ℕ) (batches : List Batch) → 0 < length (after_batches first batches)
 some_sectors first batches = let some = batches_are_some first batches in omega (arith, ap (λ (l : List Stamped). length l) some.is)
 
 pub closed_is_read : ClosedIsRead
@@ -50,7 +52,7 @@ closed_is_read first batches file closed =
 
 -- parts of lists
 
-take_in : (i j n : ℕ) (l : List ℕ) → i + j ≤ n → take j (drop i l) ≡ take j (drop i (take n l))
+pub take_in : (i j n : ℕ) (l : List ℕ) → i + j ≤ n → take j (drop i l) ≡ take j (drop i (take n l))
 take_in zero zero n l le = refl
 take_in zero (suc j) zero l le = absurd (omega (arith, le))
 take_in zero (suc j) (suc n) [] le = refl
@@ -60,7 +62,7 @@ take_in (suc i) j (suc n) [] le = refl
 take_in (suc i) j (suc n) (x ∷ l) le = take_in i j n l (omega (arith, le))
 
 -- a sector that the file has whole
-whole_sector : (k : ℕ) (f : List ℕ) → 512 * k + 512 ≤ length f → sector k f ≡ take 512 (drop (512 * k) f)
+pub whole_sector : (k : ℕ) (f : List ℕ) → 512 * k + 512 ≤ length f → sector k f ≡ take 512 (drop (512 * k) f)
 whole_sector k f le = take-append-le 512 (drop (512 * k) f) (replicate 512 0) (omega (arith, le, length-drop (512 * k) f))
 
 same_front : (k n : ℕ) (f g : List ℕ) → 512 * k + 512 ≤ n → n ≤ length f → n ≤ length g → take n f ≡ take n g → sector k f ≡ sector k g
@@ -82,14 +84,11 @@ behind_latch_nothing_counts first batches old left n closed long torn k less =
 
 -- two sectors that differ in the latch alone
 
-record SameButLatch (b c : List ℕ) : Type 0 where
-  front : take 14 b ≡ take 14 c
-  back : drop 16 b ≡ drop 16 c
+pub record SameButLatch (b c : List ℕ) : Type 0 where
+  pub front : take 14 b ≡ take 14 c
+  pub back : drop 16 b ≡ drop 16 c
 
-abbrev relatched : Bool → Stamped → Stamped
-relatched closed s = record { number = s.number; begun = s.begun; ends = s.ends; bytes = s.bytes; closed = closed }
-
-abbrev latch_of : List ℕ → Bool
+abbrev pub latch_of : List ℕ → Bool
 latch_of b = closes (take 2 (drop 14 b))
 
 module _ (b c : List ℕ) (same : SameButLatch b c) where
@@ -99,14 +98,14 @@ module _ (b c : List ℕ) (same : SameButLatch b c) where
   content : drop 20 b ≡ drop 20 c
   content = drop_parts 16 4 b ∙ ap (drop 4) same.back ∙ sym (drop_parts 16 4 c)
 
-  intact_same : is_intact b ≡ is_intact c
+  pub intact_same : is_intact b ≡ is_intact c
   unfolding is_intact
   intact_same =
       ap (λ (l : List ℕ). from_le_bytes w32 (take 4 l) == from_le_bytes w32 (sum_bytes (take 14 b ++ drop 20 b))) same.back
       ∙ ap (λ (l : List ℕ). from_le_bytes w32 (take 4 (drop 16 c)) == from_le_bytes w32 (sum_bytes (l ++ drop 20 b))) same.front
       ∙ ap (λ (l : List ℕ). from_le_bytes w32 (take 4 (drop 16 c)) == from_le_bytes w32 (sum_bytes (take 14 c ++ l))) content
 
-  decoded_same : decoded b ≡ relatched (latch_of b) (decoded c)
+  pub decoded_same : decoded b ≡ latched (latch_of b) (decoded c)
   decoded_same =
       let d = decoded b in
       ap (λ (l : List ℕ). record { number = from_le_bytes w64 l; begun = d.begun; ends = d.ends; bytes = d.bytes; closed = d.closed }) (part 0 8 (omega arith))
@@ -115,13 +114,13 @@ module _ (b c : List ℕ) (same : SameButLatch b c) where
       ∙ ap (λ (l : List ℕ). record { number = (decoded c).number; begun = (decoded c).begun; ends = (decoded c).ends; bytes = take (from_le_bytes w16 l) (drop 20 b); closed = d.closed }) (part 10 2 (omega arith))
       ∙ ap (λ (l : List ℕ). record { number = (decoded c).number; begun = (decoded c).begun; ends = (decoded c).ends; bytes = take (from_le_bytes w16 (take 2 (drop 10 c))) l; closed = d.closed }) content
 
-  stamped_same : (s : Stamped) → stamped c ≡ shut s → stamped b ≡ relatched (latch_of b) s
+  pub stamped_same : (s : Stamped) → stamped c ≡ shut s → stamped b ≡ latched (latch_of b) s
   stamped_same s is = by_test (is_intact c) refl
     where
-      by_test : (i : Bool) → is_intact c ≡ i → stamped b ≡ relatched (latch_of b) s
+      by_test : (i : Bool) → is_intact c ≡ i → stamped b ≡ latched (latch_of b) s
       by_test true e =
           ap (λ (x : Bool). if x then decoded b else rotten) (intact_same ∙ e) ∙ decoded_same
-          ∙ ap (relatched (latch_of b)) (sym (ap (λ (x : Bool). if x then decoded c else rotten) e) ∙ is)
+          ∙ ap (latched (latch_of b)) (sym (ap (λ (x : Bool). if x then decoded c else rotten) e) ∙ is)
       by_test false e = absurd (open_is_not_closed (ap (λ (x : Stamped). x.closed) (sym (ap (λ (x : Bool). if x then decoded c else rotten) e) ∙ is)))
         where
           open_is_not_closed : false ≡ true → ⊥
@@ -141,7 +140,7 @@ module _ (m : ℕ) (f left : List ℕ) (long : 512 * m + 512 ≤ length f) (torn
   longer = omega (arith, long, torn.no_shorter)
 
   -- all other sectors are as they were
-  others : (k : ℕ) → (k ≡ m → ⊥) → sector k left ≡ sector k f
+  pub others : (k : ℕ) → (k ≡ m → ⊥) → sector k left ≡ sector k f
   others k other = ⊎_elim
       (λ less. same_front k (512 * m + 14) left f (omega (arith, less)) (omega (arith, longer)) (omega (arith, long)) torn.before)
       (λ le. same_behind k (512 * m + 14 + 2) left f (past le) torn.after)
@@ -158,7 +157,7 @@ module _ (m : ℕ) (f left : List ℕ) (long : 512 * m + 512 ≤ length f) (torn
       ap (drop 16) (whole_sector m g le) ∙ drop-take 16 496 (drop (512 * m) g)
       ∙ ap (take 496) (sym (drop_parts (512 * m) 16 g) ∙ ap (λ (n : ℕ). drop n g) (omega arith))
 
-  latch_alone : SameButLatch (sector m left) (sector m f)
+  pub latch_alone : SameButLatch (sector m left) (sector m f)
   latch_alone = record {
     front = front_of left longer ∙ ap (λ (l : List ℕ). take 14 (drop (512 * m) l)) torn.before ∙ sym (front_of f long);
     back = back_of left longer ∙ ap (take 496) torn.after ∙ sym (back_of f long);
@@ -181,25 +180,20 @@ module _ (m : ℕ) (f : List ℕ) (long : 512 * m + 512 ≤ length f) where
   same_length : length (overwritten f at (0 ∷ 0 ∷ [])) ≡ length f
   same_length = omega (arith, begins, long, length-append (take at f) (0 ∷ 0 ∷ drop (at + 2) f), length-drop (at + 2) f)
 
-  opened_torn : IsTorn at 2 f (overwritten f at (0 ∷ 0 ∷ []))
-  opened_torn = record {
-    before = take_at (take at f) (0 ∷ 0 ∷ drop (at + 2) f) at begins;
-    after = drop_parts at 2 (overwritten f at (0 ∷ 0 ∷ [])) ∙ ap (drop 2) rest_behind;
-    no_shorter = omega (arith, same_length);
-    no_longer = omega (arith, same_length);
-  }
+  pub opened_torn : IsTorn at 2 f (overwritten f at (0 ∷ 0 ∷ []))
+  opened_torn = torn_whole at (0 ∷ 0 ∷ []) f (omega (arith, long))
 
-  opened_latch : latch_of (sector m (overwritten f at (0 ∷ 0 ∷ []))) ≡ false
+  pub opened_latch : latch_of (sector m (overwritten f at (0 ∷ 0 ∷ []))) ≡ false
   opened_latch =
       let g = overwritten f at (0 ∷ 0 ∷ []) in
       ap (λ (l : List ℕ). closes (take 2 (drop 14 l))) (whole_sector m g (omega (arith, long, same_length)))
       ∙ ap closes (sym (take_in 14 2 512 (drop (512 * m) g) (omega arith)) ∙ ap (take 2) (sym (drop_parts (512 * m) 14 g) ∙ rest_behind))
 
-either : (b : Bool) → (b ≡ true) ⊎ (b ≡ false)
+pub either : (b : Bool) → (b ≡ true) ⊎ (b ≡ false)
 either true = inl refl
 either false = inr refl
 
-place : (k m : ℕ) → (k ≡ m) ⊎ (k ≡ m → ⊥)
+pub place : (k m : ℕ) → (k ≡ m) ⊎ (k ≡ m → ⊥)
 place k m = ⊎_elim (λ less. inr (λ e. omega (arith, less, e))) (λ le. ⊎_elim (λ more. inr (λ e. omega (arith, more, e))) (λ same. inl (omega (arith, le, same))) (cases_lt m k)) (cases_lt k m)
 
 pub latch_is_all_or_none : LatchIsAllOrNone
@@ -215,27 +209,27 @@ latch_is_all_or_none first batches batch file left closed long will torn =
         subst (λ (n : ℕ). IsClosedAfter first (batch ∷ batches) (overwritten file n (0 ∷ 0 ∷ []))) place_is will in
         let last = last_shut (after_batches first batches) m count in
         let here : stamped (sector m file) ≡ shut last.0 = closed m (omega (arith, count, closed_length (after_batches first batches))) ∙ last.1 in
-        let found : stamped (sector m left) ≡ relatched (latch_of (sector m left)) last.0 =
+        let found : stamped (sector m left) ≡ latched (latch_of (sector m left)) last.0 =
         stamped_same (sector m left) (sector m file) (latch_alone m file left within torn_there) last.0 here in
-        let ready : stamped (sector m (overwritten file (512 * m + 14) (0 ∷ 0 ∷ []))) ≡ relatched false last.0 =
+        let ready : stamped (sector m (overwritten file (512 * m + 14) (0 ∷ 0 ∷ []))) ≡ latched false last.0 =
         stamped_same (sector m (overwritten file (512 * m + 14) (0 ∷ 0 ∷ []))) (sector m file)
         (latch_alone m file (overwritten file (512 * m + 14) (0 ∷ 0 ∷ [])) within (opened_torn m file within)) last.0 here
-        ∙ ap (λ (c : Bool). relatched c last.0) (opened_latch m file within) in
+        ∙ ap (λ (c : Bool). latched c last.0) (opened_latch m file within) in
         ⊎_elim
         (λ still. inl (λ k less. ⊎_elim
         (λ e. subst (λ (x : ℕ). stamped (sector x left) ≡ sector_at (closed_last (after_batches first batches)) x) (sym e)
-        (found ∙ ap (λ (c : Bool). relatched c last.0) still ∙ shut_again last.0 ∙ sym last.1))
+        (found ∙ ap (λ (c : Bool). latched c last.0) still ∙ shut_again last.0 ∙ sym last.1))
         (λ other. ap stamped (others m file left within torn_there k other) ∙ closed k less)
         (place k m)))
         (λ no_more. inr (λ k less. ⊎_elim
         (λ e. subst (λ (x : ℕ). stamped (sector x left) ≡ sector_at (closed_last (after_batches first (batch ∷ batches))) x) (sym e)
-        (found ∙ ap (λ (c : Bool). relatched c last.0) no_more ∙ sym ready ∙ open_there m (at_place e less)))
+        (found ∙ ap (λ (c : Bool). latched c last.0) no_more ∙ sym ready ∙ open_there m (at_place e less)))
         (λ other. ap stamped (others m file left within torn_there k other
         ∙ sym (others m file (overwritten file (512 * m + 14) (0 ∷ 0 ∷ [])) within (opened_torn m file within) k other)) ∙ open_there k less)
         (place k m)))
         (either (latch_of (sector m left)))
       where
-        shut_again : (s : Stamped) → relatched true s ≡ shut s
+        shut_again : (s : Stamped) → latched true s ≡ shut s
         shut_again s = refl
 
         at_place : {k n : ℕ} → k ≡ m → k < n → m < n

@@ -7,7 +7,7 @@ use Rattle.std.proofs.Math.Seq.{take-append-add}
 use Rattle.tb_sectors.specs.Sectors.{sector}
 use Rattle.tb_sectors.specs.Stamped.{Stamped, Taken, follows, with_sector, begins_in, Verdict, Ends, Damaged, read_on, stamped, sectors_from, file_sectors}
 use Rattle.tb_sectors.specs.Reading.{TakesSector, IsReadOn}
-use Rattle.tb_sectors.proofs.Drops.{drop_parts}
+use Rattle.tb_sectors.specs.private.Outcomes.{drop_parts}
 
 pub never : {P : Type 0} → true ≡ false → P
 never e = absurd (contradiction e)

@@ -11,7 +11,7 @@ use Rattle.std.specs.Prelude.{map, bit_and}
 use Rattle.tb_sectors.specs.declared.tables.TheConstants.{REMAINDERS}
 use Rattle.std.specs.Int.Bits.{bit_xor, xor_assoc, xor_zero_l, xor_zero_r}
 use Rattle.tb_sectors.specs.Checksum.{bit_on, byte_on, remainder, zeros_on}
-use Rattle.tb_sectors.proofs.Drops.{drop_parts}
+use Rattle.tb_sectors.specs.private.Outcomes.{drop_parts}
 
 -- what a bit adds
 turned : ℕ → ℕ

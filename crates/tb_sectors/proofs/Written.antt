@@ -13,12 +13,12 @@ use Rattle.tb_sectors.proofs.Pieces.{pieces_join}
 
 -- places in a list of sectors
 
-at_front : (front more : List Stamped) (k : ℕ) → k < length front → sector_at (front ++ more) k ≡ sector_at front k
+pub at_front : (front more : List Stamped) (k : ℕ) → k < length front → sector_at (front ++ more) k ≡ sector_at front k
 at_front [] more k less = absurd (omega arith)
 at_front (s ∷ front) more zero less = refl
 at_front (s ∷ front) more (suc k) less = at_front front more k (omega arith)
 
-at_behind : (front more : List Stamped) (i : ℕ) → sector_at (front ++ more) (length front + i) ≡ sector_at more i
+pub at_behind : (front more : List Stamped) (i : ℕ) → sector_at (front ++ more) (length front + i) ≡ sector_at more i
 at_behind [] more i = ap (sector_at more) (omega arith)
 at_behind (s ∷ front) more i = ap (sector_at (s ∷ (front ++ more))) (let e : length (s ∷ front) + i ≡ suc (length front + i) = omega arith in e) ∙ at_behind front more i
 
@@ -29,16 +29,16 @@ at_end (s ∷ l) (suc i) le = at_end l i (omega arith)
 
 -- sectors that fit
 
-abbrev AllFit : List Stamped → Type 0
+abbrev pub AllFit : List Stamped → Type 0
 AllFit [] = Unit {0}
 AllFit (s ∷ more) = FitsSector s × AllFit more
 
-raws_length : (news : List Stamped) → AllFit news → length (raws news) ≡ 512 * length news
+pub raws_length : (news : List Stamped) → AllFit news → length (raws news) ≡ 512 * length news
 raws_length [] fits = refl
 raws_length (s ∷ news) (fits, more) = omega (arith, length-append (raw s) (raws news), raw_length s fits.bytes, raws_length news more)
 
 -- the sectors of what is written
-raws_at : (news : List Stamped) (rest : List ℕ) (i : ℕ) → i < length news → AllFit news → stamped (sector i (raws news ++ rest)) ≡ sector_at news i
+pub raws_at : (news : List Stamped) (rest : List ℕ) (i : ℕ) → i < length news → AllFit news → stamped (sector i (raws news ++ rest)) ≡ sector_at news i
 raws_at [] rest i less fits = absurd (omega arith)
 raws_at (s ∷ news) rest zero less (fits, more) =
     ap stamped (ap (λ (l : List ℕ). take 512 l) (append_assoc (raw s ++ raws news) rest (replicate 512 0) ∙ append_assoc (raw s) (raws news) (rest ++ replicate 512 0))
@@ -86,7 +86,7 @@ module _ (file : List ℕ) (m : ℕ) (new : List ℕ) (n : ℕ) (within : 512 * 
       ∙ ap (drop (512 * k)) (front_same (512 * k + 512) (omega (arith, less))) ∙ sym (whole k file (omega (arith, within, less)))
 
 -- the file has the new sectors in the place of the old ones
-written_over : (file : List ℕ) (front olds news : List Stamped) → HasSectors file (front ++ olds) → length olds ≤ length news → 512 * length front ≤ length file → AllFit news
+pub written_over : (file : List ℕ) (front olds news : List Stamped) → HasSectors file (front ++ olds) → length olds ≤ length news → 512 * length front ≤ length file → AllFit news
     → HasSectors (overwritten file (512 * length front) (raws news)) (front ++ news)
 written_over file front olds news has fewer within fits k = ⊎_elim in_front behind_front (cases_lt k (length front))
   where
@@ -133,7 +133,7 @@ pieces_fit (suc count) number (b ∷ bytes) less =
     fits : (more : Bool) → FitsSector (further number (take 492 (b ∷ bytes)) more)
     fits more = record { number = less; begun = omega arith; ends = ends_fit more; bytes = short }
 
-cut_fits : (o : Stamped) (bytes : List ℕ) → length o.bytes ≤ 492 → o.number + 1 < 2 ^ 64 → o.begun + 1 < 2 ^ 16 → AllFit (cut_batch o bytes)
+pub cut_fits : (o : Stamped) (bytes : List ℕ) → length o.bytes ≤ 492 → o.number + 1 < 2 ^ 64 → o.begun + 1 < 2 ^ 16 → AllFit (cut_batch o bytes)
 cut_fits o bytes short number begun =
     (fits (goes_on (pieces_of (drop (492 - length o.bytes) bytes))), pieces_fit (length (drop (492 - length o.bytes) bytes)) (o.number + 1) (drop (492 - length o.bytes) bytes) number)
   where
@@ -148,7 +148,7 @@ cut_fits o bytes short number begun =
     fits more = record { number = number; begun = begun; ends = ends_fit more; bytes = both_short }
 
 -- the sectors of a journal with one more batch
-with_last : (before : List Stamped) (last : Stamped) (batch : Batch) → with_batch (before ++ last ∷ []) batch ≡ before ++ after_last last batch
+pub with_last : (before : List Stamped) (last : Stamped) (batch : Batch) → with_batch (before ++ last ∷ []) batch ≡ before ++ after_last last batch
 with_last [] last batch = refl
 with_last (s ∷ []) last batch = refl
 with_last (s ∷ r ∷ before) last batch = ap (λ (l : List Stamped). s ∷ l) (with_last (r ∷ before) last batch)

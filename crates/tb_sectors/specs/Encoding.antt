@@ -1,15 +1,19 @@
 -- The bytes of sectors, and how a batch is cut into them.
 use Rattle.std.specs.Prelude.{ℕ, ◌+◌, ◌-◌, ◌*◌, ◌<◌, ◌≤◌, ◌^◌, false, zero, suc, Bool, if◌then◌else◌, List, [], ◌∷◌, ◌++◌, length, take, drop, flat_map, replicate}
 use Rattle.std.specs.Int.{w16, w64, to_le_bytes}
-use Rattle.tb_sectors.specs.Stamped.{Stamped, blank, sum_bytes, Batch, batch_sectors, further_sectors, new_after}
+use Rattle.tb_sectors.specs.Stamped.{Stamped, blank, sum_bytes, Batch, batch_sectors, new_after}
 
 -- the numbers of a sector's stamp: number, batches begun, bytes used, and where the last batch ends
 unfoldable pub number_bytes : ℕ → ℕ → ℕ → ℕ → List ℕ
 number_bytes number begun used ends = to_le_bytes w64 number ++ (to_le_bytes w16 begun ++ (to_le_bytes w16 used ++ to_le_bytes w16 ends))
 
+-- a closed latch, and the open one that is written
+abbrev pub latch_bytes : Bool → List ℕ
+latch_bytes closed = (if closed then 90 else 0) ∷ (if closed then 195 else 0) ∷ []
+
 -- a sector with these numbers and bytes of the stream: between them the latch, and the checksum of both
 abbrev pub sector_bytes_of : List ℕ → Bool → List ℕ → List ℕ
-sector_bytes_of numbers closed bytes = (numbers ++ ((if closed then 90 else 0) ∷ (if closed then 195 else 0) ∷ sum_bytes (numbers ++ bytes))) ++ bytes
+sector_bytes_of numbers closed bytes = (numbers ++ (latch_bytes closed ++ sum_bytes (numbers ++ bytes))) ++ bytes
 
 -- the 512 bytes of a sector: its stamp, its bytes, and zeros
 unfoldable pub raw : Stamped → List ℕ
@@ -45,10 +49,6 @@ whole_sector number begun bytes = record { number = number; begun = begun; ends 
 -- the sectors of a batch with these bytes that begins in a sector with so many batches and these bytes: as many as fit there, and the others after it
 abbrev pub cut_batch : Stamped → List ℕ → List Stamped
 cut_batch last bytes = batch_sectors last (take (492 - length last.bytes) bytes) (pieces_of (drop (492 - length last.bytes) bytes))
-
--- its bytes
-abbrev pub further_raws : ℕ → List ℕ → List ℕ
-further_raws number bytes = raws (further_sectors number (pieces_of bytes))
 
 -- a batch with these bytes: it shares a sector that has these ones already, or begins in a new sector, which has none
 abbrev pub batch_of : Bool → List ℕ → List ℕ → Batch

@@ -1,9 +1,11 @@
 pub mod Checksum
 pub mod Sectors
+pub mod Ranges
 pub mod Calls
 pub mod Memory
 pub mod Stamped
 pub mod StampedLaws
+pub mod Records
 pub mod Latches
 pub mod Encoding
 pub mod Reading

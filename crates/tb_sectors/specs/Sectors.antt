@@ -60,17 +60,21 @@ IsAVersion k synced (newest ∷ earlier) left = (sector k left ≡ sector k newe
 abbrev pub EachSectorIsAVersion : Type 0
 EachSectorIsAVersion = (synced : List ℕ) (writes : List (List ℕ)) (left : List ℕ) → LeftAfter synced writes left → (k : ℕ) → IsAVersion k synced writes left
 
--- what a crash may leave after a write: what it might have left before, each sector as it was there or as the write made it. So a sector that several
--- writes changed since the last sync may be as any of them made it, or as it was synced
-abbrev pub FollowsWrite : List ℕ → Disk → Disk → Type 0
-FollowsWrite written before after = (c : List ℕ) → after.may_leave c → (d : List ℕ) × before.may_leave d × IsMixed d written c
+-- each new outcome of a crash is an old outcome after a step
+abbrev pub Follows : (List ℕ → List ℕ → Type 0) → Disk → Disk → Type 0
+Follows step before after = (c : List ℕ) → after.may_leave c → (d : List ℕ) × before.may_leave d × step d c
 
--- a write
-pub record Writes (at : ℕ) (bytes : List ℕ) (result : Result (Unit {0}) SectorFault) (before after : Disk) : Type 0 where
+-- a write, after which a crash may leave what it might have left before, with this step
+pub record WritesBy (step : List ℕ → List ℕ → Type 0) (at : ℕ) (bytes : List ℕ) (result : Result (Unit {0}) SectorFault) (before after : Disk) : Type 0 where
   pub written : OnOk result (after.seen ≡ overwritten before.seen at bytes)
-  pub crash : FollowsWrite (overwritten before.seen at bytes) before after
+  pub crash : Follows step before after
   pub time : Elapses before after
   pub sound : after.sound ≡ before.sound
+
+-- a write whose sectors are old or new: each is as it was there, or as the write made it. So a sector that several writes changed since the last sync may
+-- be as any of them made it, or as it was synced
+abbrev pub Writes : ℕ → List ℕ → Result (Unit {0}) SectorFault → Disk → Disk → Type 0
+Writes at bytes result before after = WritesBy (λ d c. IsMixed d (overwritten before.seen at bytes) c) at bytes result before after
 
 -- a sync: until it ends, a crash may leave what it might have left before, or what a read returns. After a failed sync no later sync makes anything
 -- durable, whatever it returns

@@ -1,8 +1,8 @@
 -- What holds of every journal in the stamped format, over a disk whose sectors are old or new.
 use Rattle.std.specs.Prelude.{◌≡◌, ◌≢◌, ◌⊎◌, ℕ, ◌+◌, ◌*◌, ◌<◌, ◌≤◌, ◌^◌, true, false, Bool, if◌then◌else◌, List, [], ◌∷◌, ◌++◌, length, Some}
 use Rattle.tb_sectors.specs.Sectors.{IsMixed, sector, overwritten}
-use Rattle.tb_sectors.specs.Stamped.{Stamped, blank, rotten, nothing_taken, read_on, Damaged, begins_in, Batch, batch_bytes, with_batch, stream, sector_at, after_batches, all_bytes, stamped, file_sectors}
-use Rattle.tb_sectors.specs.Encoding.{raw, FitsSector, batch_of, place_of, written_of, cleared_bytes}
+use Rattle.tb_sectors.specs.Stamped.{Stamped, blank, rotten, nothing_taken, read_on, Damaged, begins_in, Batch, batch_bytes, new_after, with_batch, stream, sector_at, after_batches, all_bytes, stamped, file_sectors}
+use Rattle.tb_sectors.specs.Encoding.{raw, raws, cut_batch, FitsSector, batch_of, place_of, written_of, cleared_bytes}
 
 -- each sector of what is left is that of the one or that of the other, in any combination
 abbrev pub IsAnyMix : List Stamped → List Stamped → List Stamped → Type 0
@@ -53,6 +53,10 @@ abbrev pub BatchIsWritten : Type 0
 BatchIsWritten = (file : List ℕ) (before : List Stamped) (last : Stamped) (shares : Bool) (bytes : List ℕ)
     → HasSectors file (before ++ last ∷ []) → place_of shares before ≤ length file → FitsSector last → last.number + 1 < 2 ^ 64 → last.begun + 1 < 2 ^ 16
     → HasSectors (overwritten file (place_of shares before) (written_of shares last bytes)) (with_batch (before ++ last ∷ []) (batch_of shares (if shares then last.bytes else []) bytes))
+
+-- the first batch, cut into a sector, is a new journal
+abbrev pub CreatedIsWritten : Type 0
+CreatedIsWritten = (first : List ℕ) → length first ≤ 492 → HasSectors (raws (cut_batch (new_after 0) first)) (after_batches first [])
 
 -- a file whose first sectors are those of a journal but its last one, and whose others are anything up to one after which all are blank: the last sector,
 -- as it was, and zeros after it make it that journal

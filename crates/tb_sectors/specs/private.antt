@@ -1,1 +1,3 @@
+pub mod Outcomes
 pub mod MemoryLaws
+pub mod Latched

@@ -5,5 +5,5 @@ use Rattle.tb_sectors.proofs.encoding.push_further.Goals as goal
 
 pub loop-rest-preserved : goal.loop-rest-preserved
 loop-rest-preserved c =
-    further_step c.loop-rest.out.items _ _ c.loop-rest.rest.now _ _ c.args.number _ _ (grind (arith, common_steps)) (grind (arith, common_steps)) c.split_at.ensures.front c.split_at.ensures.back
+    further_step c.loop-rest.out.items _ _ c.loop-rest.rest.now _ _ c.args.number _ _ c.args.closed (grind (arith, common_steps)) (grind (arith, common_steps)) c.split_at.ensures.front c.split_at.ensures.back
     c.is_empty-in-loop-rest.ensures c.in_ok-push_piece.ensures c.loop-rest.invariant
