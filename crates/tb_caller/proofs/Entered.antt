@@ -143,7 +143,7 @@ module _ (profile : Profile) (clients_max : ℕ) (mark : Option ℕ) where
       commit_is : a.commit ≡ is.entry.commit
       commit_is = ap (λ (b : Answer). b.commit) is.reply
 
-      once : IsOnce profile clients_max mark h r a
+      once : IsOnce (next_in profile clients_max mark) h r a
       once = record {
         front = is.front;
         entry = is.entry;
@@ -159,7 +159,7 @@ module _ (profile : Profile) (clients_max : ℕ) (mark : Option ℕ) where
       }
 
     -- the answer after a part of the history
-    once_of : (p : Message × Answer) → IsTaken sent p → IsAnswered profile clients_max mark h p.1 → IsOnce profile clients_max mark h p.0 p.1
+    once_of : (p : Message × Answer) → IsTaken sent p → IsAnswered (next_in profile clients_max mark) h p.1 → IsOnce (next_in profile clients_max mark) h p.0 p.1
     once_of p taken is =
         let m = is.request in
         let reached : ReachedBy N is.seen = part_reached is.seen is.prefix.0 (subst (IsLegalWith profile clients_max mark) (sym is.prefix.1) legal) in
@@ -211,19 +211,19 @@ module _ (profile : Profile) (clients_max : ℕ) (mark : Option ℕ) where
           each_two xs row before.1 own_row held.1 mine session number,
         )
 
-    calls_hold : (returned : List (Message × Answer)) → Each (IsTaken sent) returned → Each (λ (p : Message × Answer). IsAnswered profile clients_max mark h p.1) returned → CallsHold profile clients_max mark id h sent returned
+    calls_hold : (returned : List (Message × Answer)) → Each (IsTaken sent) returned → Each (λ (p : Message × Answer). IsAnswered (next_in profile clients_max mark) h p.1) returned → CallsHold (next_in profile clients_max mark) id h sent returned
     calls_hold returned taken answered = record {
-      once = each-both (IsTaken sent) (λ (p : Message × Answer). IsAnswered profile clients_max mark h p.1) (λ (p : Message × Answer). IsOnce profile clients_max mark h p.0 p.1) returned once_of taken answered;
+      once = each-both (IsTaken sent) (λ (p : Message × Answer). IsAnswered (next_in profile clients_max mark) h p.1) (λ (p : Message × Answer). IsOnce (next_in profile clients_max mark) h p.0 p.1) returned once_of taken answered;
       keys = one_key_with profile clients_max mark h legal;
       at_most = each_of_all (λ (r : Message). IsCall r → Each (HoldsCall r) h) sent (λ r there call. each-map Held (HoldsCall r) h (holds_call r there call) held);
       order = in_order;
     }
 
-pub in_history : InHistory
+pub in_history : (profile : Profile) (clients_max : ℕ) (mark : Option ℕ) → InHistory (IsLegalWith profile clients_max mark) (next_in profile clients_max mark)
 in_history profile clients_max mark id h sent returned legal own held taken answered = calls_hold profile clients_max mark id h sent legal own held returned taken answered
 
 -- an answer after a prefix of a history is one after a prefix of a longer one
-pub answered_on : (profile : Profile) (clients_max : ℕ) (mark : Option ℕ) (h more : List Entry) (a : Answer) → IsAnswered profile clients_max mark h a → IsAnswered profile clients_max mark (h ++ more) a
+pub answered_on : (profile : Profile) (clients_max : ℕ) (mark : Option ℕ) (h more : List Entry) (a : Answer) → IsAnswered (next_in profile clients_max mark) h a → IsAnswered (next_in profile clients_max mark) (h ++ more) a
 answered_on profile clients_max mark h more a is = record {
   seen = is.seen;
   request = is.request;

@@ -8,7 +8,7 @@ use Rattle.tb_records.specs.Ordered.{Each}
 use Rattle.tb_records.proofs.ByKey.{each-map}
 use Rattle.tb_machine.specs.declared.entries.Entry.{Entry}
 use Rattle.tb_machine.specs.Dumps.{IsLegalWith}
-use Rattle.tb_machine.specs.Histories.{answer_to}
+use Rattle.tb_machine.specs.Histories.{State, answer_to}
 use Rattle.tb_machine.specs.MarkedLaws.{next_in}
 use Rattle.tb_machine.specs.ReplyLaws.{HoldRequests}
 use Rattle.tb_machine.proofs.Rows.{each_snoc}
@@ -27,8 +27,14 @@ use Rattle.tb_caller.proofs.Entered.{in_history, answered_on}
 use Rattle.tb_caller.proofs.Settled.{settled}
 
 module _ (profile : Profile) (clients_max : ℕ) (mark : Option ℕ) where
+  abbrev Legal : List Entry → Type 0
+  Legal = IsLegalWith profile clients_max mark
+
+  abbrev N : List Entry → State
+  N = next_in profile clients_max mark
+
   abbrev Answered : List Entry → Answer → Type 0
-  Answered h a = IsAnswered profile clients_max mark h a
+  Answered h a = IsAnswered N h a
 
   -- the bytes are the frame of an answer
   record IsFrameIn (h : List Entry) (bytes : List ℕ) : Type 0 where
@@ -75,7 +81,7 @@ module _ (profile : Profile) (clients_max : ℕ) (mark : Option ℕ) where
 
   module _ (ours : ℕ → Bool) where
     record IsRun (w : World) : Type 0 where
-      pub legal : IsLegalWith profile clients_max mark w.history
+      pub legal : Legal w.history
       pub requests : HoldRequests w.history
       pub given : Each (IsFrameIn w.history) w.given
       pub beside : (id : ℕ) → ours id ≡ true → IsBeside id w.history (w.clients id)
@@ -91,7 +97,7 @@ module _ (profile : Profile) (clients_max : ℕ) (mark : Option ℕ) where
               beside_acted id w.history w.given (w.clients k) act on.given (subst (λ (n : ℕ). IsBeside id w.history (w.clients n)) same (on.beside id is_ours)) may was
           by false e = on.beside id is_ours
 
-      on_event : (event : Event) → MayHappen profile clients_max mark ours w event → IsRun (happens profile clients_max mark ours w event)
+      on_event : (event : Event) → MayHappen Legal N ours w event → IsRun (happens Legal N ours w event)
       on_event (Client k act) may = record { legal = on.legal; requests = on.requests; given = on.given; beside = acted_beside k act may.0 may.1 }
       on_event (Enter e) may = record {
         legal = may.0;
@@ -112,7 +118,7 @@ module _ (profile : Profile) (clients_max : ℕ) (mark : Option ℕ) where
         requests = on.requests;
         given = (
           record {
-            answer = answer_to (next_in profile clients_max mark seen) r;
+            answer = answer_to (N seen) r;
             answered = record { seen = seen; request = r; prefix = may.0; answer = refl };
             spells = record { bytes_are = refl; is = answer_has_frame profile clients_max mark seen w.history r on.legal on.requests may.0 may.1 };
           },
@@ -121,13 +127,13 @@ module _ (profile : Profile) (clients_max : ℕ) (mark : Option ℕ) where
         beside = on.beside;
       }
 
-    on_run : (w : World) (events : List Event) → IsRun w → Runs profile clients_max mark ours w events → IsRun (run profile clients_max mark ours w events)
+    on_run : (w : World) (events : List Event) → IsRun w → Runs Legal N ours w events → IsRun (run Legal N ours w events)
     on_run w [] on runs = on
-    on_run w (event ∷ events) on runs = on_run (happens profile clients_max mark ours w event) events (on_event w on event runs.0) runs.1
+    on_run w (event ∷ events) on runs = on_run (happens Legal N ours w event) events (on_event w on event runs.0) runs.1
 
-    on_begun : (h : List Entry) → BeginsWithOthers profile clients_max mark ours h → IsRun (begun h)
+    on_begun : (h : List Entry) → BeginsWithOthers Legal ours h → IsRun (begun h)
     on_begun h begins = record {
-      legal = begins.legal;
+      legal = begins.is_legal;
       requests = begins.requests;
       given = tt;
       beside = λ id is_ours. record {
@@ -138,16 +144,16 @@ module _ (profile : Profile) (clients_max : ℕ) (mark : Option ℕ) where
       };
     }
 
-pub calls_once : CallsOnce
+pub calls_once : (profile : Profile) (clients_max : ℕ) (mark : Option ℕ) → CallsOnce (IsLegalWith profile clients_max mark) (next_in profile clients_max mark)
 calls_once profile clients_max mark ours h events begins runs id is_ours =
     let on = on_run profile clients_max mark ours (begun h) events (on_begun profile clients_max mark ours h begins) runs in
-    let w = run profile clients_max mark ours (begun h) events in
+    let w = run (IsLegalWith profile clients_max mark) (next_in profile clients_max mark) ours (begun h) events in
     let its = on.beside id is_ours in
     (its.kept.sends, in_history profile clients_max mark id w.history (w.clients id).sent (w.clients id).returned on.legal its.kept.sends.sent its.held its.kept.sends.returned its.returned)
 
-pub never_refused : NeverRefused
+pub never_refused : (profile : Profile) (clients_max : ℕ) (mark : Option ℕ) → NeverRefused (IsLegalWith profile clients_max mark) (next_in profile clients_max mark)
 never_refused profile clients_max mark ours h events begins runs id r is_ours call waits has =
     let on = on_run profile clients_max mark ours (begun h) events (on_begun profile clients_max mark ours h begins) runs in
-    let w = run profile clients_max mark ours (begun h) events in
+    let w = run (IsLegalWith profile clients_max mark) (next_in profile clients_max mark) ours (begun h) events in
     let its = on.beside id is_ours in
     settled profile clients_max mark id w.history (w.clients id) its.kept on.legal its.held (calls_once profile clients_max mark ours h events begins runs id is_ours).1.once r waits call has

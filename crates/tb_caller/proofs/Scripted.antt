@@ -32,7 +32,7 @@ module _ (profile : Profile) (clients_max : ℕ) where
       let rest = prefix_accepted (grown (after profile clients_max) h p) ps in
       (one.0 ++ rest.0, sym (append_assoc h one.0 rest.0) ∙ ap (λ l. l ++ rest.0) one.1 ∙ rest.1)
 
-  pub answered : (h : List Entry) (ps : List Pair) → Each (IsAnswered profile clients_max None (accepted profile clients_max h ps)) (replies_from profile clients_max h ps)
+  pub answered : (h : List Entry) (ps : List Pair) → Each (IsAnswered (after profile clients_max) (accepted profile clients_max h ps)) (replies_from profile clients_max h ps)
   answered h [] = tt
   answered h (p ∷ ps) =
       let m = grown (after profile clients_max) h p in
@@ -53,8 +53,8 @@ module _ (profile : Profile) (clients_max : ℕ) where
 pub in_script : InScript
 in_script profile clients_max id h ps sent returned legal lawful own none each taken among =
     in_history profile clients_max None id (accepted profile clients_max h ps) sent returned (legal_accepted profile clients_max h ps legal lawful) own (held profile clients_max id sent h ps none each) taken
-    (each-map (λ (p : Message × Answer). IsAmong p.1 (replies_from profile clients_max h ps)) (λ (p : Message × Answer). IsAnswered profile clients_max None (accepted profile clients_max h ps) p.1) returned
-    (λ p is. each_among (IsAnswered profile clients_max None (accepted profile clients_max h ps)) p.1 (replies_from profile clients_max h ps) (answered profile clients_max h ps) is) among)
+    (each-map (λ (p : Message × Answer). IsAmong p.1 (replies_from profile clients_max h ps)) (λ (p : Message × Answer). IsAnswered (after profile clients_max) (accepted profile clients_max h ps) p.1) returned
+    (λ p is. each_among (IsAnswered (after profile clients_max) (accepted profile clients_max h ps)) p.1 (replies_from profile clients_max h ps) (answered profile clients_max h ps) is) among)
 
 -- several machines over one log
 

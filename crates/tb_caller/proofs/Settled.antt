@@ -57,7 +57,7 @@ two_or_less (suc zero) = inl (omega arith)
 two_or_less (suc (suc n)) = inr (n, omega arith)
 
 module _ (profile : Profile) (clients_max : ℕ) (mark : Option ℕ) (id : ℕ) (h : List Entry) (d : Endpoint) (kept : IsKept id d) (legal : IsLegalWith profile clients_max mark h)
-    (held : NoneInvented id d.sent h) (once : Each (λ (p : Message × Answer). IsOnce profile clients_max mark h p.0 p.1) d.returned)
+    (held : NoneInvented id d.sent h) (once : Each (λ (p : Message × Answer). IsOnce (next_in profile clients_max mark) h p.0 p.1) d.returned)
     (r : Message) (waits : open_request d.live.phase ≡ Some r) (call : IsCall r) (has : HasSession (next_in profile clients_max mark h) id r.session) where
   abbrev N : List Entry → State
   N = next_in profile clients_max mark
@@ -122,7 +122,7 @@ module _ (profile : Profile) (clients_max : ℕ) (mark : Option ℕ) (id : ℕ) 
   -- the call before has returned, so its entry is there
   earlier : (n : ℕ) → last ≡ n + 2 → HasReturned d.returned d.live.session (n + 1) → last ≤ row.request.request + 1
   earlier n is back =
-      let entered = each_among (λ (p : Message × Answer). IsOnce profile clients_max mark h p.0 p.1) (back.request, back.answer) d.returned once back.taken in
+      let entered = each_among (λ (p : Message × Answer). IsOnce (next_in profile clients_max mark) h p.0 p.1) (back.request, back.answer) d.returned once back.taken in
       let taken = each_among (IsTaken d.sent) (back.request, back.answer) d.returned kept.sends.returned back.taken in
       let own : back.request.client ≡ id = each_among (λ (m : Message). m.client ≡ id) back.request d.sent kept.sends.sent.client taken.sent_it in
       let mine = each_mid (Before row) entered.front entered.entry entered.rest (subst (Each (Before row)) entered.whole before) (ap (λ (m : Message). m.client) entered.request ∙ own ∙ sym found.1) in

@@ -1,14 +1,12 @@
 -- The laws of a client without a server, and of a history without a schedule.
-use Rattle.std.specs.Prelude.{ℕ, true, ◌≡◌, ◌≢◌, ◌≤◌, List, [], ◌∷◌, ◌++◌, Option, None}
+use Rattle.std.specs.Prelude.{ℕ, true, ◌≡◌, ◌≢◌, ◌≤◌, List, [], ◌∷◌, ◌++◌, None}
 use mathlib.Core.List.{IsPrefix}
 use Rattle.tb_records.specs.declared.limits.Profile.{Profile}
 use Rattle.tb_records.specs.Frames.{IsRequest}
 use Rattle.tb_records.specs.Messages.{Message, Answer, is_register}
 use Rattle.tb_records.specs.Ordered.{Each}
 use Rattle.tb_machine.specs.declared.entries.Entry.{Entry}
-use Rattle.tb_machine.specs.Histories.{IsLegal, answer_to}
-use Rattle.tb_machine.specs.Dumps.{IsLegalWith}
-use Rattle.tb_machine.specs.MarkedLaws.{next_in}
+use Rattle.tb_machine.specs.Histories.{State, IsLegal, after, answer_to}
 use Rattle.tb_machine.specs.Scripts.{Pair, accepted, replies_from}
 use Rattle.tb_machine.specs.ScriptLaws.{AreLawful}
 use Rattle.tb_caller.specs.declared.callers.Heard.TheVariants as hearing
@@ -45,16 +43,29 @@ OneClient = (id : ℕ) (acts : List Act) → Acts (started id) acts → Sends id
 abbrev pub FieldsAreRight : Type 0
 FieldsAreRight = (id : ℕ) (acts : List Act) → Acts (started id) acts → field_fault (after_acts (started id) acts).live ≡ None
 
--- a history: nothing of the client was invented, and each reply that was taken was given after a prefix of it
+-- a history that is legal for a server: nothing of the client was invented, and each reply that was taken was given after a prefix of it
 
-abbrev pub InHistory : Type 0
-InHistory = (profile : Profile) (clients_max : ℕ) (mark : Option ℕ) (id : ℕ) (h : List Entry) (sent : List Message) (returned : List (Message × Answer))
-    → IsLegalWith profile clients_max mark h
-    → AreOfOne id sent
-    → NoneInvented id sent h
-    → Each (IsTaken sent) returned
-    → Each (λ (p : Message × Answer). IsAnswered profile clients_max mark h p.1) returned
-    → CallsHold profile clients_max mark id h sent returned
+module _ (legal : List Entry → Type 0) (state : List Entry → State) where
+  abbrev pub InHistory : Type 0
+  InHistory = (id : ℕ) (h : List Entry) (sent : List Message) (returned : List (Message × Answer))
+      → legal h
+      → AreOfOne id sent
+      → NoneInvented id sent h
+      → Each (IsTaken sent) returned
+      → Each (λ (p : Message × Answer). IsAnswered state h p.1) returned
+      → CallsHold state id h sent returned
+
+  -- a session that was said to be over, after a prefix of the history that has its register: no call under it is entered later, so what is in the
+  -- history by then is all that ever will be
+  abbrev pub OverForGood : Type 0
+  OverForGood = (front : List Entry) (register : Entry) (m rest : List Entry) (r : Message)
+      → legal ((front ++ register ∷ []) ++ (m ++ rest))
+      → register.request.client ≡ r.client
+      → is_register register.request.body ≡ true
+      → register.commit ≡ r.session
+      → IsCall r
+      → heard_by (answer_to (state ((front ++ register ∷ []) ++ m)) r).status ≡ hearing.Ended
+      → Each (λ (e : Entry). e.request.client ≡ r.client → IsCall e.request → e.request.session ≢ r.session) rest
 
 -- a server that reads a script after a legal history: each request of the client in both was sent
 
@@ -67,7 +78,7 @@ InScript = (profile : Profile) (clients_max id : ℕ) (h : List Entry) (ps : Lis
     → Each (λ (p : Pair). p.1.client ≡ id → IsAmong p.1 sent) ps
     → Each (IsTaken sent) returned
     → Each (λ (p : Message × Answer). IsAmong p.1 (replies_from profile clients_max h ps)) returned
-    → CallsHold profile clients_max None id (accepted profile clients_max h ps) sent returned
+    → CallsHold (after profile clients_max) id (accepted profile clients_max h ps) sent returned
 
 -- several machines that each read one log up to its own place: the reply that a machine gave is one to what it had read
 pub record IsFromLog (profile : Profile) (clients_max : ℕ) (h : List Entry) (log : List Pair) (a : Answer) : Type 0 where
@@ -84,17 +95,4 @@ InLog = (profile : Profile) (clients_max id : ℕ) (h : List Entry) (log : List 
     → Each (λ (p : Pair). p.1.client ≡ id → IsAmong p.1 sent) log
     → Each (IsTaken sent) returned
     → Each (λ (p : Message × Answer). IsFromLog profile clients_max h log p.1) returned
-    → CallsHold profile clients_max None id (accepted profile clients_max h log) sent returned
-
--- a session that was said to be over, after a prefix of the history that has its register: no call under it is entered later, so what is in the
--- history by then is all that ever will be
-
-abbrev pub OverForGood : Type 0
-OverForGood = (profile : Profile) (clients_max : ℕ) (mark : Option ℕ) (front : List Entry) (register : Entry) (m rest : List Entry) (r : Message)
-    → IsLegalWith profile clients_max mark ((front ++ register ∷ []) ++ (m ++ rest))
-    → register.request.client ≡ r.client
-    → is_register register.request.body ≡ true
-    → register.commit ≡ r.session
-    → IsCall r
-    → heard_by (answer_to (next_in profile clients_max mark ((front ++ register ∷ []) ++ m)) r).status ≡ hearing.Ended
-    → Each (λ (e : Entry). e.request.client ≡ r.client → IsCall e.request → e.request.session ≢ r.session) rest
+    → CallsHold (after profile clients_max) id (accepted profile clients_max h log) sent returned

@@ -1,14 +1,12 @@
 -- What holds among the requests of one client, and what a history then says of them.
-use Rattle.std.specs.Prelude.{ℕ, ◌≡◌, ◌≢◌, ◌+◌, ◌<◌, false, true, IsTrue, List, ◌∷◌, ◌++◌, length, Option}
+use Rattle.std.specs.Prelude.{ℕ, ◌≡◌, ◌≢◌, ◌+◌, ◌<◌, false, true, IsTrue, List, ◌∷◌, ◌++◌, length}
 use mathlib.Core.List.{IsPrefix}
-use Rattle.tb_records.specs.declared.limits.Profile.{Profile}
 use Rattle.tb_records.specs.declared.replies.Status.TheVariants as status
 use Rattle.tb_records.specs.Messages.{Message, Answer, is_register}
 use Rattle.tb_records.specs.Ordered.{Each}
 use Rattle.tb_machine.specs.declared.entries.Entry.{Entry}
-use Rattle.tb_machine.specs.Histories.{is_lawful, reply_at, key_of, answer_to}
+use Rattle.tb_machine.specs.Histories.{State, is_lawful, reply_at, key_of, answer_to}
 use Rattle.tb_machine.specs.HistoryLaws.{KeysDiffer}
-use Rattle.tb_machine.specs.MarkedLaws.{next_in}
 use Rattle.tb_caller.specs.Endpoints.{IsAmong}
 
 -- a request that is no register
@@ -41,13 +39,14 @@ pub record IsRegistered (returned : List (Message × Answer)) (session : ℕ) : 
 abbrev pub NoneInvented : ℕ → List Message → List Entry → Type 0
 NoneInvented id sent h = Each (λ (e : Entry). e.request.client ≡ id → IsAmong e.request sent) h
 
-module _ (profile : Profile) (clients_max : ℕ) (mark : Option ℕ) where
+-- a server, by its state after each history
+module _ (state : List Entry → State) where
   -- the answer to some request after a prefix of the history
   pub record IsAnswered (h : List Entry) (a : Answer) : Type 0 where
     pub seen : List Entry
     pub request : Message
     pub prefix : IsPrefix seen h
-    pub answer : a ≡ answer_to (next_in profile clients_max mark seen) request
+    pub answer : a ≡ answer_to (state seen) request
 
   -- one entry of the history, which the reply names, holds the request, and gave this reply. No other entry holds a call. A register's session is
   -- that of this entry; after an eviction another entry may hold it too
@@ -57,7 +56,7 @@ module _ (profile : Profile) (clients_max : ℕ) (mark : Option ℕ) where
     pub rest : List Entry
     pub whole : h ≡ front ++ entry ∷ rest
     pub request : entry.request ≡ r
-    pub reply : a ≡ reply_at (next_in profile clients_max mark front) entry
+    pub reply : a ≡ reply_at (state front) entry
     pub place : a.commit ≡ length front + 1
     pub register : is_register r.body ≡ true → a.session ≡ a.commit
     pub only : IsCall r → Each (λ (other : Entry). other.request ≢ r) (front ++ rest)
@@ -71,9 +70,9 @@ abbrev pub InOrder : ℕ → List Entry → Type 0
 InOrder id h = (front : List Entry) (e : Entry) (rest : List Entry) → h ≡ front ++ e ∷ rest → e.request.client ≡ id → IsCall e.request
     → Each (λ (x : Entry). x.request.client ≡ id → IsCall x.request → x.request.request < e.request.request) front
 
-pub record CallsHold (profile : Profile) (clients_max : ℕ) (mark : Option ℕ) (id : ℕ) (h : List Entry) (sent : List Message) (returned : List (Message × Answer)) : Type 0 where
+pub record CallsHold (state : List Entry → State) (id : ℕ) (h : List Entry) (sent : List Message) (returned : List (Message × Answer)) : Type 0 where
   -- a call that returned a reply is in the history once, a register in the entry of its session, and this entry gave the reply
-  pub once : Each (λ (p : Message × Answer). IsOnce profile clients_max mark h p.0 p.1) returned
+  pub once : Each (λ (p : Message × Answer). IsOnce state h p.0 p.1) returned
   -- no two entries have one client, session and number: a call that was sent is in the history at most once, whatever became of it
   pub keys : KeysDiffer h
   pub at_most : Each (λ (r : Message). IsCall r → Each (HoldsCall r) h) sent

@@ -5,5 +5,6 @@ pub mod Streams
 pub mod Calls
 pub mod CallLaws
 pub mod Networks
+pub mod Marked
 pub mod Worked
 pub mod private

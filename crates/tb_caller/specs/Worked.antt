@@ -6,6 +6,7 @@ use Rattle.tb_records.specs.Messages.{Message, Answer, asked}
 use Rattle.tb_machine.specs.declared.entries.Entry.{Entry}
 use Rattle.tb_machine.specs.Histories.{answer_to}
 use Rattle.tb_machine.specs.HistoryLaws.{HasSession}
+use Rattle.tb_machine.specs.Dumps.{IsLegalWith}
 use Rattle.tb_machine.specs.MarkedLaws.{next_in}
 use Rattle.tb_caller.specs.Clients.{open_request}
 use Rattle.tb_caller.specs.Endpoints.Act.{Call, Send, Hear, Store, Restart}
@@ -53,13 +54,13 @@ worked_events =
 
 -- the world after the first events, so many of them
 abbrev pub worked : ℕ → World
-worked n = run One 4 mark (λ (id : ℕ). true) (begun []) (take n worked_events)
+worked n = run (IsLegalWith One 4 mark) (next_in One 4 mark) (λ (id : ℕ). true) (begun []) (take n worked_events)
 
 abbrev pub BothReturn : Type 0
-BothReturn = Runs One 4 mark (λ (id : ℕ). true) (begun []) worked_events × (length ((worked 15).clients 7).returned ≡ 2)
+BothReturn = Runs (IsLegalWith One 4 mark) (next_in One 4 mark) (λ (id : ℕ). true) (begun []) worked_events × (length ((worked 15).clients 7).returned ≡ 2)
 
 -- after eight events the lookup waits, and the server has its session: the premises of the law that it is not refused
 pub record LookupWaits : Type 0 where
-  pub runs : Runs One 4 mark (λ (id : ℕ). true) (begun []) (take 8 worked_events)
+  pub runs : Runs (IsLegalWith One 4 mark) (next_in One 4 mark) (λ (id : ℕ). true) (begun []) (take 8 worked_events)
   pub waits : open_request ((worked 8).clients 7).live.phase ≡ Some worked_lookup
   pub has : HasSession (next_in One 4 mark (worked 8).history) 7 1

@@ -1,11 +1,11 @@
 -- What a server has acknowledged stays: a history whose entries it has replied to begins each later one.
-use Rattle.std.proofs.Common.{◌≡◌, ℕ, Bool, true, List, [], ◌∷◌, ◌++◌, None, refl, sym, ap, ◌∙◌, subst, append_assoc, append-nil}
+use Rattle.std.proofs.Common.{◌≡◌, ℕ, Bool, true, List, [], ◌∷◌, ◌++◌, refl, sym, ap, ◌∙◌, subst, append_assoc, append-nil}
 use Rattle.std.specs.List.{flat_map}
 use Rattle.tb_records.specs.Messages.{Message, Answer, is_register}
 use Rattle.tb_records.specs.Ordered.{Each}
 use Rattle.tb_records.specs.ReplyFrames.{reply_bytes, IsReply}
 use Rattle.tb_machine.specs.declared.entries.Entry.{Entry}
-use Rattle.tb_machine.specs.Histories.{State, answer_to}
+use Rattle.tb_machine.specs.Histories.{State, answer_to, after}
 use Rattle.tb_machine.specs.Scripts.{Pair, after_pair}
 use Rattle.tb_file.specs.Keeping.{History, history_state, longer, IsLedger}
 use Rattle.tb_file.specs.Rounds.{state_from, entered, entries_from, answers_from, reply_bytes_from, AreServed}
@@ -198,10 +198,10 @@ module _ (ours : ℕ → Bool) where
   pub still_given : (server : Server) (step : Step) (a : Answer) → MayStep server step → IsGiven server a → IsGiven (stepped server step) a
   still_given server step a may is = record { history = is.history; request = is.request; acknowledged = still server step is.history may is.acknowledged; answer = is.answer; rooted = is.rooted }
 
-  pub given_answered : (server : Server) (h : History) (a : Answer) → HasHistory server h → IsGiven server a → IsAnswered h.profile h.clients_max None h.entries a
+  pub given_answered : (server : Server) (h : History) (a : Answer) → HasHistory server h → IsGiven server a → IsAnswered (after h.profile h.clients_max) h.entries a
   given_answered server h a has is =
       let on = begins_history server is.history h is.acknowledged has in
-      subst (λ (k : History). IsAnswered k.profile k.clients_max None k.entries a) on.is
+      subst (λ (k : History). IsAnswered (after k.profile k.clients_max) k.entries a) on.is
       (record { seen = is.history.entries; request = is.request; prefix = (on.more, refl); answer = is.answer })
 
   -- a reply that is read is the answer after some first pairs, all replies to which were sent

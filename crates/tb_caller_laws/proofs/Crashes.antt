@@ -5,7 +5,7 @@ use Rattle.tb_records.specs.Ordered.{Each}
 use Rattle.tb_records.specs.ReplyFrames.{IsReply}
 use Rattle.tb_records.proofs.ByKey.{each-map}
 use Rattle.tb_machine.specs.declared.entries.Entry.{Entry}
-use Rattle.tb_machine.specs.Histories.{State}
+use Rattle.tb_machine.specs.Histories.{State, after}
 use Rattle.tb_machine.specs.Scripts.{Pair, after_pair}
 use Rattle.tb_file.specs.Keeping.{History, history_state, longer, IsKeepable}
 use Rattle.tb_file.specs.Rounds.{entries_from, answers_from, AreServed}
@@ -30,10 +30,10 @@ module _ (h : History) (ps : List Pair) where
   abbrev next : History
   next = longer h (entries_from (history_state h) ps)
 
-  answer_after : (a : Answer) → IsAmong a (answers_from (history_state h) ps) → IsAnswered h.profile h.clients_max None next.entries a
+  answer_after : (a : Answer) → IsAmong a (answers_from (history_state h) ps) → IsAnswered (after h.profile h.clients_max) next.entries a
   answer_after a is =
-      subst (λ (l : List Entry). IsAnswered h.profile h.clients_max None l a) (sym (entries_are h.profile h.clients_max h.entries ps))
-      (each_among (IsAnswered h.profile h.clients_max None _) a _ (answered h.profile h.clients_max h.entries ps)
+      subst (λ (l : List Entry). IsAnswered (after h.profile h.clients_max) l a) (sym (entries_are h.profile h.clients_max h.entries ps))
+      (each_among (IsAnswered (after h.profile h.clients_max) _) a _ (answered h.profile h.clients_max h.entries ps)
       (subst (λ (l : List Answer). IsAmong a l) (answers_are h.profile h.clients_max h.entries ps) is))
 
   none_after : (id : ℕ) (sent : List Message) → NoneInvented id sent h.entries → Each (λ (p : Pair). p.1.client ≡ id → IsAmong p.1 sent) ps → NoneInvented id sent next.entries
@@ -50,7 +50,7 @@ module _ (id : ℕ) (sent : List Message) where
     pub more : List Entry
     pub grown : longer h more ≡ k
     pub none : NoneInvented id sent k.entries
-    pub given : (a : Answer) → WasSentIn runs a → IsAnswered k.profile k.clients_max None k.entries a
+    pub given : (a : Answer) → WasSentIn runs a → IsAnswered (after k.profile k.clients_max) k.entries a
 
   -- one run
   module _ (h : History) (r : Run) (is : IsRunFrom h r) where
@@ -80,9 +80,9 @@ module _ (id : ℕ) (sent : List Message) where
     given = given;
   }
     where
-      given : (a : Answer) → WasSentIn (r ∷ runs) a → IsAnswered k.profile k.clients_max None k.entries a
+      given : (a : Answer) → WasSentIn (r ∷ runs) a → IsAnswered (after k.profile k.clients_max) k.entries a
       given a (inl read) =
-          subst (λ (k : History). IsAnswered k.profile k.clients_max None k.entries a) rest.grown
+          subst (λ (k : History). IsAnswered (after k.profile k.clients_max) k.entries a) rest.grown
           (answered_on h.profile h.clients_max None (after_run h r is).entries rest.more a (answer_after h is.left.pairs a (read_among h r is a read)))
       given a (inr later) = rest.given a later
 
@@ -105,4 +105,4 @@ pub across_crashes : AcrossCrashes
 across_crashes h k runs id sent returned keepable are own none only taken given =
     let end = leads id sent h k runs keepable none are only in
     in_history k.profile k.clients_max None id k.entries sent returned end.keepable.legal own end.none taken
-    (each-map (λ (p : Message × Answer). WasSentIn runs p.1) (λ (p : Message × Answer). IsAnswered k.profile k.clients_max None k.entries p.1) returned (λ p is. end.given p.1 is) given)
+    (each-map (λ (p : Message × Answer). WasSentIn runs p.1) (λ (p : Message × Answer). IsAnswered (after k.profile k.clients_max) k.entries p.1) returned (λ p is. end.given p.1 is) given)

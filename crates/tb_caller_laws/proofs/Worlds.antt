@@ -9,7 +9,7 @@ use Rattle.tb_records.specs.Messages.{Message, Answer, operation, is_register}
 use Rattle.tb_records.specs.Ordered.{Each}
 use Rattle.tb_records.proofs.ByKey.{each-map, each-both}
 use Rattle.tb_machine.specs.declared.entries.Entry.{Entry}
-use Rattle.tb_machine.specs.Histories.{State, IsLegal, answer_to}
+use Rattle.tb_machine.specs.Histories.{State, IsLegal, answer_to, after}
 use Rattle.tb_machine.specs.Scripts.{Pair, entry_of, is_entered}
 use Rattle.tb_file.specs.Keeping.{History, history_state, longer, IsKeepable, IsLedger}
 use Rattle.tb_file.specs.Rounds.{state_from, entered, entries_from, IsServed, AreServed}
@@ -104,10 +104,10 @@ module _ (ours : ℕ → Bool) where
     pub over : IsPhaseOver server id d.live.phase
     pub over_stored : IfSome d.stored (λ s. IsPhaseOver server id s.phase)
 
-  calls_hold : (id : ℕ) (server : Server) (d : Endpoint) (h : History) → IsServerSound server → HasHistory server h → IsBeside id server d → CallsHold h.profile h.clients_max None id h.entries d.sent d.returned
+  calls_hold : (id : ℕ) (server : Server) (d : Endpoint) (h : History) → IsServerSound server → HasHistory server h → IsBeside id server d → CallsHold (after h.profile h.clients_max) id h.entries d.sent d.returned
   calls_hold id server d h sound has on =
       in_history h.profile h.clients_max None id h.entries d.sent d.returned (keepable_of server h sound has).legal on.kept.sends.sent (on.held h has) on.kept.sends.returned
-      (each-map (λ (p : Message × Answer). IsGiven ours server p.1) (λ (p : Message × Answer). IsAnswered h.profile h.clients_max None h.entries p.1) d.returned
+      (each-map (λ (p : Message × Answer). IsGiven ours server p.1) (λ (p : Message × Answer). IsAnswered (after h.profile h.clients_max) h.entries p.1) d.returned
       (λ p is. given_answered ours server h p.1 has is) on.returned)
 
   -- an act of a client
@@ -357,7 +357,7 @@ module _ (ours : ℕ → Bool) where
   root_of : (id : ℕ) (server : Server) (d : Endpoint) (h : History) (r : Message) → IsServerSound server → HasHistory server h → IsBeside id server d → IsAmong r d.sent → IsCall r → r.client ≡ id → HasRegister h.entries r
   root_of id server d h r sound has on among call client =
       let registered = each_among (λ (m : Message). IsCall m → IsRegistered d.returned m.session) r d.sent on.kept.sends.sessions among call in
-      let once = each_among (λ (p : Message × Answer). IsOnce h.profile h.clients_max None h.entries p.0 p.1) (registered.request, registered.answer) d.returned (calls_hold id server d h sound has on).once registered.taken in
+      let once = each_among (λ (p : Message × Answer). IsOnce (after h.profile h.clients_max) h.entries p.0 p.1) (registered.request, registered.answer) d.returned (calls_hold id server d h sound has on).once registered.taken in
       let taken = each_among (IsTaken d.sent) (registered.request, registered.answer) d.returned on.kept.sends.returned registered.taken in
       let its : registered.request.client ≡ id = each_among (λ (m : Message). m.client ≡ id) registered.request d.sent on.kept.sends.sent.client taken.sent_it in
       record {
@@ -498,7 +498,7 @@ ended_is_final ours first h k server events more begins runs later has has_later
           let its = on_later.beside other other_ours in
           let held = each_before (λ (e : Entry). e.request.client ≡ other → IsAmong e.request (w.clients other).sent) over.history.entries now.more
           (subst (λ (h : History). NoneInvented other (w.clients other).sent h.entries) (sym now.is) ((on.beside other other_ours).held h has)) in
-          each-both (IsTaken d.sent) (λ (p : Message × Answer). IsOnce k.profile k.clients_max None k.entries p.0 p.1)
+          each-both (IsTaken d.sent) (λ (p : Message × Answer). IsOnce (after k.profile k.clients_max) k.entries p.0 p.1)
           (λ (p : Message × Answer). IsAmong p.0 (w.clients other).sent ⊎ (length over.history.entries < p.1.commit)) d.returned
           (λ p taken once.
           after_or_before other (w.clients other).sent over.history.entries then.more k.entries p once.front once.entry once.rest held (sym once.whole ∙ sym (ap (λ (h : History). h.entries) then.is)) once.request once.place

@@ -1,11 +1,12 @@
 -- Clients, a network that carries frames, and a server over a file, or machines on an agreed log. All of them crash and come back.
-use Rattle.std.specs.Prelude.{ℕ, Bool, true, false, ◌≡◌, ◌≢◌, ◌⊎◌, ◌<◌, List, [], ◌∷◌, ◌++◌, length, Some, None}
+use Rattle.std.specs.Prelude.{ℕ, Bool, true, false, ◌≡◌, ◌≢◌, ◌⊎◌, ◌<◌, List, [], ◌∷◌, ◌++◌, length, Some}
 use mathlib.Core.List.{IsPrefix}
 use Rattle.tb_records.specs.declared.replies.Status.TheVariants as status
 use Rattle.tb_records.specs.Frames.{request_bytes, IsRequest}
 use Rattle.tb_records.specs.Messages.{Message, Answer}
 use Rattle.tb_records.specs.Ordered.{Each}
 use Rattle.tb_machine.specs.declared.entries.Entry.{Entry}
+use Rattle.tb_machine.specs.Histories.{after}
 use Rattle.tb_machine.specs.Scripts.{Pair}
 use Rattle.tb_file.specs.Keeping.{History, history_state, longer, IsKeepable, IsLedger}
 use Rattle.tb_file.specs.Rounds.{state_from, entries_from, reply_bytes_from, IsServed}
@@ -136,7 +137,7 @@ EachCallOnce = (ours : ℕ → Bool) (first h : History) (server : Server) (even
     → let w = run ours (begun server) events in
     HasHistory w.server h
     → (id : ℕ) → ours id ≡ true
-    → Sends id (w.clients id) × CallsHold h.profile h.clients_max None id h.entries (w.clients id).sent (w.clients id).returned
+    → Sends id (w.clients id) × CallsHold (after h.profile h.clients_max) id h.entries (w.clients id).sent (w.clients id).returned
 
 -- two histories begin with the same entries, and have no call of the session after these. A reply that was taken by v, to a request that was not sent
 -- by w, is that of an entry after these

@@ -1,8 +1,9 @@
 -- A client of a ledger in a file, across crashes.
-use Rattle.std.specs.Prelude.{ℕ, ◌≡◌, ◌⊎◌, List, [], ◌∷◌, None}
+use Rattle.std.specs.Prelude.{ℕ, ◌≡◌, ◌⊎◌, List, [], ◌∷◌}
 use Rattle.tb_records.specs.Messages.{Message, Answer}
 use Rattle.tb_records.specs.Ordered.{Each}
 use Rattle.tb_machine.specs.Scripts.{Pair}
+use Rattle.tb_machine.specs.Histories.{after}
 use Rattle.tb_file.specs.Keeping.{History, history_state, IsKeepable, IsLedger}
 use Rattle.tb_file.specs.Rounds.{AreServed}
 use Rattle.tb_file.specs.Moments.{AtAMoment}
@@ -40,4 +41,4 @@ AcrossCrashes = (h k : History) (runs : List Run) (id : ℕ) (sent : List Messag
     → Each (λ (r : Run). Each (λ (p : Pair). p.1.client ≡ id → IsAmong p.1 sent) r.all) runs
     → Each (IsTaken sent) returned
     → Each (λ (p : Message × Answer). WasSentIn runs p.1) returned
-    → CallsHold k.profile k.clients_max None id k.entries sent returned
+    → CallsHold (after k.profile k.clients_max) id k.entries sent returned

@@ -5,7 +5,7 @@ use Rattle.tb_records.specs.declared.limits.Profile.TheVariants.{One}
 use Rattle.tb_records.specs.Messages.{Message, Answer}
 use Rattle.tb_records.specs.Ordered.{Each}
 use Rattle.tb_machine.specs.Dumps.{IsLegalWith}
-use Rattle.tb_machine.specs.Histories.{answer_to}
+use Rattle.tb_machine.specs.Histories.{answer_to, after}
 use Rattle.tb_machine.specs.Scripts.{Pair, replies_from}
 use Rattle.tb_machine.specs.ScriptLaws.{AreLawful}
 use Rattle.tb_file.specs.Keeping.{history_state}
@@ -52,7 +52,7 @@ pub record MeetsOthers : Type 0 where
   pub own : AreOfOne 7 sent
   pub none : NoneInvented 7 sent last.entries
   pub taken : Each (IsTaken sent) returned
-  pub answered : Each (λ (p : Message × Answer). IsAnswered One 1 None last.entries p.1) returned
+  pub answered : Each (λ (p : Message × Answer). IsAnswered (after One 1) last.entries p.1) returned
   -- of in_script, and in_log
   pub lawful : AreLawful script
   pub was_sent : Each (λ (p : Pair). p.1.client ≡ 7 → IsAmong p.1 sent) script

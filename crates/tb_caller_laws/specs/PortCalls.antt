@@ -1,9 +1,10 @@
 -- A client of a server that takes requests from ports, and whose seats are asked.
-use Rattle.std.specs.Prelude.{ℕ, ◌≡◌, ◌<◌, List, None}
+use Rattle.std.specs.Prelude.{ℕ, ◌≡◌, ◌<◌, List}
 use Rattle.std.specs.List.{All}
 use Rattle.tb_records.specs.Messages.{Message, Answer}
 use Rattle.tb_records.specs.Ordered.{Each}
 use Rattle.tb_machine.specs.declared.entries.Entry.{Entry}
+use Rattle.tb_machine.specs.Histories.{after}
 use Rattle.tb_published.specs.Openings.{Opening, LegalIn}
 use Rattle.tb_service.specs.OfferedLaws.{GrowsByOffers}
 use Rattle.tb_caller.specs.Endpoints.{IsAmong}
@@ -24,4 +25,4 @@ InService = (o : Opening) (before h : List Entry) (count : ℕ) (offered : ℕ �
     → OffersSent id sent count offered
     → Each (IsTaken sent) returned
     → Each (λ (p : Message × Answer). IsFromSeat o h p.1) returned
-    → CallsHold o.profile o.clients_max None id h sent returned
+    → CallsHold (after o.profile o.clients_max) id h sent returned

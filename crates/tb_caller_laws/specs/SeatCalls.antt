@@ -1,9 +1,10 @@
 -- A client of seats.
-use Rattle.std.specs.Prelude.{ℕ, List, None}
+use Rattle.std.specs.Prelude.{ℕ, List}
 use mathlib.Core.List.{IsPrefix}
 use Rattle.tb_records.specs.Messages.{Message, Answer}
 use Rattle.tb_records.specs.Ordered.{Each}
 use Rattle.tb_machine.specs.declared.entries.Entry.{Entry}
+use Rattle.tb_machine.specs.Histories.{after}
 use Rattle.tb_published.specs.Openings.{Opening, LegalIn, AnswersIn}
 use Rattle.tb_caller.specs.Calls.{AreOfOne, IsTaken, NoneInvented, CallsHold}
 
@@ -21,4 +22,4 @@ InSeats = (o : Opening) (h : List Entry) (id : ℕ) (sent : List Message) (retur
     → NoneInvented id sent h
     → Each (IsTaken sent) returned
     → Each (λ (p : Message × Answer). IsFromSeat o h p.1) returned
-    → CallsHold o.profile o.clients_max None id h sent returned
+    → CallsHold (after o.profile o.clients_max) id h sent returned

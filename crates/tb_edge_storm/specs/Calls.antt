@@ -1,5 +1,5 @@
 -- What the clients of a storm call, and what its history then has of each.
-use Rattle.std.specs.Prelude.{ℕ, zero, suc, ◌≡◌, ◌⊎◌, ◌+◌, ◌*◌, ◌≤◌, List, [], ◌∷◌, ◌++◌, map, None}
+use Rattle.std.specs.Prelude.{ℕ, zero, suc, ◌≡◌, ◌⊎◌, ◌+◌, ◌*◌, ◌≤◌, List, [], ◌∷◌, ◌++◌, map}
 use Rattle.tb_records.specs.declared.bodies.Body.{Body}
 use Rattle.tb_records.specs.declared.bodies.Body.TheVariants.{Register, CreateAccounts, CreateTransfers}
 use Rattle.tb_records.specs.declared.records.Account.{Account}
@@ -7,6 +7,7 @@ use Rattle.tb_records.specs.declared.records.Transfer.{Transfer}
 use Rattle.tb_records.specs.Messages.{Message, Answer, asked}
 use Rattle.tb_records.specs.Ordered.{Each}
 use Rattle.tb_machine.specs.declared.entries.Entry.{Entry}
+use Rattle.tb_machine.specs.Histories.{after}
 use Rattle.tb_published.specs.Openings.{Opening}
 use Rattle.tb_caller.specs.Calls.{NoneInvented, CallsHold}
 
@@ -71,7 +72,7 @@ pub record HasCalled (o : Opening) (h : List Entry) (id : ℕ) (call : ℕ → B
   pub returned : List (Message × Answer)
   pub all : map (λ p. p.0) returned ≡ sent_in_session id session call count
   pub none : NoneInvented id (sent_in_session id session call count) h
-  pub hold : CallsHold o.profile o.clients_max None id h (sent_in_session id session call count) returned
+  pub hold : CallsHold (after o.profile o.clients_max) id h (sent_in_session id session call count) returned
 
 -- one of the clients of a storm
 abbrev pub IsStormClient : ℕ → ℕ → Type 0
