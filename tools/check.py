@@ -23,11 +23,12 @@ from parts import go_counts, java_counts, node_counts, pytest_counts, refused, r
 
 
 def kit(client: str) -> Part:
-    """The scenarios of the conformance kit over a client that its own tests built, and drawn ones,
-    compared with the proved session."""
+    """The scenarios of the conformance kit over a client that is built, and drawn ones, compared
+    with the proved session."""
     folder = f"clients/{client}"
     about = json.loads((ROOT / folder / "conformance.json").read_text())
-    return Part(f"kit over {about['language']}", folder, [*KIT, *about["runner"]], closing_line)
+    words = [*KIT, "--more", DRAWN, "--", *about["runner"]]
+    return Part(f"kit over {about['language']}", folder, words, closing_line)
 
 
 def tests(name: str, folder: str, *words: str) -> Part:
@@ -41,6 +42,7 @@ def covered(name: str, folder: str, *words: str) -> Part:
     return Part(name, ".", [PYTHON, "tools/covered.py", folder, *words], closing_line)
 
 
+DRAWN = "200"  # schedules for each client
 LANES = 3  # chains of parts that run next to each other: most parts take more than one core
 CALLERS = ["conformance_runner.py", "examples/program.py", "examples/sockets.py"]
 CALLERS += ["../embed/python/tb_embed.py", "../embed/python/tb_caller.py"]
@@ -71,6 +73,13 @@ CHAINS = [
     [tests("packages", ".", "-n", "2", "packaging/tests")],
     [
         covered("Go", "clients/go"),
+        Part(
+            "programs of Go's client",
+            "clients/go",
+            ["go", "build", "-o", "out/", "./..."],
+            by_status,
+        ),
+        kit("go"),
         Part("fuzzing of Go", "clients/go", ["./fuzz.sh"], closing_line),
     ],
     [Part("Java", "clients/java", ["./build.sh", "test"], java_counts), kit("java")],

@@ -33,7 +33,7 @@ def tested(folder: Path, profiles: Path, words: list[str]) -> Iterator[Counts]:
         runner = profiles.parent / "runner"
         build = [*go, "-c", "-tags", "kit", *counting, "-o", str(runner), "./internal/conformance"]
         yield run(Part("its runner", str(folder), build, by_status), is_live=True).counts
-        words = ["env", f"PROFILES={profiles}", *KIT, str(runner), "-test.run=Runner"]
+        words = ["env", f"PROFILES={profiles}", *KIT, "--", str(runner), "-test.run=Runner"]
         yield run(Part("kit", str(folder), words, closing_line), is_live=True).counts
 
 

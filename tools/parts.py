@@ -19,7 +19,7 @@ ROOT = Path(__file__).resolve().parent.parent
 PYTHON = "/usr/bin/python3"
 MARKED = [PYTHON, "-m", "pytest", "-q", "-rfEs", "-p", "marks", "-m"]  # and which marks
 PYTEST = ["env", f"PYTHONPATH={ROOT}/tools/testing", *MARKED]
-KIT = [PYTHON, "-B", "../conformance/kit.py", "--more", "200", "--"]  # drawn schedules; the runner
+KIT = [PYTHON, "-B", "../conformance/kit.py"]
 NOTED = re.compile(r"^(?:left out as slow|SKIPPED).*$", re.M)
 FAILED = (
     re.compile(  # what failed, as pytest, scripts of ours and rt, covered.py, Go, JUnit, Node say
