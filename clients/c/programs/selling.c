@@ -39,7 +39,9 @@ int main(int count, char **words) {
     tb_event_result results[2];
     size_t failed;
     if (count != 4) return 2;
-    if (tb_client_open(words[1], NULL, &ledger, &error)) return fails(&error);
+    tb_open_options options = TB_OPEN_OPTIONS;
+    options.drop_torn = true; /* a file has 16 copies of torn bytes at most */
+    if (tb_client_open(words[1], &options, &ledger, &error)) return fails(&error);
     tb_account accounts[2] = {{.id = tb_u128_of(1), .ledger = 700, .code = 10},
         {.id = tb_u128_of(2), .ledger = 700, .code = 10}};
     if (tb_client_create_accounts(ledger, accounts, 2, results, &failed, TB_NO_LIMIT, &error))

@@ -367,7 +367,7 @@ bool tb_is_later(const tb_client_error *error) {
 
 tb_code tb_not_again(tb_client_error *error, const char *before) {
     tb_client_error why = *error;
-    if (why.code == TB_CLIENT_CANCELLED) {
+    if (why.code == TB_CLIENT_CANCELLED || why.code == TB_CLIENT_PROGRAM_ENDED) {
         error->sent = true;
         return why.code;
     }

@@ -3,10 +3,14 @@
 //! end of its input.
 use std::io::Read;
 
-use tb_client::{Account, Client, CreateTransferResult, Error, Transfer};
+use tb_client::{Account, Client, CreateTransferResult, Error, OpenOptions, Transfer};
 
 fn sold(words: &[String]) -> Result<(), Error> {
-    let ledger = Client::open(&words[1])?;
+    let options = OpenOptions {
+        drop_torn: true, // a file has 16 copies of torn bytes at most
+        ..OpenOptions::default()
+    };
+    let ledger = Client::open_with(&words[1], &options)?;
     ledger.create_accounts(&[1, 2].map(|id| Account {
         id,
         ledger: 700,
