@@ -152,10 +152,10 @@ func (c *Child) live() (int, string, error) {
 		return 0, "", err
 	}
 	name := c.words[0] // before settle, which makes other words
+	c.begin(p, pipe)   // before its lines are read: settle takes that it serves only from this process
 	said := process.Goes(func() string {
 		return p.Stderr.Tail(func(line string) bool { return c.isNews(p, pipe, line) })
 	})
-	c.begin(p, pipe)
 	read := process.Goes(func() error { return c.readReplies(p, name) })
 	select {
 	case <-read.Done:
