@@ -262,7 +262,9 @@ class Kit(unittest.TestCase):
         status, said, faults = ran("kit.py", "--show", "--only", "reply-body-late")
         self.assertEqual((status, faults), (0, ""))
         shown = json.loads(said)
-        self.assertEqual([it for it in kit.scenarios()[0] if it["name"] == "reply-body-late"], [shown])
+        self.assertEqual(
+            [it for it in kit.scenarios()[0] if it["name"] == "reply-body-late"], [shown]
+        )
 
     def test_no_runner_at_once(self):
         """No scenario would run, and no scenario would fail."""

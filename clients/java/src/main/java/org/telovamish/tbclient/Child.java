@@ -22,8 +22,8 @@ final class Child {
     private static final long LAST_WORDS = 1000; // ms in which what it said before its end is read
     private static final int MOMENT = 8; // bytes
     /** Becomes a command that ignores what a terminal sends to all processes, as Ctrl-C. */
-    private static final List<String> APART = List.of(
-            "/bin/sh", "-c", "trap '' HUP INT QUIT TSTP; exec \"$0\" \"$@\"");
+    private static final List<String> APART =
+            List.of("/bin/sh", "-c", "trap '' HUP INT QUIT TSTP; exec \"$0\" \"$@\"");
     /** From here on up to 127: APART could not become it. */
     static final int NOT_RUN = 126;
 
