@@ -72,7 +72,7 @@ CHAINS = [
     [Part("seeds of the simulator", "server", [*SIMULATOR, "-run", "TestSeeds"], go_counts)],
     [tests("packages", ".", "-n", "2", "packaging/tests")],
     [
-        covered("Go", "clients/go"),
+        Part("Go", "clients/go", ["go", "test", "-v", "./..."], go_counts),
         Part(
             "programs of Go's client",
             "clients/go",
