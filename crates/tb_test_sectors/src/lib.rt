@@ -4,9 +4,10 @@
 //!
 //! - `steps`: what each test wants, and files of a few sectors.
 //! - `mixes`: each combination of old and new sectors that a crash amid a commit may leave.
-//! - `latches`: what is after a closed latch.
+//! - `latches`: what is after a closed latch, and commits with two syncs.
 //! - `rot`: each byte of a small file damaged.
-//! - `devices`: a commit and a reserve over a file in memory.
+//! - `records`: records in the bytes of batches.
+//! - `devices`: a commit and a reserve over a file in memory, and calls that fail.
 #![tactic(auto)]
 
 #[cfg(test)]
@@ -15,6 +16,8 @@ mod devices;
 mod latches;
 #[cfg(test)]
 mod mixes;
+#[cfg(test)]
+mod records;
 #[cfg(test)]
 mod rot;
 #[cfg(test)]
