@@ -51,8 +51,9 @@ MODULES = "tb_client\n=========\n\n.. automodule:: tb_client\n   :members:\n   :
 
 
 def pages(tree: Path) -> list[Path]:
-    """The pages of a tree."""
-    return sorted({it for pattern in PAGES for it in tree.glob(pattern)})
+    """The pages of a tree, without those that a tool leaves in a folder of its own."""
+    found = {it for pattern in PAGES for it in tree.glob(pattern)}
+    return sorted(it for it in found if not any(p[0] == "." for p in it.relative_to(tree).parts))
 
 
 class Staged:

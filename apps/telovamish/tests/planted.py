@@ -32,7 +32,7 @@ FILLS, TYPED = "test_filling.py", "test_repl.py -k ctrl_c"
 MODEL = "test_model.py -k hand"
 # file, what is there, the bug instead, and the tests that are to find it
 BUGS = [
-    ("reader", "self.client.to_bytes(16", "(self.client >> 1).to_bytes(16", READER),
+    ("reader", "self.client.to_bytes(ID_SIZE", "(self.client >> 1).to_bytes(ID_SIZE", READER),
     ("reader", "return self.at.to_bytes(8", "return (self.at | 1).to_bytes(8", READER),
     ("reader", "given[field] = given.get(field, 0) | number", "given[field] = number", READER),
     ("reader", "self.given.get(self.field, 0) | number", "number", READER),
@@ -67,7 +67,7 @@ BUGS = [
     ("sending", 'raise Late("TimeExhausted")', "pass", SENDS),
     ("sending", 'status == "no_session" or', "", SENDS),
     ("tables", "{count - len(results)} of {count} {name}", "{count} of {count} {name}", TABLES),
-    ("reader", "self.body[size * place : size * place + 16]", "self.body[size * place + 16 : size * place + 32]", TABLES),
+    ("reader", "self.body[at : at + ID_SIZE]", "self.body[at + ID_SIZE : at + 2 * ID_SIZE]", TABLES),
     ("explain", "number, at = number + 1, source.tell()", "number, at = number + 1, source.tell() - 8", STOPS),
     ("explain", 'stop_line("pair", number, at, SAYS', 'stop_line("pair", number - 1, at, SAYS', STOPS),
     ("explain", "                entries.append(item)\n            at =", "                entries.append(item)\n                at =", STOPS),
