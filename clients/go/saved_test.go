@@ -118,16 +118,24 @@ func TestEmptyPath(t *testing.T) {
 }
 
 // TestSavedOfManyDigits compares with a reading of the same text, which is as slow on a busy machine.
+// The digits of a number that is too large are read once. A busy computer may stop one reading for
+// longer than that takes, so the shortest of some counts.
 func TestSavedOfManyDigits(t *testing.T) {
 	text := []byte(`{"client":` + strings.Repeat("9", 4_000_000) + `,"session":1,"number":0,"pending":""}`)
-	begin := time.Now()
-	json.Valid(text)
-	once := time.Since(begin)
-	var saved tb.Saved
-	var fault *tb.InvalidError
-	err := saved.UnmarshalJSON(text)
-	if took := time.Since(begin) - once; !errors.As(err, &fault) || fault.Field != "saved.client" || took > 30*once {
-		t.Errorf("%v after %v, where a reading took %v", err, took, once)
+	var took, once time.Duration
+	for tries := 0; tries < 10 && (tries == 0 || took > 30*once); tries++ {
+		begin := time.Now()
+		json.Valid(text)
+		once = time.Since(begin)
+		var saved tb.Saved
+		var fault *tb.InvalidError
+		if err := saved.UnmarshalJSON(text); !errors.As(err, &fault) || fault.Field != "saved.client" {
+			t.Fatal(err)
+		}
+		took = time.Since(begin) - once
+	}
+	if took > 30*once {
+		t.Errorf("%v, where a reading took %v", took, once)
 	}
 }
 
