@@ -3,7 +3,7 @@
 
 Installs the Debian packages of tools/packages.txt that are missing (as root; another user gets
 their names and a failure), runs `rt ci`, and builds the programs of server/. Over these come
-formats, types, the tests of tests/, telovamish, books and the host, and those of server/ and of
+formats, types, the tests of tests/, telovamish and books, and those of server/ and of
 five clients; tb_embed's library is built for that in C. After the proofs three parts at a time run
 next to each other; what a part prints goes out when it has ended. Tests that failed there are run
 once more, alone, and named if they then pass. A test that is skipped has failed.
